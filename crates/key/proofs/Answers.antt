@@ -1,0 +1,11 @@
+-- The two answers of a bool.
+use mathlib.Core.Path.{_≡_, refl, sym, subst}
+use mathlib.Core.Bool.{Bool, true, false}
+use lib.Dec.{T}
+use Rattle.key.specs.Decides.{Decides}
+
+pub holds : {P : Type 0} → P → Decides true P
+holds p = record { right = λ _. p; wrong = λ e. absurd (subst T e tt) }
+
+pub fails : {P : Type 0} → (P → ⊥) → Decides false P
+fails h = record { right = λ e. absurd (subst T (sym e) tt); wrong = λ _. h }

@@ -1,0 +1,85 @@
+// Keys are the i64, both ends included; a range is a start and an end.
+// Contracts speak of a key's rank, its place among all keys counted from 0, so that nothing overflows in them.
+ghost use mathlib.Core.Path.{_≡_};
+ghost use Prim.Native.Nat.{_+_, _<_};
+ghost use Rattle.key.specs.Rank.{rank, keys, lesser, greater};
+ghost use Rattle.key.specs.Range.{halfOpen, inclusive, size, lengthOf};
+
+// The least key, of rank 0.
+pub const LEAST: i64 = -9223372036854775808;
+
+// The lesser of two keys.
+pub fn min(a: i64, b: i64) -> i64
+    ensures { λ r. ⌜ r ≡ lesser a b ⌝ }
+{
+    if a < b {
+        return a;
+    }
+    b
+}
+
+// The greater of two keys.
+pub fn max(a: i64, b: i64) -> i64
+    ensures { λ r. ⌜ r ≡ greater a b ⌝ }
+{
+    if a < b {
+        return b;
+    }
+    a
+}
+
+// The next key, after any but the greatest.
+pub fn next(a: i64) -> i64
+    requires { ⌜ rank a + 1 < keys ⌝ }
+    ensures { λ r. ⌜ rank r ≡ rank a + 1 ⌝ }
+{
+    a + 1
+}
+
+// The key before, of any but the least.
+pub fn prev(a: i64) -> i64
+    requires { ⌜ 0 < rank a ⌝ }
+    ensures { λ r. ⌜ rank r + 1 ≡ rank a ⌝ }
+{
+    a - 1
+}
+
+// The rank itself. The negative keys come first, so a difference of two ranks never wraps.
+pub fn rank_of(a: i64) -> u64
+    ensures { λ r. ⌜ r ≡ rank a ⌝ }
+{
+    if a < 0 {
+        return (a - LEAST) as u64;
+    }
+    a as u64 + 9223372036854775808
+}
+
+// How many keys a range has, where a u64 holds the number.
+pub enum KeyCount {
+    Keys(u64),
+    TooMany,
+}
+
+// The length of start..end: 0 if it is empty or reversed, and never too many.
+pub fn length(start: i64, end: i64) -> KeyCount
+    ensures { λ r. ⌜ r ≡ lengthOf (size (halfOpen start end 0)) ⌝ }
+{
+    if end <= start {
+        return KeyCount::Keys(0);
+    }
+    KeyCount::Keys(rank_of(end) - rank_of(start))
+}
+
+// The length of start..=end: too many for the range of all keys, and for no other.
+pub fn length_inclusive(start: i64, end: i64) -> KeyCount
+    ensures { λ r. ⌜ r ≡ lengthOf (size (inclusive start end 0)) ⌝ }
+{
+    if end < start {
+        return KeyCount::Keys(0);
+    }
+    let below = rank_of(end) - rank_of(start);
+    if below == 18446744073709551615 {
+        return KeyCount::TooMany;
+    }
+    KeyCount::Keys(below + 1)
+}

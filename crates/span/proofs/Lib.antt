@@ -1,0 +1,12 @@
+-- The laws: Laws, Sets, Union, Total, Order, Fewest; document 01 in Cases. For proofs about code: Pieces, Local. Beneath: Tests, Holding.
+pub mod Tests
+pub mod Holding
+pub mod Laws
+pub mod Pieces
+pub mod Local
+pub mod Sets
+pub mod Union
+pub mod Total
+pub mod Order
+pub mod Fewest
+pub mod Cases
