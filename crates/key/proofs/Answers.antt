@@ -1,5 +1,5 @@
 -- The two answers of a bool.
-use mathlib.Core.Path.{_≡_, refl, sym, subst}
+use mathlib.Core.Path.{_≡_, sym, subst, _∙_}
 use mathlib.Core.Bool.{Bool, true, false}
 use lib.Dec.{T}
 use Rattle.key.specs.Decides.{Decides}
@@ -9,3 +9,7 @@ holds p = record { right = λ _. p; wrong = λ e. absurd (subst T e tt) }
 
 pub fails : {P : Type 0} → (P → ⊥) → Decides false P
 fails h = record { right = λ e. absurd (subst T (sym e) tt); wrong = λ _. h }
+
+-- THE ONE ANSWER: a promise that an answer is what a definition says fixes it, so two answers that meet it are equal
+pub one-answer : {A : Type 0} {r t p : A} → r ≡ p → t ≡ p → r ≡ t
+one-answer a b = a ∙ sym b

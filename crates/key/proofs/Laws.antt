@@ -205,3 +205,19 @@ rank-greater a b = go (ltb (rank a) (rank b)) refl
     go : (t : Bool) → ltb (rank a) (rank b) ≡ t → rank (cond t b a) ≡ max (rank a) (rank b)
     go true e = omega (arith, ltb-true (rank a) (rank b) e)
     go false e = omega (arith, ltb-false (rank a) (rank b) e)
+
+pub lesser-fits : {a b : ℤ} → SFits w64 a → SFits w64 b → SFits w64 (lesser a b)
+unfolding lesser
+lesser-fits {a} {b} f g = go (ltb (rank a) (rank b))
+  where
+    go : (t : Bool) → SFits w64 (cond t a b)
+    go true = f
+    go false = g
+
+pub greater-fits : {a b : ℤ} → SFits w64 a → SFits w64 b → SFits w64 (greater a b)
+unfolding greater
+greater-fits {a} {b} f g = go (ltb (rank a) (rank b))
+  where
+    go : (t : Bool) → SFits w64 (cond t b a)
+    go true = g
+    go false = f

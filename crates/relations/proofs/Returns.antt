@@ -1,0 +1,111 @@
+-- The answers of the relations, as code finds them by its tests: once for both kinds.
+use Prim.Native.Nat.{ℕ, _≤_, _<_}
+use mathlib.Core.Path.{_≡_, refl}
+use mathlib.Core.Logic.{_⊎_, ⊎-elim}
+use mathlib.Core.Bool.{Bool, true, false, _||_, _&&_}
+use borrow.Author.Tests.{le-leb, lt-leb, lt-ltb, le-ltb}
+use lib.IntN.{ℤ}
+use Rattle.span.specs.Span.{Span, inside}
+use Rattle.span.specs.Operations.{overlaps}
+use Rattle.span.proofs.Tests.{Within, in-yes, in-no}
+use Rattle.key.specs.Rank.{rank, lesser, greater}
+use Rattle.relations.specs.Relations.{Kind, empty, touches, related, containing, overlapping, touching, intersecting}
+use Rattle.relations.specs.declared.Relation.the-variants.{Yes, No, Empty}
+use Rattle.relations.specs.declared.Common.the-variants.{Between, Nothing}
+
+pub empty-yes : (x : Span) → x .hi ≤ x .lo → empty x ≡ true
+unfolding empty
+empty-yes x h = le-leb (x .hi) (x .lo) h
+
+pub empty-no : (x : Span) → x .lo < x .hi → empty x ≡ false
+unfolding empty
+empty-no x h = lt-leb (x .hi) (x .lo) h
+
+-- a range is empty, the first or the second
+or-right : (t : Bool) → (t || true) ≡ true
+or-right true = refl
+or-right false = refl
+
+and-right : (t : Bool) → (t && false) ≡ false
+and-right true = refl
+and-right false = refl
+
+module _ (kind : Kind) (s e : ℤ) where
+  abbrev x : Span
+  x = kind s e 0
+
+  module _ (k : ℤ) where
+    pub contains-empty : x .hi ≤ x .lo → Empty ≡ containing kind s e k
+    unfolding containing
+    contains-empty h = rw (empty-yes x h)
+
+    pub contains-no : x .lo < x .hi → (Within (x .lo) (x .hi) (rank k) → ⊥) → No ≡ containing kind s e k
+    unfolding containing
+    contains-no h n = rw (empty-no x h, in-no (x .lo) (x .hi) (rank k) n)
+
+    pub contains-yes : x .lo < x .hi → Within (x .lo) (x .hi) (rank k) → Yes ≡ containing kind s e k
+    unfolding containing
+    contains-yes h w = rw (empty-no x h, in-yes (x .lo) (x .hi) (rank k) w)
+
+  module _ (s′ e′ : ℤ) where
+    abbrev y : Span
+    y = kind s′ e′ 0
+
+    -- the two relations ask the same of the ranges first
+    none-first : (t : Bool) → x .hi ≤ x .lo → Empty ≡ related (empty x || empty y) t
+    none-first t h = rw (empty-yes x h)
+
+    none-second : (t : Bool) → y .hi ≤ y .lo → Empty ≡ related (empty x || empty y) t
+    none-second t h = rw (empty-yes y h, or-right (empty x))
+
+    pub overlaps-first : x .hi ≤ x .lo → Empty ≡ overlapping kind s e s′ e′
+    unfolding overlapping
+    overlaps-first h = none-first (overlaps x y) h
+
+    pub overlaps-second : y .hi ≤ y .lo → Empty ≡ overlapping kind s e s′ e′
+    unfolding overlapping
+    overlaps-second h = none-second (overlaps x y) h
+
+    pub touches-first : x .hi ≤ x .lo → Empty ≡ touching kind s e s′ e′
+    unfolding touching
+    touches-first h = none-first (touches x y) h
+
+    pub touches-second : y .hi ≤ y .lo → Empty ≡ touching kind s e s′ e′
+    unfolding touching
+    touches-second h = none-second (touches x y) h
+
+    module _ (h : x .lo < x .hi) (i : y .lo < y .hi) where
+      pub overlaps-after : y .hi ≤ x .lo → No ≡ overlapping kind s e s′ e′
+      unfolding overlapping overlaps
+      overlaps-after p = rw (empty-no x h, empty-no y i, le-ltb (x .lo) (y .hi) p)
+
+      pub overlaps-before : x .hi ≤ y .lo → No ≡ overlapping kind s e s′ e′
+      unfolding overlapping overlaps
+      overlaps-before p = rw (empty-no x h, empty-no y i, le-ltb (y .lo) (x .hi) p, and-right)
+
+      pub overlaps-yes : x .lo < y .hi → y .lo < x .hi → Yes ≡ overlapping kind s e s′ e′
+      unfolding overlapping overlaps
+      overlaps-yes p q = rw (empty-no x h, empty-no y i, lt-ltb (x .lo) (y .hi) p, lt-ltb (y .lo) (x .hi) q)
+
+      pub touches-after : y .hi < x .lo → No ≡ touching kind s e s′ e′
+      unfolding touching touches
+      touches-after p = rw (empty-no x h, empty-no y i, lt-leb (x .lo) (y .hi) p)
+
+      pub touches-before : x .hi < y .lo → No ≡ touching kind s e s′ e′
+      unfolding touching touches
+      touches-before p = rw (empty-no x h, empty-no y i, lt-leb (y .lo) (x .hi) p, and-right)
+
+      pub touches-yes : x .lo ≤ y .hi → y .lo ≤ x .hi → Yes ≡ touching kind s e s′ e′
+      unfolding touching touches
+      touches-yes p q = rw (empty-no x h, empty-no y i, le-leb (x .lo) (y .hi) p, le-leb (y .lo) (x .hi) q)
+
+    abbrev both : Span
+    both = kind (greater s s′) (lesser e e′) 0
+
+    pub intersect-none : both .hi ≤ both .lo → Nothing ≡ intersecting kind s e s′ e′
+    unfolding intersecting
+    intersect-none h = rw (empty-yes both h)
+
+    pub intersect-some : both .lo < both .hi → Between (greater s s′) (lesser e e′) ≡ intersecting kind s e s′ e′
+    unfolding intersecting
+    intersect-some h = rw (empty-no both h)

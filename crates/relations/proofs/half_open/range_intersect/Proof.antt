@@ -1,0 +1,21 @@
+-- `relations::half_open::range_intersect` meets its contract.
+use mathlib.Core.Path.{ap, _∙_}
+use mir.Facts.{toZ-ofZ}
+use Rattle.relations.specs.Relations.{commonNumbers}
+use borrow.Author.Needs.{needs}
+use Rattle.relations.proofs.half_open.range_intersect.Statement.{statement}
+use Rattle.relations.proofs.half_open.range_intersect.Tie as tie
+
+intersect-requires : tie.Need-intersect-requires
+intersect-requires c κs = search needs
+
+common-numbers-requires : tie.Need-common-numbers-requires
+common-numbers-requires c κs = search needs
+
+returns : tie.Need-returns
+returns c =
+    let s = c .before .before in
+    c .common-numbers .ensures ∙ ap commonNumbers (rw (toZ-ofZ (s .fits .start), toZ-ofZ (s .fits .end), toZ-ofZ (s .fits .other-start), toZ-ofZ (s .fits .other-end)) at (c .before .intersect .ensures))
+
+pub range-intersect-spec : {M : Type 1} → statement M
+range-intersect-spec = tie.close (tie.spec intersect-requires common-numbers-requires returns)

@@ -1,0 +1,2 @@
+-- What a reader must believe of the relations of two ranges.
+pub mod Relations
