@@ -10,7 +10,7 @@ use mir.Syntax.{w64}
 use mir.Val.{SFits, toZ, ofZ, sel}
 use mir.Facts.{toZ-ofZ}
 use borrow.Author.Tests.{ltb-true, ltb-false, leb-true, leb-false, lt-ltb, le-ltb, le-leb, lt-leb}
-use Rattle.key.specs.Rank.{place, bitRank, rank, keys, lesser, greater}
+use Rattle.key.specs.Rank.{place, bitRank, rank, keyAt, keys, lesser, greater}
 
 never : {X : Type 0} → false ≡ true → X
 never e = absurd (subst T (sym e) tt)
@@ -221,3 +221,21 @@ greater-fits {a} {b} f g = go (ltb (rank a) (rank b))
     go : (t : Bool) → SFits w64 (cond t b a)
     go true = g
     go false = f
+
+-- a key and its rank, there and back
+place-key : (r : ℕ) → r < keys → SFits w64 (keyAt r) × (place (keyAt r) ≡ r)
+unfolding keyAt place
+place-key r h = go (ltb r (2 ^ 63)) refl
+  where
+    go : (t : Bool) → ltb r (2 ^ 63) ≡ t → SFits w64 (cond t (negsuc (2 ^ 63 - suc r)) (pos (r - 2 ^ 63))) × (place (cond t (negsuc (2 ^ 63 - suc r)) (pos (r - 2 ^ 63))) ≡ r)
+    go true e = let l = ltb-true r (2 ^ 63) e in (record { sfits = omega arith }, omega arith)
+    go false e = let l = ltb-false r (2 ^ 63) e in (record { sfits = omega arith }, omega arith)
+
+pub key-fits : (r : ℕ) → r < keys → SFits w64 (keyAt r)
+key-fits r h = place-key r h .0
+
+pub rank-key : (r : ℕ) → r < keys → rank (keyAt r) ≡ r
+rank-key r h = rank-place (keyAt r) (key-fits r h) ∙ place-key r h .1
+
+pub key-rank : {z : ℤ} → SFits w64 z → keyAt (rank z) ≡ z
+key-rank {z} f = let h = rank-below (ofZ w64 z) in rank-inj (key-fits (rank z) h) f (rank-key (rank z) h)

@@ -8,7 +8,7 @@ use mir.Syntax.{w64}
 use mir.Val.{ofZ}
 use Rattle.span.specs.Span.{Span}
 use Rattle.key.specs.Rank.{rank, keys}
-use Rattle.key.specs.Range.{halfOpen, inclusive, size, lengthOf}
+use Rattle.key.specs.Range.{halfOpen, inclusive, rangeOf, size, lengthOf}
 use Rattle.key.specs.declared.KeyCount.the-variants.{Keys, TooMany}
 use Rattle.key.proofs.Laws.{rank-below}
 
@@ -21,10 +21,10 @@ unfolding lengthOf size
 length-many x h = rw (le-ltb (x .hi - x .lo) keys h)
 
 -- a half-open range never has too many keys, and an inclusive one only if it is the range of all keys
-pub half-open-fits : (s e : ℤ) (v : ℕ) → size (halfOpen s e v) < keys
+pub half-open-fits : (s e : ℤ) (v : ℕ) → size (rangeOf halfOpen s e v) < keys
 unfolding size
 half-open-fits s e v = omega (arith, rank-below (ofZ w64 e))
 
-pub inclusive-all : (s e : ℤ) (v : ℕ) → keys ≤ size (inclusive s e v) → (rank s ≡ 0) × (suc (rank e) ≡ keys)
+pub inclusive-all : (s e : ℤ) (v : ℕ) → keys ≤ size (rangeOf inclusive s e v) → (rank s ≡ 0) × (suc (rank e) ≡ keys)
 unfolding size
 inclusive-all s e v h = omega (arith, rank-below (ofZ w64 e))

@@ -3,7 +3,7 @@
 ghost use mathlib.Core.Path.{_≡_};
 ghost use Prim.Native.Nat.{_+_, _<_};
 ghost use Rattle.key.specs.Rank.{rank, keys, lesser, greater};
-ghost use Rattle.key.specs.Range.{halfOpen, inclusive, size, lengthOf};
+ghost use Rattle.key.specs.Range.{halfOpen, inclusive, rangeOf, size, lengthOf};
 
 // The least key, of rank 0.
 pub const LEAST: i64 = -9223372036854775808;
@@ -62,7 +62,7 @@ pub enum KeyCount {
 
 // The length of start..end: 0 if it is empty or reversed, and never too many.
 pub fn length(start: i64, end: i64) -> KeyCount
-    ensures { λ r. ⌜ r ≡ lengthOf (size (halfOpen start end 0)) ⌝ }
+    ensures { λ r. ⌜ r ≡ lengthOf (size (rangeOf halfOpen start end 0)) ⌝ }
 {
     if end <= start {
         return KeyCount::Keys(0);
@@ -72,7 +72,7 @@ pub fn length(start: i64, end: i64) -> KeyCount
 
 // The length of start..=end: too many for the range of all keys, and for no other.
 pub fn length_inclusive(start: i64, end: i64) -> KeyCount
-    ensures { λ r. ⌜ r ≡ lengthOf (size (inclusive start end 0)) ⌝ }
+    ensures { λ r. ⌜ r ≡ lengthOf (size (rangeOf inclusive start end 0)) ⌝ }
 {
     if end < start {
         return KeyCount::Keys(0);

@@ -11,10 +11,11 @@ use Rattle.span.specs.Span.{Span, inside}
 use Rattle.span.specs.Operations.{overlaps}
 use Rattle.span.proofs.Tests.{Within, yes-in, both}
 use Rattle.key.specs.Rank.{rank, lesser, greater}
-use Rattle.key.specs.Range.{halfOpen, inclusive}
-use Rattle.key.proofs.Laws.{rank-lesser, rank-greater}
+use Rattle.key.specs.Range.{Kind, rangeOf}
+use Rattle.key.proofs.Laws.{rank-greater}
+use Rattle.key.proofs.Lawful.{Lawful}
 use Rattle.key.proofs.Answers.{one-answer}
-use Rattle.relations.specs.Relations.{Kind, empty, touches, related, containing, overlapping, touching, intersecting}
+use Rattle.relations.specs.Relations.{empty, touches, related, containing, overlapping, touching, intersecting}
 use Rattle.relations.specs.declared.Relation.{Relation}
 use Rattle.relations.specs.declared.Relation.the-variants.{Yes, No, Empty}
 use Rattle.relations.specs.declared.Common.{Common}
@@ -43,7 +44,7 @@ proper x e = leb-false (x .hi) (x .lo) e
 
 module _ (kind : Kind) (s e : ℤ) where
   abbrev x : Span
-  x = kind s e 0
+  x = rangeOf kind s e 0
 
   -- CONTAINS says yes exactly of the keys of the range
   pub contains-in : (k : ℤ) → containing kind s e k ≡ Yes → Within (x .lo) (x .hi) (rank k)
@@ -55,7 +56,7 @@ module _ (kind : Kind) (s e : ℤ) where
 
   module _ (s′ e′ : ℤ) where
     abbrev y : Span
-    y = kind s′ e′ 0
+    y = rangeOf kind s′ e′ 0
 
     -- OVERLAPS says yes exactly where some key is in both: the greater start is one
     pub overlaps-shares : overlapping kind s e s′ e′ ≡ Yes → Within (x .lo) (x .hi) (max (x .lo) (y .lo)) × Within (y .lo) (y .hi) (max (x .lo) (y .lo))
@@ -90,46 +91,28 @@ module _ (kind : Kind) (s e : ℤ) where
         (elim (decLt (y .hi) (x .lo)) [ yes p ↦ absurd (n (y .hi) (past-second (omega arith) p)) | no p ↦ omega arith ])
         (elim (decLt (x .hi) (y .lo)) [ yes p ↦ absurd (n (x .hi) (past-first (omega arith) p)) | no p ↦ omega arith ]))
 
--- a range begins at a rank that its start alone gives, and ends at one that its end alone gives, both in the order of the keys
-pub record Bounds (kind : Kind) : Type 0 where
-  pub begins : ℤ → ℕ
-  pub ends : ℤ → ℕ
-  pub lo-is : (s e : ℤ) → kind s e 0 .lo ≡ begins s
-  pub hi-is : (s e : ℤ) → kind s e 0 .hi ≡ ends e
-  pub greatest : (s s′ : ℤ) → begins (greater s s′) ≡ max (begins s) (begins s′)
-  pub least : (e e′ : ℤ) → ends (lesser e e′) ≡ min (ends e) (ends e′)
-
-pub half-open : Bounds halfOpen
-half-open = record { begins = rank; ends = rank; lo-is = λ s e. refl; hi-is = λ s e. refl; greatest = rank-greater; least = rank-lesser }
-
-pub inclusive-too : Bounds inclusive
-inclusive-too = record { begins = rank; ends = λ e. suc (rank e); lo-is = λ s e. refl; hi-is = λ s e. refl; greatest = rank-greater; least = λ e e′. omega (arith, rank-lesser e e′) }
-
 -- INTERSECT: what is left has exactly the keys that are in both, and nothing is left exactly where no key is in both
-module _ (kind : Kind) (bounds : Bounds kind) (s e s′ e′ : ℤ) where
+module _ (kind : Kind) (lawful : Lawful kind) (s e s′ e′ : ℤ) where
   abbrev both-of : Span
-  both-of = kind (greater s s′) (lesser e e′) 0
+  both-of = rangeOf kind (greater s s′) (lesser e e′) 0
 
   record Ends : Type 0 where
-    lo : both-of .lo ≡ max (kind s e 0 .lo) (kind s′ e′ 0 .lo)
-    hi : both-of .hi ≡ min (kind s e 0 .hi) (kind s′ e′ 0 .hi)
+    lo : both-of .lo ≡ max (rangeOf kind s e 0 .lo) (rangeOf kind s′ e′ 0 .lo)
+    hi : both-of .hi ≡ min (rangeOf kind s e 0 .hi) (rangeOf kind s′ e′ 0 .hi)
 
   ends : Ends
-  ends = record {
-    lo = omega (arith, bounds .lo-is (greater s s′) (lesser e e′), bounds .greatest s s′, bounds .lo-is s e, bounds .lo-is s′ e′);
-    hi = omega (arith, bounds .hi-is (greater s s′) (lesser e e′), bounds .least e e′, bounds .hi-is s e, bounds .hi-is s′ e′);
-  }
+  ends = record { lo = rank-greater s s′; hi = lawful .least e e′ }
 
-  pub left-in : (k : ℕ) → Within (both-of .lo) (both-of .hi) k → Within (kind s e 0 .lo) (kind s e 0 .hi) k × Within (kind s′ e′ 0 .lo) (kind s′ e′ 0 .hi) k
+  pub left-in : (k : ℕ) → Within (both-of .lo) (both-of .hi) k → Within (rangeOf kind s e 0 .lo) (rangeOf kind s e 0 .hi) k × Within (rangeOf kind s′ e′ 0 .lo) (rangeOf kind s′ e′ 0 .hi) k
   left-in k w = let b = ends in (omega arith, omega arith)
 
-  pub in-left : (k : ℕ) → Within (kind s e 0 .lo) (kind s e 0 .hi) k → Within (kind s′ e′ 0 .lo) (kind s′ e′ 0 .hi) k → Within (both-of .lo) (both-of .hi) k
+  pub in-left : (k : ℕ) → Within (rangeOf kind s e 0 .lo) (rangeOf kind s e 0 .hi) k → Within (rangeOf kind s′ e′ 0 .lo) (rangeOf kind s′ e′ 0 .hi) k → Within (both-of .lo) (both-of .hi) k
   in-left k v w = let b = ends in omega arith
 
-  pub shares-some : (k : ℕ) → Within (kind s e 0 .lo) (kind s e 0 .hi) k → Within (kind s′ e′ 0 .lo) (kind s′ e′ 0 .hi) k → intersecting kind s e s′ e′ ≡ Between (greater s s′) (lesser e e′)
+  pub shares-some : (k : ℕ) → Within (rangeOf kind s e 0 .lo) (rangeOf kind s e 0 .hi) k → Within (rangeOf kind s′ e′ 0 .lo) (rangeOf kind s′ e′ 0 .hi) k → intersecting kind s e s′ e′ ≡ Between (greater s s′) (lesser e e′)
   shares-some k v w = let i = in-left k v w in sym (intersect-some kind s e s′ e′ (omega arith))
 
-  pub none-shares : intersecting kind s e s′ e′ ≡ Nothing → (k : ℕ) → Within (kind s e 0 .lo) (kind s e 0 .hi) k → Within (kind s′ e′ 0 .lo) (kind s′ e′ 0 .hi) k → ⊥
+  pub none-shares : intersecting kind s e s′ e′ ≡ Nothing → (k : ℕ) → Within (rangeOf kind s e 0 .lo) (rangeOf kind s e 0 .hi) k → Within (rangeOf kind s′ e′ 0 .lo) (rangeOf kind s′ e′ 0 .hi) k → ⊥
   none-shares n k v w = let z : _≡_ {A = ℕ} 0 1 = cc (n, shares-some k v w) in omega arith
 
 -- ONE ANSWER: two answers that meet a promise are equal

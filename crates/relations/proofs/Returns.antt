@@ -9,7 +9,8 @@ use Rattle.span.specs.Span.{Span, inside}
 use Rattle.span.specs.Operations.{overlaps}
 use Rattle.span.proofs.Tests.{Within, in-yes, in-no}
 use Rattle.key.specs.Rank.{rank, lesser, greater}
-use Rattle.relations.specs.Relations.{Kind, empty, touches, related, containing, overlapping, touching, intersecting}
+use Rattle.key.specs.Range.{Kind, rangeOf}
+use Rattle.relations.specs.Relations.{empty, touches, related, containing, overlapping, touching, intersecting}
 use Rattle.relations.specs.declared.Relation.the-variants.{Yes, No, Empty}
 use Rattle.relations.specs.declared.Common.the-variants.{Between, Nothing}
 
@@ -32,7 +33,7 @@ and-right false = refl
 
 module _ (kind : Kind) (s e : ℤ) where
   abbrev x : Span
-  x = kind s e 0
+  x = rangeOf kind s e 0
 
   module _ (k : ℤ) where
     pub contains-empty : x .hi ≤ x .lo → Empty ≡ containing kind s e k
@@ -49,7 +50,7 @@ module _ (kind : Kind) (s e : ℤ) where
 
   module _ (s′ e′ : ℤ) where
     abbrev y : Span
-    y = kind s′ e′ 0
+    y = rangeOf kind s′ e′ 0
 
     -- the two relations ask the same of the ranges first
     none-first : (t : Bool) → x .hi ≤ x .lo → Empty ≡ related (empty x || empty y) t
@@ -100,7 +101,7 @@ module _ (kind : Kind) (s e : ℤ) where
       touches-yes p q = rw (empty-no x h, empty-no y i, le-leb (x .lo) (y .hi) p, le-leb (y .lo) (x .hi) q)
 
     abbrev both : Span
-    both = kind (greater s s′) (lesser e e′) 0
+    both = rangeOf kind (greater s s′) (lesser e e′) 0
 
     pub intersect-none : both .hi ≤ both .lo → Nothing ≡ intersecting kind s e s′ e′
     unfolding intersecting

@@ -1,14 +1,14 @@
 -- `key::length_inclusive` meets its contract.
 use native.Mathlib.Omega.{arith}
 use borrow.Author.Needs.{needs}
-use Rattle.key.specs.Range.{inclusive}
+use Rattle.key.specs.Range.{inclusive, rangeOf}
 use Rattle.key.proofs.Laws.{tests, rank-back}
 use Rattle.key.proofs.Lengths.{length-keys, length-many}
 use Rattle.key.proofs.length_inclusive.Statement.{statement}
 use Rattle.key.proofs.length_inclusive.Tie as tie
 
 returns : tie.Need-returns
-returns c = length-keys (inclusive (c .before .args .start) (c .before .args .end) 0) (omega (arith, tests)) (omega arith)
+returns c = length-keys (rangeOf inclusive (c .before .args .start) (c .before .args .end) 0) (omega (arith, tests)) (omega arith)
 
 rank-of-requires : tie.Need-rank-of-requires
 rank-of-requires c κs = search needs
@@ -24,7 +24,7 @@ returns-2 c =
     let a = c .before .before .before .before .args in
     let e = simp rank-back at (c .before .before .rank-of .ensures) in
     let s = simp rank-back at (c .before .rank-of2 .ensures) in
-    length-many (inclusive (a .start) (a .end) 0) (omega arith)
+    length-many (rangeOf inclusive (a .start) (a .end) 0) (omega arith)
 
 add-t6 : tie.Need-add-t6
 add-t6 c = search needs
@@ -34,7 +34,7 @@ returns-3 c =
     let a = c .before .before .before .before .args in
     let e = simp rank-back at (c .before .before .rank-of .ensures) in
     let s = simp rank-back at (c .before .rank-of2 .ensures) in
-    length-keys (inclusive (a .start) (a .end) 0) (omega (arith, tests)) (omega arith)
+    length-keys (rangeOf inclusive (a .start) (a .end) 0) (omega (arith, tests)) (omega arith)
 
 pub length-inclusive-spec : {M : Type 1} → statement M
 length-inclusive-spec =

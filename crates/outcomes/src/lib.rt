@@ -1,0 +1,194 @@
+// What the functions of a map answer. Inside, an answer is an enum whose refusing case holds the number of document 01's table;
+// C and Rust see it as a struct of numbers. Both kinds of map, and the sets, share them.
+ghost use mathlib.Core.Path.{_≡_};
+ghost use Rattle.outcomes.specs.Stored.{places};
+ghost use Rattle.outcomes.specs.Numbers.{toldOf, countOf, rangeOf, stretchOf, orderOf};
+
+// How many places a map has.
+pub const PLACES: usize = 512;
+
+// Ties the constant to the number that the contracts name.
+pub fn places_of() -> usize
+    ensures { λ r. ⌜ r ≡ places ⌝ }
+{
+    PLACES
+}
+
+// The numbers of document 01's table that maps answer.
+pub const DONE: u8 = 0;
+
+pub const EMPTY_RANGE: u8 = 1;
+
+pub const TOO_MANY: u8 = 2;
+
+pub const TOO_SHORT: u8 = 3;
+
+pub const NOT_FORMED: u8 = 4;
+
+pub const NONE_THERE: u8 = 5;
+
+// Yes or no.
+pub enum Asked {
+    Yes,
+    No,
+    Refused(u8),
+}
+
+#[repr(C)]
+pub struct Told {
+    pub answer: u8,
+    pub yes: bool,
+}
+
+// How many.
+pub enum Counted {
+    Count(usize),
+    Refused(u8),
+}
+
+#[repr(C)]
+pub struct Count {
+    pub answer: u8,
+    pub count: usize,
+}
+
+// A stored range and its value.
+pub enum Found {
+    Range(i64, i64, u8),
+    Refused(u8),
+}
+
+#[repr(C)]
+pub struct Range {
+    pub answer: u8,
+    pub start: i64,
+    pub end: i64,
+    pub value: u8,
+}
+
+// A consecutive part of the places: the first, and how many.
+pub enum Part {
+    Places(usize, usize),
+    Refused(u8),
+}
+
+#[repr(C)]
+pub struct Stretch {
+    pub answer: u8,
+    pub place: usize,
+    pub count: usize,
+}
+
+// How two maps compare.
+pub enum Compared {
+    Less,
+    Equal,
+    Greater,
+    Refused(u8),
+}
+
+#[repr(C)]
+pub struct Order {
+    pub answer: u8,
+    pub order: i8,
+}
+
+// How a list of edits went: the first refusal, or 0, and how many were applied before it.
+#[repr(C)]
+pub struct Applied {
+    pub answer: u8,
+    pub applied: usize,
+}
+
+pub fn told_of(a: Asked) -> Told
+    ensures { λ n. ⌜ n ≡ toldOf a ⌝ }
+{
+    match a {
+        Asked::Yes => Told {
+            answer: 0,
+            yes: true,
+        },
+        Asked::No => Told {
+            answer: 0,
+            yes: false,
+        },
+        Asked::Refused(n) => Told {
+            answer: n,
+            yes: false,
+        },
+    }
+}
+
+pub fn count_of(a: Counted) -> Count
+    ensures { λ n. ⌜ n ≡ countOf a ⌝ }
+{
+    match a {
+        Counted::Count(n) => Count {
+            answer: 0,
+            count: n,
+        },
+        Counted::Refused(n) => Count {
+            answer: n,
+            count: 0,
+        },
+    }
+}
+
+pub fn range_of(a: Found) -> Range
+    ensures { λ n. ⌜ n ≡ rangeOf a ⌝ }
+{
+    match a {
+        Found::Range(s, e, v) => Range {
+            answer: 0,
+            start: s,
+            end: e,
+            value: v,
+        },
+        Found::Refused(n) => Range {
+            answer: n,
+            start: 0,
+            end: 0,
+            value: 0,
+        },
+    }
+}
+
+pub fn stretch_of(a: Part) -> Stretch
+    ensures { λ n. ⌜ n ≡ stretchOf a ⌝ }
+{
+    match a {
+        Part::Places(i, n) => Stretch {
+            answer: 0,
+            place: i,
+            count: n,
+        },
+        Part::Refused(n) => Stretch {
+            answer: n,
+            place: 0,
+            count: 0,
+        },
+    }
+}
+
+pub fn order_of(a: Compared) -> Order
+    ensures { λ n. ⌜ n ≡ orderOf a ⌝ }
+{
+    match a {
+        Compared::Less => Order {
+            answer: 0,
+            order: -1,
+        },
+        Compared::Equal => Order {
+            answer: 0,
+            order: 0,
+        },
+        Compared::Greater => Order {
+            answer: 0,
+            order: 1,
+        },
+        Compared::Refused(n) => Order {
+            answer: n,
+            order: 0,
+        },
+    }
+}

@@ -1,0 +1,69 @@
+use Prim.Native.Nat.{_+_, _-_, _≤_, max}
+use mathlib.Core.Path.{_≡_, refl}
+use native.Mathlib.Omega.{arith}
+use native.Mathlib.Nat.{add-zero}
+use lib.ListN.{length, length-set, take, drop, replicate}
+use lib.Seq.{sets}
+use Rattle.splice.proofs.Sets.{left-more, right-more, none-moved, clear-more, none-cleared}
+use Rattle.splice.proofs.move_left_u8.Statement.{statement}
+use Rattle.splice.proofs.move_left_u8.Tie as tie
+use Rattle.splice.proofs.move_left_u8.Reads as reads
+use Rattle.splice.proofs.move_left_u8.Lts as lts
+
+abbrev Inv-loop : tie.InvT-loop
+Inv-loop a₀ from to n p₀ a p = (p ≤ n) × (length a ≡ length a₀) × (a ≡ sets a₀ to (take p (drop from a₀)))
+
+abbrev μ-loop : tie.MeasureT-loop
+μ-loop a₀ from to n p₀ a p = n - p
+
+loop-holds : tie.Need-loop-holds Inv-loop μ-loop
+loop-holds c = (omega arith, refl, refl)
+
+add-a : tie.Need-add-a Inv-loop μ-loop
+add-a c = omega arith
+
+slice-read-a : tie.Need-slice-read-a Inv-loop μ-loop
+slice-read-a c = omega arith
+
+add-a-2 : tie.Need-add-a-2 Inv-loop μ-loop
+add-a-2 c = omega arith
+
+slice-write-a : tie.Need-slice-write-a Inv-loop μ-loop
+slice-write-a c = omega arith
+
+add-p : tie.Need-add-p Inv-loop μ-loop
+add-p c = omega arith
+
+loop-less : tie.Need-loop-less Inv-loop μ-loop
+loop-less c = omega arith
+
+loop-again : tie.Need-loop-again Inv-loop μ-loop
+loop-again c =
+    let l = c .before .before .loop in
+    let s = c .before .before .before .args in
+    (omega arith, simp length-set (omega arith), left-more (s .a .now) (s .from) (s .to) (l .p) 0 (l .inv .2) refl (omega arith) (omega arith))
+
+same-length : tie.Need-same-length Inv-loop μ-loop
+same-length c = omega arith
+
+returns : tie.Need-returns Inv-loop μ-loop
+returns c =
+    let e : c .before .before .args .n ≡ c .before .loop .p = omega arith in
+    rw e (c .before .loop .inv .2)
+
+pub move-left-u8-spec : {M : Type 1} → statement M
+move-left-u8-spec =
+    tie.close
+    (tie.spec
+    Inv-loop
+    μ-loop
+    loop-holds
+    add-a
+    slice-read-a
+    add-a-2
+    slice-write-a
+    add-p
+    loop-less
+    loop-again
+    same-length
+    returns)
