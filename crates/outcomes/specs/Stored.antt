@@ -1,7 +1,9 @@
 -- Document 01, Domain: what a map stores, the ranges that it holds, and when it is well formed. `kind` is `halfOpen` or `inclusive`.
 use Prim.Native.Nat.{ℕ, _-_}
+use mathlib.Core.Path.{_≡_}
 use mathlib.Core.Bool.{Bool, true, false, _&&_}
 use mathlib.Core.List.{List, [], _∷_, _++_, map}
+use denote.Ref.{RefT, now}
 use lib.Dec.{eqb, leb}
 use lib.ListN.{length, take, drop, replicate}
 use lib.IntN.{ℤ, pos, negsuc}
@@ -22,6 +24,10 @@ pub record Stored : Type 0 where
 
 abbrev pub stored : ℕ → List ℤ → List ℤ → List ℕ → Stored
 stored n ss es vs = record { count = n; starts = ss; ends = es; values = vs }
+
+-- the same, from the references to the parts: what a core's contract says of the map that it is lent
+abbrev pub lent : RefT ℕ → RefT (List ℤ) → RefT (List ℤ) → RefT (List ℕ) → Stored
+lent n ss es vs = stored (now n) (now ss) (now es) (now vs)
 
 -- the ranges of three lists, place by place, as spans
 unfoldable pub spans : Kind → List ℤ → List ℤ → List ℕ → List Span
@@ -68,3 +74,9 @@ unused m = zeros (drop (m .count) (m .starts)) && (zeros (drop (m .count) (m .en
 -- and no two that touch have equal values (`tidy`); unused places hold 0
 unfoldable pub wellFormed : Kind → ℕ → Stored → Bool
 wellFormed kind n m = leb (m .count) n && (tidy 0 (ranges kind m) && unused m)
+
+-- what an inner door requires of the map that it is lent: its columns are of one length, and it is well formed
+pub record Sound (kind : Kind) (m : Stored) : Type 0 where
+  pub ends-as : length (m .ends) ≡ length (m .starts)
+  pub values-as : length (m .values) ≡ length (m .starts)
+  pub well : wellFormed kind (length (m .starts)) m ≡ true

@@ -1,0 +1,152 @@
+-- A plan that is right, carried out, leaves what the edit promises: the stored map with its unused places, for both kinds.
+use Prim.Native.Nat.{ℕ, zero, suc, _+_, _-_, _≤_, _<_}
+use native.Mathlib.Omega.{arith}
+use mathlib.Core.Path.{_≡_, refl, sym, ap, _∙_}
+use mathlib.Core.Bool.{cond}
+use mathlib.Core.List.{List, [], _∷_, _++_, map, append-assoc, map-append}
+use mathlib.Core.Option.{Option}
+use lib.Dec.{ltb}
+use lib.ListN.{length, getD, take, drop, replicate, length-append, length-drop, length-map}
+use lib.Seq.{take-take, length-take-le, take-nil, drop-nil}
+use lib.IntN.{ℤ, pos}
+use mir.Syntax.{w64}
+use mir.Val.{SFits}
+use Rattle.span.specs.Span.{Span, given}
+use Rattle.key.specs.Rank.{keyAt}
+use Rattle.key.specs.Range.{Kind}
+use Rattle.key.proofs.Laws.{key-rank}
+use Rattle.key.proofs.Lawful.{Lawful}
+use Rattle.splice.specs.Splice.{spliced}
+use Rattle.outcomes.specs.Stored.{Stored, stored, spans, ranges, filled, storing}
+use Rattle.outcomes.specs.Outcomes.{Edited, leaving}
+use Rattle.outcomes.proofs.Formed.{length-spans}
+use Rattle.edit.specs.Plan.{newStarts, newEnds, newValues, newCount, carried, Columns, Planned}
+use Rattle.edit.specs.declared.Replacement.{Replacement}
+
+-- all of a list are i64, as those of a lent slice are
+abbrev pub AllFit : List ℤ → Type 0
+AllFit l = (k : ℕ) → SFits w64 (getD l k (pos 0))
+
+-- the starts, ends and values of the ranges of three lists
+starts-back : (kind : Kind) (ss es : List ℤ) (vs : List ℕ) → length es ≡ length ss → length vs ≡ length ss → AllFit ss → map (λ (x : Span). keyAt (x .lo)) (spans kind ss es vs) ≡ ss
+unfolding spans
+starts-back kind [] es vs p q f = refl
+starts-back kind (s ∷ ss) [] vs p q f = absurd (omega arith)
+starts-back kind (s ∷ ss) (e ∷ es) [] p q f = absurd (omega arith)
+starts-back kind (s ∷ ss) (e ∷ es) (v ∷ vs) p q f = rw (key-rank (f 0), starts-back kind ss es vs (omega arith) (omega arith) (λ k. f (suc k)))
+
+ends-back : (kind : Kind) → Lawful kind → (ss es : List ℤ) (vs : List ℕ) → length es ≡ length ss → length vs ≡ length ss → AllFit es → map (λ (x : Span). kind .ending (x .hi)) (spans kind ss es vs) ≡ es
+unfolding spans
+ends-back kind law [] [] vs p q f = refl
+ends-back kind law [] (e ∷ es) vs p q f = absurd (omega arith)
+ends-back kind law (s ∷ ss) [] vs p q f = absurd (omega arith)
+ends-back kind law (s ∷ ss) (e ∷ es) [] p q f = absurd (omega arith)
+ends-back kind law (s ∷ ss) (e ∷ es) (v ∷ vs) p q f = rw (law .back (f 0), ends-back kind law ss es vs (omega arith) (omega arith) (λ k. f (suc k)))
+
+values-back : (kind : Kind) (ss es : List ℤ) (vs : List ℕ) → length es ≡ length ss → length vs ≡ length ss → map (λ (x : Span). x .label) (spans kind ss es vs) ≡ vs
+unfolding spans
+values-back kind [] es [] p q = refl
+values-back kind [] es (v ∷ vs) p q = absurd (omega arith)
+values-back kind (s ∷ ss) [] vs p q = absurd (omega arith)
+values-back kind (s ∷ ss) (e ∷ es) [] p q = absurd (omega arith)
+values-back kind (s ∷ ss) (e ∷ es) (v ∷ vs) p q = rw (values-back kind ss es vs (omega arith) (omega arith))
+
+module _ {A B : Type 0} (f : A → B) where
+  map-take : (n : ℕ) (l : List A) → map f (take n l) ≡ take n (map f l)
+  map-take zero l = refl
+  map-take (suc n) [] = refl
+  map-take (suc n) (x ∷ xs) = rw (map-take n xs)
+
+  map-drop : (n : ℕ) (l : List A) → map f (drop n l) ≡ drop n (map f l)
+  map-drop zero l = refl
+  map-drop (suc n) [] = refl
+  map-drop (suc n) (x ∷ xs) = map-drop n xs
+
+-- what of the first n is left after the first j
+drop-take : {A : Type 0} (j n : ℕ) (l : List A) → drop j (take n l) ≡ take (n - j) (drop j l)
+drop-take zero n l = let e : n ≡ n - 0 = omega arith in ap (λ (k : ℕ). take k l) e
+drop-take (suc j) zero l = let e : 0 ≡ 0 - suc j = omega arith in drop-nil (suc j) ∙ ap (λ (k : ℕ). take k (drop (suc j) l)) e
+drop-take (suc j) (suc n) [] = sym (take-nil (suc n - suc j))
+drop-take (suc j) (suc n) (x ∷ xs) = let e : n - j ≡ suc n - suc j = omega arith in drop-take j n xs ∙ ap (λ (k : ℕ). take k (drop j xs)) e
+
+-- one column, whatever it holds: l is that of the places and vs that of the ranges that come
+module _ {A : Type 0} (f : Span → A) (z : A) (l vs : List A) (ys news : List Span) (i j count : ℕ) (old : map f ys ≡ l) (new : map f news ≡ vs)
+    (ij : i ≤ j) (jc : j ≤ count) (held : count ≤ length l) where
+  abbrev parts : List Span
+  parts = take i (take count ys) ++ (news ++ drop j (take count ys))
+
+  first-part : map f (take i (take count ys)) ≡ take i l
+  first-part = map-take f i (take count ys) ∙ ap (take i) (map-take f count ys ∙ ap (take count) old) ∙ take-take i count l (omega arith)
+
+  last-part : map f (drop j (take count ys)) ≡ take (count - j) (drop j l)
+  last-part = map-drop f j (take count ys) ∙ ap (drop j) (map-take f count ys ∙ ap (take count) old) ∙ drop-take j count l
+
+  column : map f parts ≡ take i l ++ vs ++ take (count - j) (drop j l)
+  column = map-append f (take i (take count ys)) (news ++ drop j (take count ys)) ∙ rw (map-append f news (drop j (take count ys)), first-part, last-part, new) (sym (append-assoc (take i l) vs (take (count - j) (drop j l))))
+
+  pub column-spliced : filled (length l) z (map f parts) ≡ spliced l i j count vs z
+  unfolding filled spliced
+  column-spliced =
+      let a = length-take-le i l (omega arith) in
+      let b = length-take-le (count - j) (drop j l) (omega (arith, length-drop j l)) in
+      let n : length (take i l ++ vs ++ take (count - j) (drop j l)) ≡ i + length vs + (count - j) = rw (length-append, length-append, a, b) in
+      rw (column, n)
+
+-- of one plan
+module _ (kind : Kind) (law : Lawful kind) (m : Stored) (cols : Columns m) (p : Replacement) (fs : AllFit (m .starts)) (fe : AllFit (m .ends))
+    (gs : AllFit (newStarts p)) (ge : AllFit (newEnds p)) {lo hi : ℕ} {new : Option ℕ} (plan : Planned kind m lo hi new p) where
+  abbrev n : ℕ
+  n = length (m .starts)
+
+  abbrev ys : List Span
+  ys = spans kind (m .starts) (m .ends) (m .values)
+
+  abbrev news : List Span
+  news = spans kind (newStarts p) (newEnds p) (newValues p)
+
+  abbrev left : List Span
+  left = given lo hi new (ranges kind m)
+
+  whole : take (p .from) (take (m .count) ys) ++ (news ++ drop (p .to) (take (m .count) ys)) ≡ left
+  unfolding ranges
+  whole = plan .right
+
+  len-starts : length (newStarts p) ≡ p .n
+  len-starts = length-take-le (p .n) _ (plan .apt .few)
+
+  len-ends : length (newEnds p) ≡ p .n
+  len-ends = length-take-le (p .n) _ (plan .apt .few)
+
+  len-values : length (newValues p) ≡ p .n
+  len-values = length-take-le (p .n) _ (plan .apt .few)
+
+  starts-col : filled n (pos 0) (map (λ (x : Span). keyAt (x .lo)) left) ≡ spliced (m .starts) (p .from) (p .to) (m .count) (newStarts p) (pos 0)
+  starts-col = rw (← whole) (column-spliced (λ (x : Span). keyAt (x .lo)) (pos 0) (m .starts) (newStarts p) ys news (p .from) (p .to) (m .count)
+      (starts-back kind (m .starts) (m .ends) (m .values) (cols .ends-as) (cols .values-as) fs)
+      (starts-back kind (newStarts p) (newEnds p) (newValues p) (omega (arith, len-starts, len-ends)) (omega (arith, len-starts, len-values)) gs)
+      (plan .apt .ascending) (plan .apt .within) (cols .held))
+
+  ends-col : filled n (pos 0) (map (λ (x : Span). kind .ending (x .hi)) left) ≡ spliced (m .ends) (p .from) (p .to) (m .count) (newEnds p) (pos 0)
+  ends-col = rw (← whole, ← cols .ends-as) (column-spliced (λ (x : Span). kind .ending (x .hi)) (pos 0) (m .ends) (newEnds p) ys news (p .from) (p .to) (m .count)
+      (ends-back kind law (m .starts) (m .ends) (m .values) (cols .ends-as) (cols .values-as) fe)
+      (ends-back kind law (newStarts p) (newEnds p) (newValues p) (omega (arith, len-starts, len-ends)) (omega (arith, len-starts, len-values)) ge)
+      (plan .apt .ascending) (plan .apt .within) (omega arith))
+
+  values-col : filled n 0 (map (λ (x : Span). x .label) left) ≡ spliced (m .values) (p .from) (p .to) (m .count) (newValues p) 0
+  values-col = rw (← whole, ← cols .values-as) (column-spliced (λ (x : Span). x .label) 0 (m .values) (newValues p) ys news (p .from) (p .to) (m .count)
+      (values-back kind (m .starts) (m .ends) (m .values) (cols .ends-as) (cols .values-as))
+      (values-back kind (newStarts p) (newEnds p) (newValues p) (omega (arith, len-starts, len-ends)) (omega (arith, len-starts, len-values)))
+      (plan .apt .ascending) (plan .apt .within) (omega arith))
+
+  -- how many ranges are left
+  pub length-left : length left ≡ newCount m p
+  length-left =
+      let a = length-spans kind (m .starts) (m .ends) (m .values) (cols .ends-as) (cols .values-as) in
+      let b = length-spans kind (newStarts p) (newEnds p) (newValues p) (omega (arith, len-starts, len-ends)) (omega (arith, len-starts, len-values)) in
+      let h : length (take (m .count) ys) ≡ m .count = length-take-le (m .count) ys (omega (arith, cols .held)) in
+      let t : length (take (p .from) (take (m .count) ys)) ≡ p .from = length-take-le (p .from) (take (m .count) ys) (omega (arith, plan .apt)) in
+      rw (← whole, length-append, length-append, t, b, len-starts) (omega (arith, length-drop (p .to) (take (m .count) ys)))
+
+  pub carried-given : carried m p ≡ cond (ltb n (length left)) (leaving 2 m) (leaving 0 (storing kind n left))
+  unfolding carried storing
+  carried-given = rw (starts-col, ends-col, values-col, length-left)

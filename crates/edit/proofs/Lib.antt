@@ -1,0 +1,2 @@
+-- Carried: a plan that is right, carried out, is the edit.
+pub mod Carried

@@ -1,0 +1,17 @@
+-- What the search finds among the ends of a map.
+use Prim.Native.Nat.{ℕ, suc, _<_}
+use mathlib.Core.Bool.{cond}
+use mathlib.Core.List.{List, [], _∷_}
+use lib.Dec.{leb}
+use lib.ListN.{getD}
+use lib.IntN.{ℤ, pos}
+use Rattle.key.specs.Rank.{rank}
+
+-- the first n of a list ascend
+abbrev pub Ascends : ℕ → List ℤ → Type 0
+Ascends n l = (p q : ℕ) → p < q → q < n → rank (getD l p (pos 0)) < rank (getD l q (pos 0))
+
+-- how many ends, counted from the front, the key of rank k has reached: those before the first that is greater
+unfoldable pub passed : ℕ → List ℤ → ℕ
+passed k [] = 0
+passed k (e ∷ es) = cond (leb (rank e) k) (suc (passed k es)) 0

@@ -1,0 +1,174 @@
+// The check of a lent map, for both kinds of range.
+// It walks the live places once and the unused ones once, and no test of a good map is a guess: each leads on.
+ghost use mathlib.Core.Path.{_≡_};
+ghost use Prim.Native.Nat.{_+_, _<_, _≤_};
+ghost use lib.ListN.{length};
+ghost use lib.IntN.{pos};
+ghost use Rattle.key.specs.Decides.{Decides};
+ghost use Rattle.key.specs.Range.{halfOpen, inclusive};
+ghost use Rattle.outcomes.specs.Stored.{stored, wellFormed};
+ghost use Rattle.places.specs.Check.{Step, Steps, Spare, Unused};
+
+// Whether the range at `k` is not empty, and the next one may follow it.
+fn step(starts: &[i64], ends: &[i64], values: &[u8], count: usize, k: usize) -> bool
+    requires { ⌜ (k < count) × (count ≤ length (now starts)) × (length (now ends) ≡ length (now starts)) × (length (now values) ≡ length (now starts)) ⌝ }
+    ensures { λ r. ⌜ Decides r (Step halfOpen (stored count (now (starts .entry)) (now (ends .entry)) (now (values .entry))) k) ⌝ }
+{
+    let end = ends[k];
+    if starts[k] >= end {
+        return false;
+    }
+    let n = k + 1;
+    if n >= count {
+        return true;
+    }
+    let next = starts[n];
+    if next < end {
+        return false;
+    }
+    // Both values are read before the ends are compared, so that one branch is left and not two.
+    let value = values[k];
+    let other = values[n];
+    if next == end && value == other {
+        return false;
+    }
+    true
+}
+
+// The same for inclusive ranges. One is added to an end only where a later key was seen.
+fn step_inclusive(starts: &[i64], ends: &[i64], values: &[u8], count: usize, k: usize) -> bool
+    requires { ⌜ (k < count) × (count ≤ length (now starts)) × (length (now ends) ≡ length (now starts)) × (length (now values) ≡ length (now starts)) ⌝ }
+    ensures { λ r. ⌜ Decides r (Step inclusive (stored count (now (starts .entry)) (now (ends .entry)) (now (values .entry))) k) ⌝ }
+{
+    let end = ends[k];
+    if starts[k] > end {
+        return false;
+    }
+    let n = k + 1;
+    if n >= count {
+        return true;
+    }
+    let next = starts[n];
+    if next <= end {
+        return false;
+    }
+    let value = values[k];
+    let other = values[n];
+    if next == end + 1 && value == other {
+        return false;
+    }
+    true
+}
+
+// Whether the live places are tidy: no range empty or reversed, all ascending, none joining the next.
+fn tidy(starts: &[i64], ends: &[i64], values: &[u8], count: usize) -> bool
+    requires { ⌜ (count ≤ length (now starts)) × (length (now ends) ≡ length (now starts)) × (length (now values) ≡ length (now starts)) ⌝ }
+    ensures { λ r. ⌜ Decides r (Steps halfOpen (stored count (now (starts .entry)) (now (ends .entry)) (now (values .entry)))) ⌝ }
+{
+    let mut k = 0;
+    while k < count {
+        if !step(starts, ends, values, count, k) {
+            return false;
+        }
+        k += 1;
+    }
+    true
+}
+
+fn tidy_inclusive(starts: &[i64], ends: &[i64], values: &[u8], count: usize) -> bool
+    requires { ⌜ (count ≤ length (now starts)) × (length (now ends) ≡ length (now starts)) × (length (now values) ≡ length (now starts)) ⌝ }
+    ensures { λ r. ⌜ Decides r (Steps inclusive (stored count (now (starts .entry)) (now (ends .entry)) (now (values .entry)))) ⌝ }
+{
+    let mut k = 0;
+    while k < count {
+        if !step_inclusive(starts, ends, values, count, k) {
+            return false;
+        }
+        k += 1;
+    }
+    true
+}
+
+// Whether all keys from a place on are 0. It has no early return: so it runs several places at a time.
+fn zeros_from(a: &[i64], from: usize) -> bool
+    requires { ⌜ from ≤ length (now a) ⌝ }
+    ensures { λ r. ⌜ Decides r (Spare (now (a .entry)) from (pos 0)) ⌝ }
+{
+    let mut seen = 0;
+    let mut k = from;
+    while k < a.len() {
+        seen |= a[k];
+        k += 1;
+    }
+    if seen == 0 {
+        return true;
+    }
+    false
+}
+
+fn noughts_from(a: &[u8], from: usize) -> bool
+    requires { ⌜ from ≤ length (now a) ⌝ }
+    ensures { λ r. ⌜ Decides r (Spare (now (a .entry)) from 0) ⌝ }
+{
+    let mut seen = 0;
+    let mut k = from;
+    while k < a.len() {
+        seen |= a[k];
+        k += 1;
+    }
+    if seen == 0 {
+        return true;
+    }
+    false
+}
+
+// Whether the unused places hold start 0, end 0, value 0. Both kinds of map call it.
+fn unused(starts: &[i64], ends: &[i64], values: &[u8], count: usize) -> bool
+    requires { ⌜ (count ≤ length (now starts)) × (length (now ends) ≡ length (now starts)) × (length (now values) ≡ length (now starts)) ⌝ }
+    ensures { λ r. ⌜ Decides r (Unused (stored count (now (starts .entry)) (now (ends .entry)) (now (values .entry)))) ⌝ }
+{
+    if !zeros_from(starts, count) {
+        return false;
+    }
+    if !zeros_from(ends, count) {
+        return false;
+    }
+    if !noughts_from(values, count) {
+        return false;
+    }
+    true
+}
+
+// Whether a map of half-open ranges is well formed.
+pub fn well_formed(starts: &[i64], ends: &[i64], values: &[u8], count: usize) -> bool
+    requires { ⌜ (length (now ends) ≡ length (now starts)) × (length (now values) ≡ length (now starts)) ⌝ }
+    ensures { λ r. ⌜ r ≡ wellFormed halfOpen (length (now (starts .entry))) (stored count (now (starts .entry)) (now (ends .entry)) (now (values .entry))) ⌝ }
+{
+    if starts.len() < count {
+        return false;
+    }
+    if !tidy(starts, ends, values, count) {
+        return false;
+    }
+    if !unused(starts, ends, values, count) {
+        return false;
+    }
+    true
+}
+
+// Whether a map of inclusive ranges is well formed.
+pub fn well_formed_inclusive(starts: &[i64], ends: &[i64], values: &[u8], count: usize) -> bool
+    requires { ⌜ (length (now ends) ≡ length (now starts)) × (length (now values) ≡ length (now starts)) ⌝ }
+    ensures { λ r. ⌜ r ≡ wellFormed inclusive (length (now (starts .entry))) (stored count (now (starts .entry)) (now (ends .entry)) (now (values .entry))) ⌝ }
+{
+    if starts.len() < count {
+        return false;
+    }
+    if !tidy_inclusive(starts, ends, values, count) {
+        return false;
+    }
+    if !unused(starts, ends, values, count) {
+        return false;
+    }
+    true
+}

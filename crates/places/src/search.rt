@@ -1,0 +1,21 @@
+// The search among the ends of a map.
+ghost use mathlib.Core.Path.{_≡_};
+ghost use Prim.Native.Nat.{_≤_};
+ghost use lib.ListN.{length, take};
+ghost use Rattle.key.specs.Rank.{rank};
+ghost use Rattle.places.specs.Search.{Ascends, passed};
+
+// How many of the first `count` ends are at most `key`: the place of the first range that ends after it.
+pub fn ended(ends: &[i64], count: usize, key: i64) -> usize
+    requires { ⌜ (count ≤ length (now ends)) × Ascends count (now ends) ⌝ }
+    ensures { λ r. ⌜ r ≡ passed (rank key) (take count (now (ends .entry))) ⌝ }
+{
+    let mut k = 0;
+    while k < count {
+        if key < ends[k] {
+            return k;
+        }
+        k += 1;
+    }
+    k
+}
