@@ -5,27 +5,23 @@ use mathlib.Core.Path.{_≡_, refl, sym, ap, _∙_}
 use mathlib.Core.Bool.{cond}
 use mathlib.Core.List.{List, [], _∷_, _++_, map, append-assoc, map-append}
 use mathlib.Core.Option.{Option}
+use borrow.Author.Tests.{le-leb, lt-leb}
 use lib.Dec.{ltb}
 use lib.ListN.{length, getD, take, drop, replicate, length-append, length-drop, length-map}
 use lib.Seq.{take-take, length-take-le, take-nil, drop-nil}
 use lib.IntN.{ℤ, pos}
-use mir.Syntax.{w64}
-use mir.Val.{SFits}
 use Rattle.span.specs.Span.{Span, given}
-use Rattle.key.specs.Rank.{keyAt}
+use Rattle.key.specs.Rank.{rank, keyAt}
 use Rattle.key.specs.Range.{Kind}
 use Rattle.key.proofs.Laws.{key-rank}
 use Rattle.key.proofs.Lawful.{Lawful}
 use Rattle.splice.specs.Splice.{spliced}
-use Rattle.outcomes.specs.Stored.{Stored, stored, spans, ranges, filled, storing}
-use Rattle.outcomes.specs.Outcomes.{Edited, leaving}
+use Rattle.outcomes.specs.Stored.{Stored, stored, spans, ranges, filled, storing, AllFit, Sound}
+use Rattle.outcomes.specs.Outcomes.{Edited, leaving, editing}
 use Rattle.outcomes.proofs.Formed.{length-spans}
 use Rattle.edit.specs.Plan.{newStarts, newEnds, newValues, newCount, carried, Columns, Planned}
 use Rattle.edit.specs.declared.Replacement.{Replacement}
-
--- all of a list are i64, as those of a lent slice are
-abbrev pub AllFit : List ℤ → Type 0
-AllFit l = (k : ℕ) → SFits w64 (getD l k (pos 0))
+use Rattle.edit.proofs.Places.{columns}
 
 -- the starts, ends and values of the ranges of three lists
 starts-back : (kind : Kind) (ss es : List ℤ) (vs : List ℕ) → length es ≡ length ss → length vs ≡ length ss → AllFit ss → map (λ (x : Span). keyAt (x .lo)) (spans kind ss es vs) ≡ ss
@@ -93,8 +89,7 @@ module _ {A : Type 0} (f : Span → A) (z : A) (l vs : List A) (ys news : List S
       rw (column, n)
 
 -- of one plan
-module _ (kind : Kind) (law : Lawful kind) (m : Stored) (cols : Columns m) (p : Replacement) (fs : AllFit (m .starts)) (fe : AllFit (m .ends))
-    (gs : AllFit (newStarts p)) (ge : AllFit (newEnds p)) {lo hi : ℕ} {new : Option ℕ} (plan : Planned kind m lo hi new p) where
+module _ (kind : Kind) (law : Lawful kind) (m : Stored) (cols : Columns m) (p : Replacement) (fs : AllFit (m .starts)) (fe : AllFit (m .ends)) {lo hi : ℕ} {new : Option ℕ} (plan : Planned kind m lo hi new p) where
   abbrev n : ℕ
   n = length (m .starts)
 
@@ -123,13 +118,13 @@ module _ (kind : Kind) (law : Lawful kind) (m : Stored) (cols : Columns m) (p : 
   starts-col : filled n (pos 0) (map (λ (x : Span). keyAt (x .lo)) left) ≡ spliced (m .starts) (p .from) (p .to) (m .count) (newStarts p) (pos 0)
   starts-col = rw (← whole) (column-spliced (λ (x : Span). keyAt (x .lo)) (pos 0) (m .starts) (newStarts p) ys news (p .from) (p .to) (m .count)
       (starts-back kind (m .starts) (m .ends) (m .values) (cols .ends-as) (cols .values-as) fs)
-      (starts-back kind (newStarts p) (newEnds p) (newValues p) (omega (arith, len-starts, len-ends)) (omega (arith, len-starts, len-values)) gs)
+      (starts-back kind (newStarts p) (newEnds p) (newValues p) (omega (arith, len-starts, len-ends)) (omega (arith, len-starts, len-values)) (plan .starts-fit))
       (plan .apt .ascending) (plan .apt .within) (cols .held))
 
   ends-col : filled n (pos 0) (map (λ (x : Span). kind .ending (x .hi)) left) ≡ spliced (m .ends) (p .from) (p .to) (m .count) (newEnds p) (pos 0)
   ends-col = rw (← whole, ← cols .ends-as) (column-spliced (λ (x : Span). kind .ending (x .hi)) (pos 0) (m .ends) (newEnds p) ys news (p .from) (p .to) (m .count)
       (ends-back kind law (m .starts) (m .ends) (m .values) (cols .ends-as) (cols .values-as) fe)
-      (ends-back kind law (newStarts p) (newEnds p) (newValues p) (omega (arith, len-starts, len-ends)) (omega (arith, len-starts, len-values)) ge)
+      (ends-back kind law (newStarts p) (newEnds p) (newValues p) (omega (arith, len-starts, len-ends)) (omega (arith, len-starts, len-values)) (plan .ends-fit))
       (plan .apt .ascending) (plan .apt .within) (omega arith))
 
   values-col : filled n 0 (map (λ (x : Span). x .label) left) ≡ spliced (m .values) (p .from) (p .to) (m .count) (newValues p) 0
@@ -150,3 +145,14 @@ module _ (kind : Kind) (law : Lawful kind) (m : Stored) (cols : Columns m) (p : 
   pub carried-given : carried m p ≡ cond (ltb n (length left)) (leaving 2 m) (leaving 0 (storing kind n left))
   unfolding carried storing
   carried-given = rw (starts-col, ends-col, values-col, length-left)
+
+-- the edits of a sound map
+pub edit-refused : (kind : Kind) (n : ℕ) (m : Stored) (s e : ℤ) (new : Option ℕ) → kind .past e ≤ rank s → leaving 1 m ≡ editing kind n m s e new
+unfolding editing
+edit-refused kind n m s e new h = rw (le-leb (kind .past e) (rank s) h)
+
+pub edit-carried : (kind : Kind) (law : Lawful kind) (m : Stored) → Sound kind m → (s e : ℤ) {new : Option ℕ} (p : Replacement) → rank s < kind .past e
+    → Planned kind m (rank s) (kind .past e) new p → carried m p ≡ editing kind (length (m .starts)) m s e new
+unfolding editing
+edit-carried kind law m sound s e p h plan =
+    carried-given kind law m (columns kind law m sound) p (sound .starts-fit) (sound .ends-fit) plan ∙ rw (lt-leb (kind .past e) (rank s) h)

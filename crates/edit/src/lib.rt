@@ -1,5 +1,9 @@
 // What insert and remove of both kinds of map share: a plan says which places go and which ranges come, and one function carries it out.
 // Nothing is written before the answer is known.
+pub mod half_open;
+mod met;
+mod sides;
+
 use splice::Entry;
 ghost use mathlib.Core.Path.{_≡_};
 ghost use Rattle.outcomes.specs.Stored.{lent};

@@ -5,8 +5,10 @@ use mathlib.Core.Bool.{Bool, true, false, _&&_}
 use mathlib.Core.List.{List, [], _∷_, _++_, map}
 use denote.Ref.{RefT, now}
 use lib.Dec.{eqb, leb}
-use lib.ListN.{length, take, drop, replicate}
+use lib.ListN.{length, getD, take, drop, replicate}
 use lib.IntN.{ℤ, pos, negsuc}
+use mir.Syntax.{w64}
+use mir.Val.{SFits}
 use Rattle.span.specs.Span.{Span, tidy}
 use Rattle.key.specs.Rank.{keyAt}
 use Rattle.key.specs.Range.{Kind, rangeOf}
@@ -75,8 +77,14 @@ unused m = zeros (drop (m .count) (m .starts)) && (zeros (drop (m .count) (m .en
 unfoldable pub wellFormed : Kind → ℕ → Stored → Bool
 wellFormed kind n m = leb (m .count) n && (tidy 0 (ranges kind m) && unused m)
 
--- what an inner door requires of the map that it is lent: its columns are of one length, and it is well formed
+-- all of a list are i64, as what an array in memory holds
+abbrev pub AllFit : List ℤ → Type 0
+AllFit l = (k : ℕ) → SFits w64 (getD l k (pos 0))
+
+-- what an inner door requires of the map that it is lent: its columns are of one length, its keys are i64, and it is well formed. The check finds that out
 pub record Sound (kind : Kind) (m : Stored) : Type 0 where
   pub ends-as : length (m .ends) ≡ length (m .starts)
   pub values-as : length (m .values) ≡ length (m .starts)
+  pub starts-fit : AllFit (m .starts)
+  pub ends-fit : AllFit (m .ends)
   pub well : wellFormed kind (length (m .starts)) m ≡ true

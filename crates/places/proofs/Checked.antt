@@ -1,52 +1,56 @@
--- The check place by place decides what `wellFormed` says of the whole: stated once, over the kind of range.
-use Prim.Native.Nat.{ℕ, suc, _+_, _≤_, _<_}
+-- What the check decides place by place is what `wellFormed` says of the whole map. Stated once, over the kind of range.
+use Prim.Native.Nat.{ℕ, suc, _≤_, _<_}
 use native.Mathlib.Omega.{arith}
 use native.Mathlib.Numerals.{add-one}
 use mathlib.Core.Path.{_≡_, refl, sym}
 use mathlib.Core.Bool.{Bool, true, false}
-use Rattle.span.specs.Span.{Span, span, Tidy}
-use Rattle.span.proofs.Pieces.{Follows, ByPlaces, tidy-places, places-tidy}
+use lib.ListN.{getD}
+use Rattle.span.specs.Span.{span, Tidy}
+use Rattle.span.proofs.Pieces.{tidy-places, places-tidy}
+use Rattle.key.specs.Decides.{Decides}
 use Rattle.key.specs.Range.{Kind}
 use Rattle.outcomes.specs.Stored.{Stored, ranges, wellFormed}
 use Rattle.outcomes.proofs.Formed.{Formed, Shaped, formed, well-formed, length-ranges, getD-ranges}
-use Rattle.places.specs.Check.{place, Step, Steps, Unused}
+use Rattle.places.specs.Check.{place, Steps, Unused}
 
 refused : (t : Bool) → (t ≡ true → ⊥) → false ≡ t
 refused true h = absurd (h refl)
 refused false h = refl
 
-module _ (kind : Kind) (n : ℕ) (m : Stored) (shape : Shaped n m) where
-  -- the live places one by one, and the list of ranges
-  steps-tidy : m .count ≤ n → Steps kind m → Tidy 0 (ranges kind m)
-  steps-tidy held s =
-      let l = length-ranges kind n m shape held in
-      let g : (k : ℕ) → k < m .count → _ = λ k b. getD-ranges kind n m shape held k (span 0 0 0) b in
-      tidy-places {d = span 0 0 0} (record {
-        full = λ k h. rw (g k (omega arith)) (s k (omega arith) .full);
-        next = λ k h. rw (g k (omega arith), g (suc k) (omega arith), ← add-one k)
-            (record { past = s k (omega arith) .past (omega arith); apart = λ j. s k (omega arith) .unlike (omega arith) (j .touch) (j .alike) });
-      })
+module _ (kind : Kind) {n : ℕ} {m : Stored} (shape : Shaped n m) where
+  module _ (held : m .count ≤ n) where
+    -- the span at a live place of the list of ranges is the range at that place of the map
+    at-place : (k : ℕ) → k < m .count → getD (ranges kind m) k (span 0 0 0) ≡ place kind m k
+    at-place k b = getD-ranges kind n m shape held k (span 0 0 0) b
 
-  tidy-steps : m .count ≤ n → Tidy 0 (ranges kind m) → Steps kind m
-  tidy-steps held t k b =
-      let l = length-ranges kind n m shape held in
-      let p = places-tidy (span 0 0 0) t in
-      let g : (k : ℕ) → k < m .count → _ = λ k b. getD-ranges kind n m shape held k (span 0 0 0) b in
-      record {
-        full = rw (g k b) at (p .full k (omega arith));
-        past = λ h. rw (add-one k) (rw (g k b, g (suc k) (omega arith)) at (p .next k (omega arith) .past));
-        unlike = λ h. rw (add-one k) (λ t v. (rw (g k b, g (suc k) (omega arith)) at (p .next k (omega arith) .apart)) (record { touch = t; alike = v }));
-      }
+    steps-tidy : Steps kind m → Tidy 0 (ranges kind m)
+    steps-tidy s =
+        let l = length-ranges kind n m shape held in
+        tidy-places {d = span 0 0 0} (record {
+          full = λ k h. rw (at-place k (omega arith)) (s k (omega arith) .full);
+          next = λ k h. rw (at-place k (omega arith), at-place (suc k) (omega arith), ← add-one k)
+              (record { past = s k (omega arith) .past (omega arith); apart = λ j. s k (omega arith) .unlike (omega arith) (j .touch) (j .alike) });
+        })
 
-  pub accepts : m .count ≤ n → Steps kind m → Unused m → true ≡ wellFormed kind n m
-  accepts held s u = sym (well-formed kind n m (record { held = held; tidy = steps-tidy held s; starts = u .starts; ends = u .ends; values = u .values }))
+    tidy-steps : Tidy 0 (ranges kind m) → Steps kind m
+    tidy-steps t k b =
+        let l = length-ranges kind n m shape held in
+        let p = places-tidy (span 0 0 0) t in
+        record {
+          full = rw (at-place k b) at (p .full k (omega arith));
+          past = λ h. rw (add-one k) (rw (at-place k b, at-place (suc k) (omega arith)) at (p .next k (omega arith) .past));
+          unlike = λ h. rw (add-one k) (λ t v. (rw (at-place k b, at-place (suc k) (omega arith)) at (p .next k (omega arith) .apart)) (record { touch = t; alike = v }));
+        }
 
-  -- what is refused: too large a count, a live place that is wrong, an unused place that is not 0
-  pub refuses-count : n < m .count → false ≡ wellFormed kind n m
-  refuses-count h = refused _ (λ e. let f = formed kind n m e in omega arith)
+  -- a well-formed map, place by place
+  pub formed-steps : Formed kind n m → Steps kind m
+  formed-steps f = tidy-steps (f .held) (f .tidy)
 
-  pub refuses-place : (Steps kind m → ⊥) → false ≡ wellFormed kind n m
-  refuses-place h = refused _ (λ e. let f = formed kind n m e in h (tidy-steps (f .held) (f .tidy)))
+  -- the places from the count on are wrong: the map is refused
+  pub refuses : (Unused n m → ⊥) → false ≡ wellFormed kind n m
+  refuses h = refused _ (λ e. let f = formed kind n m e in h (record { held = f .held; starts = f .starts; ends = f .ends; values = f .values }))
 
-  pub refuses-unused : (Unused m → ⊥) → false ≡ wellFormed kind n m
-  refuses-unused h = refused _ (λ e. let f = formed kind n m e in h (record { starts = f .starts; ends = f .ends; values = f .values }))
+  -- they are right: the answer is that of the live places
+  pub answers : (r : Bool) → Unused n m → Decides r (Steps kind m) → r ≡ wellFormed kind n m
+  answers true u d = sym (well-formed kind n m (record { held = u .held; tidy = steps-tidy (u .held) (d .right refl); starts = u .starts; ends = u .ends; values = u .values }))
+  answers false u d = refused _ (λ e. d .wrong refl (formed-steps (formed kind n m e)))

@@ -26,8 +26,9 @@ Steps kind m = (k : ℕ) → k < m .count → Step kind m k
 abbrev pub Spare : {A : Type 0} → List A → ℕ → A → Type 0
 Spare l n z = (k : ℕ) → n ≤ k → getD l k z ≡ z
 
--- the unused places hold start 0, end 0, value 0
-pub record Unused (m : Stored) : Type 0 where
+-- the count is at most n, the number of places, and the places from it on hold start 0, end 0, value 0
+pub record Unused (n : ℕ) (m : Stored) : Type 0 where
+  pub held : m .count ≤ n
   pub starts : Spare (m .starts) (m .count) (pos 0)
   pub ends : Spare (m .ends) (m .count) (pos 0)
   pub values : Spare (m .values) (m .count) 0

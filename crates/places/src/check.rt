@@ -1,5 +1,4 @@
-// The check of a lent map, for both kinds of range.
-// It walks the live places once and the unused ones once, and no test of a good map is a guess: each leads on.
+// The check of a lent map, for both kinds of range. The live places are walked once, and each column of the unused ones once.
 ghost use mathlib.Core.Path.{_≡_};
 ghost use Prim.Native.Nat.{_+_, _<_, _≤_};
 ghost use lib.ListN.{length};
@@ -9,7 +8,7 @@ ghost use Rattle.key.specs.Range.{halfOpen, inclusive};
 ghost use Rattle.outcomes.specs.Stored.{stored, wellFormed};
 ghost use Rattle.places.specs.Check.{Step, Steps, Spare, Unused};
 
-// Whether the range at `k` is not empty, and the next one may follow it.
+// Whether the half-open range at `k` is not empty, and the next one may follow it.
 fn step(starts: &[i64], ends: &[i64], values: &[u8], count: usize, k: usize) -> bool
     requires { ⌜ (k < count) × (count ≤ length (now starts)) × (length (now ends) ≡ length (now starts)) × (length (now values) ≡ length (now starts)) ⌝ }
     ensures { λ r. ⌜ Decides r (Step halfOpen (stored count (now (starts .entry)) (now (ends .entry)) (now (values .entry))) k) ⌝ }
@@ -26,7 +25,7 @@ fn step(starts: &[i64], ends: &[i64], values: &[u8], count: usize, k: usize) -> 
     if next < end {
         return false;
     }
-    // Both values are read before the ends are compared, so that one branch is left and not two.
+    // Both values are read before the test, so that its two halves are one branch, which a good map never takes.
     let value = values[k];
     let other = values[n];
     if next == end && value == other {
@@ -35,7 +34,7 @@ fn step(starts: &[i64], ends: &[i64], values: &[u8], count: usize, k: usize) -> 
     true
 }
 
-// The same for inclusive ranges. One is added to an end only where a later key was seen.
+// The same for an inclusive range. One is added to the end only where a later key was seen.
 fn step_inclusive(starts: &[i64], ends: &[i64], values: &[u8], count: usize, k: usize) -> bool
     requires { ⌜ (k < count) × (count ≤ length (now starts)) × (length (now ends) ≡ length (now starts)) × (length (now values) ≡ length (now starts)) ⌝ }
     ensures { λ r. ⌜ Decides r (Step inclusive (stored count (now (starts .entry)) (now (ends .entry)) (now (values .entry))) k) ⌝ }
@@ -60,7 +59,7 @@ fn step_inclusive(starts: &[i64], ends: &[i64], values: &[u8], count: usize, k: 
     true
 }
 
-// Whether the live places are tidy: no range empty or reversed, all ascending, none joining the next.
+// Whether the live places are tidy: no range empty or reversed, all ascending without overlap, none joining the next.
 fn tidy(starts: &[i64], ends: &[i64], values: &[u8], count: usize) -> bool
     requires { ⌜ (count ≤ length (now starts)) × (length (now ends) ≡ length (now starts)) × (length (now values) ≡ length (now starts)) ⌝ }
     ensures { λ r. ⌜ Decides r (Steps halfOpen (stored count (now (starts .entry)) (now (ends .entry)) (now (values .entry)))) ⌝ }
@@ -75,6 +74,7 @@ fn tidy(starts: &[i64], ends: &[i64], values: &[u8], count: usize) -> bool
     true
 }
 
+// The same for inclusive ranges.
 fn tidy_inclusive(starts: &[i64], ends: &[i64], values: &[u8], count: usize) -> bool
     requires { ⌜ (count ≤ length (now starts)) × (length (now ends) ≡ length (now starts)) × (length (now values) ≡ length (now starts)) ⌝ }
     ensures { λ r. ⌜ Decides r (Steps inclusive (stored count (now (starts .entry)) (now (ends .entry)) (now (values .entry)))) ⌝ }
@@ -89,15 +89,15 @@ fn tidy_inclusive(starts: &[i64], ends: &[i64], values: &[u8], count: usize) -> 
     true
 }
 
-// Whether all keys from a place on are 0. It has no early return: so it runs several places at a time.
-fn zeros_from(a: &[i64], from: usize) -> bool
-    requires { ⌜ from ≤ length (now a) ⌝ }
-    ensures { λ r. ⌜ Decides r (Spare (now (a .entry)) from (pos 0)) ⌝ }
+// Whether all keys from a place on are 0. With no early return the loop takes several places at a time.
+fn zeros_from(keys: &[i64], from: usize) -> bool
+    requires { ⌜ from ≤ length (now keys) ⌝ }
+    ensures { λ r. ⌜ Decides r (Spare (now (keys .entry)) from (pos 0)) ⌝ }
 {
     let mut seen = 0;
     let mut k = from;
-    while k < a.len() {
-        seen |= a[k];
+    while k < keys.len() {
+        seen |= keys[k];
         k += 1;
     }
     if seen == 0 {
@@ -106,14 +106,15 @@ fn zeros_from(a: &[i64], from: usize) -> bool
     false
 }
 
-fn noughts_from(a: &[u8], from: usize) -> bool
-    requires { ⌜ from ≤ length (now a) ⌝ }
-    ensures { λ r. ⌜ Decides r (Spare (now (a .entry)) from 0) ⌝ }
+// The same for values.
+fn noughts_from(values: &[u8], from: usize) -> bool
+    requires { ⌜ from ≤ length (now values) ⌝ }
+    ensures { λ r. ⌜ Decides r (Spare (now (values .entry)) from 0) ⌝ }
 {
     let mut seen = 0;
     let mut k = from;
-    while k < a.len() {
-        seen |= a[k];
+    while k < values.len() {
+        seen |= values[k];
         k += 1;
     }
     if seen == 0 {
@@ -122,11 +123,14 @@ fn noughts_from(a: &[u8], from: usize) -> bool
     false
 }
 
-// Whether the unused places hold start 0, end 0, value 0. Both kinds of map call it.
+// What both kinds of map share: whether the count is at most the number of places, and the places from it on hold 0.
 fn unused(starts: &[i64], ends: &[i64], values: &[u8], count: usize) -> bool
-    requires { ⌜ (count ≤ length (now starts)) × (length (now ends) ≡ length (now starts)) × (length (now values) ≡ length (now starts)) ⌝ }
-    ensures { λ r. ⌜ Decides r (Unused (stored count (now (starts .entry)) (now (ends .entry)) (now (values .entry)))) ⌝ }
+    requires { ⌜ (length (now ends) ≡ length (now starts)) × (length (now values) ≡ length (now starts)) ⌝ }
+    ensures { λ r. ⌜ Decides r (Unused (length (now (starts .entry))) (stored count (now (starts .entry)) (now (ends .entry)) (now (values .entry)))) ⌝ }
 {
+    if starts.len() < count {
+        return false;
+    }
     if !zeros_from(starts, count) {
         return false;
     }
@@ -144,16 +148,10 @@ pub fn well_formed(starts: &[i64], ends: &[i64], values: &[u8], count: usize) ->
     requires { ⌜ (length (now ends) ≡ length (now starts)) × (length (now values) ≡ length (now starts)) ⌝ }
     ensures { λ r. ⌜ r ≡ wellFormed halfOpen (length (now (starts .entry))) (stored count (now (starts .entry)) (now (ends .entry)) (now (values .entry))) ⌝ }
 {
-    if starts.len() < count {
-        return false;
-    }
-    if !tidy(starts, ends, values, count) {
-        return false;
-    }
     if !unused(starts, ends, values, count) {
         return false;
     }
-    true
+    tidy(starts, ends, values, count)
 }
 
 // Whether a map of inclusive ranges is well formed.
@@ -161,14 +159,8 @@ pub fn well_formed_inclusive(starts: &[i64], ends: &[i64], values: &[u8], count:
     requires { ⌜ (length (now ends) ≡ length (now starts)) × (length (now values) ≡ length (now starts)) ⌝ }
     ensures { λ r. ⌜ r ≡ wellFormed inclusive (length (now (starts .entry))) (stored count (now (starts .entry)) (now (ends .entry)) (now (values .entry))) ⌝ }
 {
-    if starts.len() < count {
-        return false;
-    }
-    if !tidy_inclusive(starts, ends, values, count) {
-        return false;
-    }
     if !unused(starts, ends, values, count) {
         return false;
     }
-    true
+    tidy_inclusive(starts, ends, values, count)
 }

@@ -19,14 +19,14 @@ add-next-2 c = search needs
 
 returns : tie.Need-returns
 unfolding carried
-returns c = 
+returns c =
     let s = c .before .before .before in
     let g = s .args in
     let m : Stored = stored (g .count .now) (g .starts .now) (g .ends .now) (g .values .now) in
     rw (lt-ltb (length (g .starts .now)) (newCount m (g .p)) (c .if1 .taken))
 
 splice-requires : tie.Need-splice-requires
-splice-requires c κs = 
+splice-requires c κs =
     let s = c .before .before .before .before .before .before .before .before .before in
     let m = s .pre .0 in
     let p = s .pre .1 in
@@ -43,7 +43,7 @@ same-length-3 c = search needs
 
 returns-2 : tie.Need-returns-2
 unfolding carried
-returns-2 c = 
+returns-2 c =
     let s = c .before .before .before .before .before .before .before .before .before .before .before .before .before .before in
     let g = s .args in
     let m : Stored = stored (g .count .now) (g .starts .now) (g .ends .now) (g .values .now) in

@@ -1,65 +1,68 @@
 -- `places::check::step` meets its contract.
-use borrow.Author.Tests.{eqb-true, eqb-false}
-use borrow.Author.Needs.{sfits-of}
+use Prim.Native.Nat.{_+_}
+use native.Mathlib.Omega.{arith}
 use mathlib.Core.Path.{sym, ap}
 use mathlib.Core.Logic.{⊎-elim}
+use borrow.Author.Needs.{sfits-of}
+use borrow.Author.Tests.{eqb-true, eqb-false}
+use lib.ListN.{getD}
+use lib.IntN.{pos}
 use Rattle.key.specs.Rank.{bitRank}
-use native.Mathlib.Omega.{arith}
 use Rattle.key.proofs.Laws.{tests, rank-ne}
 use Rattle.key.proofs.Answers.{holds, fails}
-use borrow.Author.Needs.{needs}
 use Rattle.places.proofs.check.step.Statement.{statement}
 use Rattle.places.proofs.check.step.Tie as tie
-use Rattle.places.proofs.check.step.Reads as reads
-use Rattle.places.proofs.check.step.Lts as lts
 
 mul-end : tie.Need-mul-end
-mul-end c = search needs
+mul-end c = omega arith
 
 shared-slice-copy-out-end : tie.Need-shared-slice-copy-out-end
-shared-slice-copy-out-end c = search needs
+shared-slice-copy-out-end c = omega arith
 
 mul-if1 : tie.Need-mul-if1
-mul-if1 c = search needs
+mul-if1 c = omega arith
 
 shared-slice-copy-out-if1 : tie.Need-shared-slice-copy-out-if1
-shared-slice-copy-out-if1 c = search needs
+shared-slice-copy-out-if1 c = omega arith
 
 returns : tie.Need-returns
 returns c = fails (λ w. omega (arith, tests))
 
 add-n : tie.Need-add-n
-add-n c = search needs
+add-n c = omega arith
 
 returns-2 : tie.Need-returns-2
 returns-2 c = holds (omega (arith, tests))
 
 mul-next : tie.Need-mul-next
-mul-next c = search needs
+mul-next c = omega arith
 
 shared-slice-copy-out-next : tie.Need-shared-slice-copy-out-next
-shared-slice-copy-out-next c = search needs
+shared-slice-copy-out-next c = omega arith
 
 returns-3 : tie.Need-returns-3
 returns-3 c = fails (λ w. omega (arith, tests, w .past (omega arith)))
 
 shared-slice-read-value : tie.Need-shared-slice-read-value
-shared-slice-read-value c = search needs
+shared-slice-read-value c = omega arith
 
 shared-slice-read-other : tie.Need-shared-slice-read-other
-shared-slice-read-other c = search needs
+shared-slice-read-other c = omega arith
 
 returns-4 : tie.Need-returns-4
-returns-4 c = fails (λ w. w .unlike (omega arith) (sym (ap bitRank (c .before .if4 .taken))) (eqb-true _ _ (c .if5 .taken)))
+returns-4 c = fails (λ w. w .unlike (omega arith) (omega (arith, ap bitRank (c .before .if4 .taken))) (omega (arith, eqb-true)))
 
 returns-5 : tie.Need-returns-5
-returns-5 c = 
+returns-5 c =
     let n = c .before .before .before .before in
     let e = n .before .before .before .before in
+    let a = e .before .args in
     holds (record {
       full = omega (arith, tests);
       past = λ _. omega (arith, tests);
-      unlike = λ _ t v. ⊎-elim (λ w. eqb-false _ _ (w .1 .left) v) (λ w. rank-ne (sfits-of (n .next .given)) (sfits-of (e .end .given)) (w .left) (sym t)) (c .if4 .came);
+      unlike = λ _ t v. ⊎-elim (λ w. eqb-false _ _ (w .1 .left) v)
+          (λ w. rank-ne {a = getD (a .starts .now) (a .k + 1) (pos 0)} {b = getD (a .ends .now) (a .k) (pos 0)} (sfits-of (n .next .given)) (sfits-of (e .end .given)) (w .left) (sym t))
+          (c .if4 .came);
     })
 
 pub step-spec : {M : Type 1} → statement M

@@ -9,9 +9,6 @@ use Rattle.outcomes.specs.Stored.{stored}
 use Rattle.places.specs.Check.{Step}
 use Rattle.places.proofs.check.tidy.Statement.{statement}
 use Rattle.places.proofs.check.tidy.Tie as tie
-use Rattle.places.proofs.check.tidy.Reads as reads
-use Rattle.places.proofs.check.tidy.Lts as lts
-use Rattle.places.proofs.check.step.Reads as step-reads
 
 abbrev Inv-loop : tie.InvT-loop
 Inv-loop starts ends values count k₀ k = (k ≤ count) × ((j : ℕ) → j < k → Step halfOpen (stored count starts ends values) j)

@@ -9,9 +9,6 @@ use Rattle.outcomes.specs.Stored.{stored}
 use Rattle.places.specs.Check.{Step}
 use Rattle.places.proofs.check.tidy_inclusive.Statement.{statement}
 use Rattle.places.proofs.check.tidy_inclusive.Tie as tie
-use Rattle.places.proofs.check.tidy_inclusive.Reads as reads
-use Rattle.places.proofs.check.tidy_inclusive.Lts as lts
-use Rattle.places.proofs.check.step_inclusive.Reads as step-inclusive-reads
 
 abbrev Inv-loop : tie.InvT-loop
 Inv-loop starts ends values count k₀ k = (k ≤ count) × ((j : ℕ) → j < k → Step inclusive (stored count starts ends values) j)

@@ -1,42 +1,29 @@
+-- `places::check::well_formed` meets its contract.
 use native.Mathlib.Omega.{arith}
 use mathlib.Core.Path.{refl}
 use borrow.Author.Tests.{not-true, not-false}
+use lib.ListN.{length}
 use Rattle.key.specs.Range.{halfOpen}
 use Rattle.outcomes.specs.Stored.{stored}
 use Rattle.outcomes.proofs.Formed.{Shaped}
-use Rattle.places.proofs.Checked.{accepts, refuses-count, refuses-place, refuses-unused}
-use borrow.Author.Needs.{needs}
+use Rattle.places.proofs.Checked.{refuses, answers}
 use Rattle.places.proofs.check.well_formed.Statement.{statement}
 use Rattle.places.proofs.check.well_formed.Tie as tie
-use Rattle.places.proofs.check.well_formed.Reads as reads
-use Rattle.places.proofs.check.well_formed.Lts as lts
-use Rattle.places.proofs.check.tidy.Reads as tidy-reads
-use Rattle.places.proofs.check.unused.Reads as unused-reads
 
-map-of : tie.Start → Stored
-map-of s = stored (s .args .count) (s .args .starts .now) (s .args .ends .now) (s .args .values .now)
-
-shape : (s : tie.Start) → Shaped (length (s .args .starts .now)) (map-of s)
-shape s = record { starts = refl; ends = s .pre .0; values = s .pre .1 }
-
-returns : tie.Need-returns
-returns c = let s = c .before in refuses-count halfOpen _ (map-of s) (shape s) (omega arith)
-
-tidy-requires : tie.Need-tidy-requires
-tidy-requires c κs = search needs
-
-returns-2 : tie.Need-returns-2
-returns-2 c = let s = c .before .before .before in refuses-place halfOpen _ (map-of s) (shape s) (c .before .tidy .ensures .wrong (not-true _ (c .if2 .taken)))
+shape : (c : tie.Start) → Shaped (length (c .args .starts .now)) (stored (c .args .count) (c .args .starts .now) (c .args .ends .now) (c .args .values .now))
+shape c = record { starts = refl; ends = c .pre .0; values = c .pre .1 }
 
 unused-requires : tie.Need-unused-requires
-unused-requires c κs = search needs
+unused-requires c κs = omega arith
 
-returns-3 : tie.Need-returns-3
-returns-3 c = let s = c .before .before .before .before .before in refuses-unused halfOpen _ (map-of s) (shape s) (c .before .unused .ensures .wrong (not-true _ (c .if3 .taken)))
+returns : tie.Need-returns
+returns c = refuses halfOpen (shape (c .before .before .before)) (c .before .unused .ensures .wrong (not-true _ (c .if1 .taken)))
 
-returns-4 : tie.Need-returns-4
-returns-4 c = ?
+tidy-requires : tie.Need-tidy-requires
+tidy-requires c κs = let u = c .before .unused .ensures .right (not-false _ (c .if1 .left)) in omega arith
+
+returns-2 : tie.Need-returns-2
+returns-2 c = answers halfOpen (shape (c .before .before .before .before)) _ (c .before .before .unused .ensures .right (not-false _ (c .before .if1 .left))) (c .tidy .ensures)
 
 pub well-formed-spec : {M : Type 1} → statement M
-well-formed-spec =
-    tie.close (tie.spec returns tidy-requires returns-2 unused-requires returns-3 returns-4)
+well-formed-spec = tie.close (tie.spec unused-requires returns tidy-requires returns-2)

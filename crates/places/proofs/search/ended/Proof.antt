@@ -9,8 +9,6 @@ use Rattle.key.proofs.Laws.{tests}
 use Rattle.places.proofs.Seeking.{is-passed}
 use Rattle.places.proofs.search.ended.Statement.{statement}
 use Rattle.places.proofs.search.ended.Tie as tie
-use Rattle.places.proofs.search.ended.Reads as reads
-use Rattle.places.proofs.search.ended.Lts as lts
 
 abbrev Inv-loop : tie.InvT-loop
 Inv-loop ends count key k₀ k = (k ≤ count) × ((j : ℕ) → j < k → rank (getD ends j (pos 0)) ≤ bitRank key)
@@ -28,7 +26,10 @@ shared-slice-copy-out-if1 : tie.Need-shared-slice-copy-out-if1 Inv-loop μ-loop
 shared-slice-copy-out-if1 c = omega arith
 
 returns : tie.Need-returns Inv-loop μ-loop
-returns c = ?
+returns c =
+    let l = c .before .before .before .loop in
+    let s = c .before .before .before .before in
+    is-passed _ (s .args .ends .now) (s .args .count) (l .k) (omega arith) (record { within = omega arith; below = l .inv .1; at = λ _. omega (arith, tests) })
 
 add-k : tie.Need-add-k Inv-loop μ-loop
 add-k c = omega arith
@@ -40,7 +41,10 @@ loop-again : tie.Need-loop-again Inv-loop μ-loop
 loop-again c = (omega arith, below-more _ _ (c .before .before .before .loop .inv .1) (omega (arith, tests)))
 
 returns-2 : tie.Need-returns-2 Inv-loop μ-loop
-returns-2 c = ?
+returns-2 c =
+    let l = c .before .loop in
+    let s = c .before .before in
+    is-passed _ (s .args .ends .now) (s .args .count) (l .k) (omega arith) (record { within = omega arith; below = l .inv .1; at = λ h. absurd (omega arith) })
 
 pub ended-spec : {M : Type 1} → statement M
 ended-spec =

@@ -1,0 +1,38 @@
+// Which places an edit meets or touches. One search finds the first; the places that are replaced are walked, which is no search.
+ghost use mathlib.Core.Path.{_≡_};
+ghost use Prim.Native.Nat.{_≤_};
+ghost use lib.ListN.{length};
+ghost use Rattle.places.specs.Search.{Ascends};
+ghost use Rattle.edit.specs.Plan.{Before, Begun};
+
+// Places, from one up to another.
+pub struct Met {
+    pub from: usize,
+    pub to: usize,
+}
+
+// How many of the first `count` ends are less than `key`.
+pub fn short_of(ends: &[i64], count: usize, key: i64) -> usize
+    requires { ⌜ (count ≤ length (now ends)) × Ascends count (now ends) ⌝ }
+    ensures { λ r. ⌜ Before (now (ends .entry)) count key r ⌝ }
+{
+    if key == key::LEAST {
+        return 0;
+    }
+    places::search::ended(ends, count, key::prev(key))
+}
+
+// The first place from `from` on that starts after `key`.
+pub fn begun(starts: &[i64], from: usize, count: usize, key: i64) -> usize
+    requires { ⌜ (from ≤ count) × (count ≤ length (now starts)) ⌝ }
+    ensures { λ r. ⌜ Begun (now (starts .entry)) from count key r ⌝ }
+{
+    let mut k = from;
+    while k < count {
+        if key < starts[k] {
+            return k;
+        }
+        k += 1;
+    }
+    k
+}
