@@ -13,39 +13,15 @@ use lib.IntN.{ℤ, pos}
 use Rattle.span.specs.Span.{Span, given}
 use Rattle.key.specs.Rank.{rank, keyAt}
 use Rattle.key.specs.Range.{Kind}
-use Rattle.key.proofs.Laws.{key-rank}
 use Rattle.key.proofs.Lawful.{Lawful}
 use Rattle.splice.specs.Splice.{spliced}
 use Rattle.outcomes.specs.Stored.{Stored, stored, spans, ranges, filled, storing, AllFit, Sound}
 use Rattle.outcomes.specs.Outcomes.{Edited, leaving, editing}
 use Rattle.outcomes.proofs.Formed.{length-spans}
+use Rattle.outcomes.proofs.Storing.{starts-back, ends-back, values-back}
 use Rattle.edit.specs.Plan.{newStarts, newEnds, newValues, newCount, carried, Columns, Planned}
 use Rattle.edit.specs.declared.Replacement.{Replacement}
 use Rattle.edit.proofs.Places.{columns}
-
--- the starts, ends and values of the ranges of three lists
-starts-back : (kind : Kind) (ss es : List ℤ) (vs : List ℕ) → length es ≡ length ss → length vs ≡ length ss → AllFit ss → map (λ (x : Span). keyAt (x .lo)) (spans kind ss es vs) ≡ ss
-unfolding spans
-starts-back kind [] es vs p q f = refl
-starts-back kind (s ∷ ss) [] vs p q f = absurd (omega arith)
-starts-back kind (s ∷ ss) (e ∷ es) [] p q f = absurd (omega arith)
-starts-back kind (s ∷ ss) (e ∷ es) (v ∷ vs) p q f = rw (key-rank (f 0), starts-back kind ss es vs (omega arith) (omega arith) (λ k. f (suc k)))
-
-ends-back : (kind : Kind) → Lawful kind → (ss es : List ℤ) (vs : List ℕ) → length es ≡ length ss → length vs ≡ length ss → AllFit es → map (λ (x : Span). kind .ending (x .hi)) (spans kind ss es vs) ≡ es
-unfolding spans
-ends-back kind law [] [] vs p q f = refl
-ends-back kind law [] (e ∷ es) vs p q f = absurd (omega arith)
-ends-back kind law (s ∷ ss) [] vs p q f = absurd (omega arith)
-ends-back kind law (s ∷ ss) (e ∷ es) [] p q f = absurd (omega arith)
-ends-back kind law (s ∷ ss) (e ∷ es) (v ∷ vs) p q f = rw (law .back (f 0), ends-back kind law ss es vs (omega arith) (omega arith) (λ k. f (suc k)))
-
-values-back : (kind : Kind) (ss es : List ℤ) (vs : List ℕ) → length es ≡ length ss → length vs ≡ length ss → map (λ (x : Span). x .label) (spans kind ss es vs) ≡ vs
-unfolding spans
-values-back kind [] es [] p q = refl
-values-back kind [] es (v ∷ vs) p q = absurd (omega arith)
-values-back kind (s ∷ ss) [] vs p q = absurd (omega arith)
-values-back kind (s ∷ ss) (e ∷ es) [] p q = absurd (omega arith)
-values-back kind (s ∷ ss) (e ∷ es) (v ∷ vs) p q = rw (values-back kind ss es vs (omega arith) (omega arith))
 
 module _ {A B : Type 0} (f : A → B) where
   map-take : (n : ℕ) (l : List A) → map f (take n l) ≡ take n (map f l)

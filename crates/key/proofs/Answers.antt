@@ -4,11 +4,15 @@ use mathlib.Core.Bool.{Bool, true, false}
 use lib.Dec.{T}
 use Rattle.key.specs.Decides.{Decides}
 
+-- a bool is not both
+pub never : {X : Type 0} → false ≡ true → X
+never e = absurd (subst T (sym e) tt)
+
 pub holds : {P : Type 0} → P → Decides true P
 holds p = record { right = λ _. p; wrong = λ e. absurd (subst T e tt) }
 
 pub fails : {P : Type 0} → (P → ⊥) → Decides false P
-fails h = record { right = λ e. absurd (subst T (sym e) tt); wrong = λ _. h }
+fails h = record { right = λ e. never e; wrong = λ _. h }
 
 -- THE ONE ANSWER: a promise that an answer is what a definition says fixes it, so two answers that meet it are equal
 pub one-answer : {A : Type 0} {r t p : A} → r ≡ p → t ≡ p → r ≡ t

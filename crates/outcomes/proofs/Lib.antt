@@ -1,1 +1,4 @@
+-- Formed: a well-formed map, as proofs use it. Storing: a list of ranges and the map that stores it. Edits: what an edit leaves, and histories.
 pub mod Formed
+pub mod Storing
+pub mod Edits

@@ -9,7 +9,7 @@ use mathlib.Core.Option.{Option, some, none}
 use lib.Dec.{eqb, ltb, leb}
 use lib.ListN.{length, getD, drop}
 use lib.IntN.{ℤ, pos}
-use Rattle.span.specs.Span.{Span, given}
+use Rattle.span.specs.Span.{Span, given, Edit}
 use Rattle.span.specs.Operations.{gaps, overlaps, any, holds, order}
 use Rattle.key.specs.Rank.{rank, keyAt}
 use Rattle.key.specs.Range.{Kind, rangeOf}
@@ -94,6 +94,12 @@ leaving n m = record { answer = n; left = m }
 pub record Extended : Type 0 where
   pub told : Applied
   pub left : Stored
+
+-- an edit of a list of them: a range, and the value that it is given, or none
+pub record Change : Type 0 where
+  pub start : ℤ
+  pub end : ℤ
+  pub new : Option ℕ
 
 -- OF A WELL-FORMED MAP
 
@@ -224,3 +230,13 @@ module _ (kind : Kind) where
   -- BULK INSERT: the count applied is returned, and earlier entries stay
   unfoldable pub extending : Stored → List Entry → Extended
   extending m xs = cond (formed m) (inserts m 0 xs) (record { told = record { answer = 4; applied = 0 }; left = m })
+
+  -- EDITS in order, up to the first refusal
+  unfoldable pub run : Stored → List Change → Edited
+  run m [] = leaving 0 m
+  run m (c ∷ cs) = let one = edited m (c .start) (c .end) (c .new) in cond (eqb (one .answer) 0) (run (one .left) cs) one
+
+  -- the same edits of instants
+  unfoldable pub changes : List Change → List Edit
+  changes [] = []
+  changes (c ∷ cs) = let q = rangeOf kind (c .start) (c .end) 0 in record { lo = q .lo; hi = q .hi; new = c .new } ∷ changes cs

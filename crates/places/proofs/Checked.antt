@@ -1,7 +1,9 @@
 -- What the check decides place by place is what `wellFormed` says of the whole map. Stated once, over the kind of range.
 use Prim.Native.Nat.{ℕ, suc, _≤_, _<_}
 use native.Mathlib.Omega.{arith}
+use native.Mathlib.Decide.{decLt}
 use native.Mathlib.Numerals.{add-one}
+use mir.Facts.{sfits-lit}
 use mathlib.Core.Path.{_≡_, refl, sym}
 use mathlib.Core.Bool.{Bool, true, false}
 use lib.ListN.{getD}
@@ -9,9 +11,9 @@ use Rattle.span.specs.Span.{span, Tidy}
 use Rattle.span.proofs.Pieces.{tidy-places, places-tidy}
 use Rattle.key.specs.Decides.{Decides}
 use Rattle.key.specs.Range.{Kind}
-use Rattle.outcomes.specs.Stored.{Stored, ranges, wellFormed}
+use Rattle.outcomes.specs.Stored.{Stored, ranges, wellFormed, AllFit}
 use Rattle.outcomes.proofs.Formed.{Formed, Shaped, formed, well-formed, length-ranges, getD-ranges}
-use Rattle.places.specs.Check.{place, Steps, Unused}
+use Rattle.places.specs.Check.{place, Steps, Keys, Unused}
 
 refused : (t : Bool) → (t ≡ true → ⊥) → false ≡ t
 refused true h = absurd (h refl)
@@ -54,3 +56,10 @@ module _ (kind : Kind) {n : ℕ} {m : Stored} (shape : Shaped n m) where
   pub answers : (r : Bool) → Unused n m → Decides r (Steps kind m) → r ≡ wellFormed kind n m
   answers true u d = sym (well-formed kind n m (record { held = u .held; tidy = steps-tidy (u .held) (d .right refl); starts = u .starts; ends = u .ends; values = u .values }))
   answers false u d = refused _ (λ e. d .wrong refl (formed-steps (formed kind n m e)))
+
+  -- the keys of the live places are i64, and those of the others are 0
+  pub all-fit : Unused n m → ((k : ℕ) → k < m .count → Keys m k) → AllFit (m .starts) × AllFit (m .ends)
+  all-fit u f = (
+    (λ k. elim (decLt k (m .count)) [ yes p ↦ f k p .start-fits | no p ↦ rw (u .starts k (omega arith)) (sfits-lit tt) ]),
+    λ k. elim (decLt k (m .count)) [ yes p ↦ f k p .end-fits | no p ↦ rw (u .ends k (omega arith)) (sfits-lit tt) ],
+  )

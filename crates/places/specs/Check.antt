@@ -4,6 +4,8 @@ use mathlib.Core.Path.{_≡_}
 use mathlib.Core.List.{List}
 use lib.ListN.{getD}
 use lib.IntN.{pos}
+use mir.Syntax.{w64}
+use mir.Val.{SFits}
 use Rattle.span.specs.Span.{Span}
 use Rattle.key.specs.Range.{Kind, rangeOf}
 use Rattle.outcomes.specs.Stored.{Stored}
@@ -17,6 +19,11 @@ pub record Step (kind : Kind) (m : Stored) (k : ℕ) : Type 0 where
   pub full : place kind m k .lo < place kind m k .hi
   pub past : k + 1 < m .count → place kind m k .hi ≤ place kind m (k + 1) .lo
   pub unlike : k + 1 < m .count → place kind m k .hi ≡ place kind m (k + 1) .lo → place kind m k .label ≡ place kind m (k + 1) .label → ⊥
+
+-- the keys at place k are i64, as what is read from memory
+pub record Keys (m : Stored) (k : ℕ) : Type 0 where
+  pub start-fits : SFits w64 (getD (m .starts) k (pos 0))
+  pub end-fits : SFits w64 (getD (m .ends) k (pos 0))
 
 -- all live places are so
 abbrev pub Steps : Kind → Stored → Type 0

@@ -1,17 +1,19 @@
 // The check of a lent map, for both kinds of range. The live places are walked once, and each column of the unused ones once.
 ghost use mathlib.Core.Path.{_≡_};
-ghost use Prim.Native.Nat.{_+_, _<_, _≤_};
+ghost use mathlib.Core.Bool.{true};
+ghost use Prim.Native.Nat.{ℕ, _+_, _<_, _≤_};
 ghost use lib.ListN.{length};
 ghost use lib.IntN.{pos};
 ghost use Rattle.key.specs.Decides.{Decides};
 ghost use Rattle.key.specs.Range.{halfOpen, inclusive};
-ghost use Rattle.outcomes.specs.Stored.{stored, wellFormed};
-ghost use Rattle.places.specs.Check.{Step, Steps, Spare, Unused};
+ghost use Rattle.outcomes.specs.Stored.{stored, wellFormed, AllFit};
+ghost use Rattle.places.specs.Check.{Step, Steps, Keys, Spare, Unused};
 
 // Whether the half-open range at `k` is not empty, and the next one may follow it.
 fn step(starts: &[i64], ends: &[i64], values: &[u8], count: usize, k: usize) -> bool
     requires { ⌜ (k < count) × (count ≤ length (now starts)) × (length (now ends) ≡ length (now starts)) × (length (now values) ≡ length (now starts)) ⌝ }
     ensures { λ r. ⌜ Decides r (Step halfOpen (stored count (now (starts .entry)) (now (ends .entry)) (now (values .entry))) k) ⌝ }
+    ensures { λ _. ⌜ Keys (stored count (now (starts .entry)) (now (ends .entry)) (now (values .entry))) k ⌝ }
 {
     let end = ends[k];
     if starts[k] >= end {
@@ -38,6 +40,7 @@ fn step(starts: &[i64], ends: &[i64], values: &[u8], count: usize, k: usize) -> 
 fn step_inclusive(starts: &[i64], ends: &[i64], values: &[u8], count: usize, k: usize) -> bool
     requires { ⌜ (k < count) × (count ≤ length (now starts)) × (length (now ends) ≡ length (now starts)) × (length (now values) ≡ length (now starts)) ⌝ }
     ensures { λ r. ⌜ Decides r (Step inclusive (stored count (now (starts .entry)) (now (ends .entry)) (now (values .entry))) k) ⌝ }
+    ensures { λ _. ⌜ Keys (stored count (now (starts .entry)) (now (ends .entry)) (now (values .entry))) k ⌝ }
 {
     let end = ends[k];
     if starts[k] > end {
@@ -63,6 +66,7 @@ fn step_inclusive(starts: &[i64], ends: &[i64], values: &[u8], count: usize, k: 
 fn tidy(starts: &[i64], ends: &[i64], values: &[u8], count: usize) -> bool
     requires { ⌜ (count ≤ length (now starts)) × (length (now ends) ≡ length (now starts)) × (length (now values) ≡ length (now starts)) ⌝ }
     ensures { λ r. ⌜ Decides r (Steps halfOpen (stored count (now (starts .entry)) (now (ends .entry)) (now (values .entry)))) ⌝ }
+    ensures { λ r. ⌜ (r ≡ true → (k : ℕ) → k < count → Keys (stored count (now (starts .entry)) (now (ends .entry)) (now (values .entry))) k) ⌝ }
 {
     let mut k = 0;
     while k < count {
@@ -78,6 +82,7 @@ fn tidy(starts: &[i64], ends: &[i64], values: &[u8], count: usize) -> bool
 fn tidy_inclusive(starts: &[i64], ends: &[i64], values: &[u8], count: usize) -> bool
     requires { ⌜ (count ≤ length (now starts)) × (length (now ends) ≡ length (now starts)) × (length (now values) ≡ length (now starts)) ⌝ }
     ensures { λ r. ⌜ Decides r (Steps inclusive (stored count (now (starts .entry)) (now (ends .entry)) (now (values .entry)))) ⌝ }
+    ensures { λ r. ⌜ (r ≡ true → (k : ℕ) → k < count → Keys (stored count (now (starts .entry)) (now (ends .entry)) (now (values .entry))) k) ⌝ }
 {
     let mut k = 0;
     while k < count {
@@ -147,6 +152,7 @@ fn unused(starts: &[i64], ends: &[i64], values: &[u8], count: usize) -> bool
 pub fn well_formed(starts: &[i64], ends: &[i64], values: &[u8], count: usize) -> bool
     requires { ⌜ (length (now ends) ≡ length (now starts)) × (length (now values) ≡ length (now starts)) ⌝ }
     ensures { λ r. ⌜ r ≡ wellFormed halfOpen (length (now (starts .entry))) (stored count (now (starts .entry)) (now (ends .entry)) (now (values .entry))) ⌝ }
+    ensures { λ r. ⌜ (r ≡ true → AllFit (now (starts .entry)) × AllFit (now (ends .entry))) ⌝ }
 {
     if !unused(starts, ends, values, count) {
         return false;
@@ -158,6 +164,7 @@ pub fn well_formed(starts: &[i64], ends: &[i64], values: &[u8], count: usize) ->
 pub fn well_formed_inclusive(starts: &[i64], ends: &[i64], values: &[u8], count: usize) -> bool
     requires { ⌜ (length (now ends) ≡ length (now starts)) × (length (now values) ≡ length (now starts)) ⌝ }
     ensures { λ r. ⌜ r ≡ wellFormed inclusive (length (now (starts .entry))) (stored count (now (starts .entry)) (now (ends .entry)) (now (values .entry))) ⌝ }
+    ensures { λ r. ⌜ (r ≡ true → AllFit (now (starts .entry)) × AllFit (now (ends .entry))) ⌝ }
 {
     if !unused(starts, ends, values, count) {
         return false;

@@ -29,7 +29,7 @@ ordered-at : (b : ℕ) (m : List Span) → Ordered 0 m → ((k v : ℕ) → at m
 ordered-at b [] o h = tt
 ordered-at b (x ∷ xs) o h = (h (x .lo) (x .label) (at-in x xs (x .lo) (omega arith)), o .1, o .2)
 
-upto-at : (b c : ℕ) (m : List Span) → Ordered b m → ((k v : ℕ) → at m k ≡ some v → k < c) → Upto c m
+pub upto-at : (b c : ℕ) (m : List Span) → Ordered b m → ((k v : ℕ) → at m k ≡ some v → k < c) → Upto c m
 upto-at b c [] o h = tt
 upto-at b c (x ∷ xs) o h = (omega (arith, h (x .hi - 1) (x .label) (at-in x xs (x .hi - 1) (omega arith))), upto-at (x .hi) c xs (o .2) (λ k v e. h k v (at-behind x xs k (o .2) e)))
 

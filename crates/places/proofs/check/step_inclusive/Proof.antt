@@ -28,13 +28,13 @@ shared-slice-copy-out-if1 : tie.Need-shared-slice-copy-out-if1
 shared-slice-copy-out-if1 c = omega arith
 
 returns : tie.Need-returns
-returns c = fails (λ w. omega (arith, tests))
+returns c = (fails (λ w. omega (arith, tests)), (record { start-fits = sfits-of (c .before .if12 .given); end-fits = sfits-of (c .before .before .end .given) }))
 
 add-n : tie.Need-add-n
 add-n c = omega arith
 
 returns-2 : tie.Need-returns-2
-returns-2 c = holds (omega (arith, tests))
+returns-2 c = (holds (omega (arith, tests)), (record { start-fits = sfits-of (c .before .before .if12 .given); end-fits = sfits-of (c .before .before .before .end .given) }))
 
 mul-next : tie.Need-mul-next
 mul-next c = omega arith
@@ -43,7 +43,7 @@ shared-slice-copy-out-next : tie.Need-shared-slice-copy-out-next
 shared-slice-copy-out-next c = omega arith
 
 returns-3 : tie.Need-returns-3
-returns-3 c = fails (λ w. omega (arith, tests, w .past (omega arith)))
+returns-3 c = (fails (λ w. omega (arith, tests, w .past (omega arith))), (record { start-fits = sfits-of (c .before .before .before .before .if12 .given); end-fits = sfits-of (c .before .before .before .before .before .end .given) }))
 
 shared-slice-read-value : tie.Need-shared-slice-read-value
 shared-slice-read-value c = omega arith
@@ -61,8 +61,7 @@ add-if4 : tie.Need-add-if4
 add-if4 c = next-fits _ (room c)
 
 returns-4 : tie.Need-returns-4
-returns-4 c =
-    fails (λ w. w .unlike (omega arith) (omega (arith, ap bitRank (c .before .if4 .taken), rank-next _ (room (c .before .before)))) (omega (arith, eqb-true)))
+returns-4 c = (fails (λ w. w .unlike (omega arith) (omega (arith, ap bitRank (c .before .if4 .taken), rank-next _ (room (c .before .before)))) (omega (arith, eqb-true))), (record { start-fits = sfits-of (c .before .before .before .before .before .before .before .before .if12 .given); end-fits = sfits-of (c .before .before .before .before .before .before .before .before .before .end .given) }))
 
 returns-5 : tie.Need-returns-5
 returns-5 c =
@@ -70,13 +69,13 @@ returns-5 c =
     let a = n .before .before .before .before .before .args in
     let end = ofZ w64 (getD (a .ends .now) (a .k) (pos 0)) in
     let r = room (c .before) in
-    holds (record {
+    (holds (record {
       full = omega (arith, tests);
       past = λ _. omega (arith, tests);
       unlike = λ _ t v. ⊎-elim (λ w. eqb-false _ _ (w .1 .left) v)
           (λ w. rank-ne {a = getD (a .starts .now) (a .k + 1) (pos 0)} {b = toZ w64 end +ℤ pos 1} (sfits-of (n .next .given)) (next-fits end r) (w .left) (omega (arith, rank-next end r)))
           (c .if4 .came);
-    })
+    }), (record { start-fits = sfits-of (c .before .before .before .before .before .before .before .if12 .given); end-fits = sfits-of (c .before .before .before .before .before .before .before .before .end .given) }))
 
 pub step-inclusive-spec : {M : Type 1} → statement M
 step-inclusive-spec =

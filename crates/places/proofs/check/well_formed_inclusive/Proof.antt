@@ -6,7 +6,8 @@ use lib.ListN.{length}
 use Rattle.key.specs.Range.{inclusive}
 use Rattle.outcomes.specs.Stored.{stored}
 use Rattle.outcomes.proofs.Formed.{Shaped}
-use Rattle.places.proofs.Checked.{refuses, answers}
+use Rattle.key.proofs.Answers.{never}
+use Rattle.places.proofs.Checked.{refuses, answers, all-fit}
 use Rattle.places.proofs.check.well_formed_inclusive.Statement.{statement}
 use Rattle.places.proofs.check.well_formed_inclusive.Tie as tie
 
@@ -17,13 +18,16 @@ unused-requires : tie.Need-unused-requires
 unused-requires c κs = omega arith
 
 returns : tie.Need-returns
-returns c = refuses inclusive (shape (c .before .before .before)) (c .before .unused .ensures .wrong (not-true _ (c .if1 .taken)))
+returns c = (refuses inclusive (shape (c .before .before .before)) (c .before .unused .ensures .wrong (not-true _ (c .if1 .taken))), λ e. never e)
 
 tidy-inclusive-requires : tie.Need-tidy-inclusive-requires
 tidy-inclusive-requires c κs = let u = c .before .unused .ensures .right (not-false _ (c .if1 .left)) in omega arith
 
 returns-2 : tie.Need-returns-2
-returns-2 c = answers inclusive (shape (c .before .before .before .before)) _ (c .before .before .unused .ensures .right (not-false _ (c .before .if1 .left))) (c .tidy-inclusive .ensures)
+returns-2 c =
+    let h = shape (c .before .before .before .before) in
+    let u = c .before .before .unused .ensures .right (not-false _ (c .before .if1 .left)) in
+    (answers inclusive h _ u (c .tidy-inclusive .ensures .0), λ e. all-fit inclusive h u (c .tidy-inclusive .ensures .1 e))
 
 pub well-formed-inclusive-spec : {M : Type 1} → statement M
 well-formed-inclusive-spec = tie.close (tie.spec unused-requires returns tidy-inclusive-requires returns-2)
