@@ -12,7 +12,7 @@ use lib.IntN.{ℤ, pos, negsuc}
 use Rattle.span.specs.Span.{Span, span, Tidy, tidy}
 use Rattle.span.proofs.Tests.{both, tidy-yes, yes-tidy}
 use Rattle.key.specs.Range.{Kind, rangeOf}
-use Rattle.outcomes.specs.Stored.{Stored, spans, ranges, isZero, zeros, noughts, unused, wellFormed}
+use Rattle.outcomes.specs.Stored.{Stored, spans, ranges, isZero, zeros, noughts, unused, wellFormed, Sound}
 
 -- from n on, the list holds z
 abbrev pub Spare : {A : Type 0} → List A → ℕ → A → Type 0
@@ -120,3 +120,7 @@ module _ (kind : Kind) (n : ℕ) (m : Stored) (shape : Shaped n m) (held : m .co
   pub getD-ranges : (k : ℕ) (d : Span) → k < m .count → getD (ranges kind m) k d ≡ rangeOf kind (getD (m .starts) k (pos 0)) (getD (m .ends) k (pos 0)) (getD (m .values) k 0)
   unfolding ranges
   getD-ranges k d h = getD-take (m .count) _ k d h ∙ getD-spans kind (m .starts) (m .ends) (m .values) k d (omega arith) (omega arith) (omega arith)
+
+-- a sound map holds no more ranges than it has places
+pub sound-held : (kind : Kind) (m : Stored) → Sound kind m → m .count ≤ length (m .starts)
+sound-held kind m s = formed kind (length (m .starts)) m (s .well) .held

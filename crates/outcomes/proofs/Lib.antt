@@ -1,4 +1,7 @@
 -- Formed: a well-formed map, as proofs use it. Storing: a list of ranges and the map that stores it. Edits: what an edit leaves, and histories.
+-- Bulk: bulk insert, entry by entry. Equal: equality by comparison.
 pub mod Formed
 pub mod Storing
 pub mod Edits
+pub mod Equal
+pub mod Bulk

@@ -1,5 +1,5 @@
 -- What a reader must believe of maps: Stored (what a map stores, what it holds, when it is well formed), Outcomes (what each function answers and leaves),
 -- Numbers (each answer's number and values).
 pub mod Stored
-pub mod Outcomes
 pub mod Numbers
+pub mod Outcomes

@@ -40,3 +40,10 @@ orderOf Compared.Less = record { answer = 0; order = negsuc 0 }
 orderOf Compared.Equal = record { answer = 0; order = pos 0 }
 orderOf Compared.Greater = record { answer = 0; order = pos 1 }
 orderOf (Compared.Refused n) = record { answer = n; order = pos 0 }
+
+-- two maps are equal where neither comes first
+abbrev pub equalOf : Compared → Asked
+equalOf Compared.Less = Asked.No
+equalOf Compared.Equal = Asked.Yes
+equalOf Compared.Greater = Asked.No
+equalOf (Compared.Refused n) = Asked.Refused n

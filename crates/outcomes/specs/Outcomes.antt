@@ -3,6 +3,7 @@
 -- Refusals in the order of document 01: 4 the map is not well formed, 1 the range is empty or reversed, 5 there is none, 2 the map would be too large,
 -- 3 the lent output is too short.
 use Prim.Native.Nat.{ℕ, zero, suc, _-_, min, Ordering, Ordering·lt, Ordering·eq, Ordering·gt}
+use mathlib.Core.Path.{_≡_}
 use mathlib.Core.Bool.{Bool, true, false, _&&_, cond}
 use mathlib.Core.List.{List, [], _∷_, _++_, map}
 use mathlib.Core.Option.{Option, some, none}
@@ -25,6 +26,8 @@ use Rattle.outcomes.specs.declared.Part.the-variants as Part
 use Rattle.outcomes.specs.declared.Compared.{Compared}
 use Rattle.outcomes.specs.declared.Compared.the-variants as Compared
 use Rattle.outcomes.specs.declared.Applied.{Applied}
+use Rattle.outcomes.specs.declared.Count.{Count}
+use Rattle.outcomes.specs.Numbers.{countOf}
 
 -- is a range empty or reversed
 abbrev pub empty : Span → Bool
@@ -82,6 +85,12 @@ pub record Written : Type 0 where
   pub starts : List ℤ
   pub ends : List ℤ
 
+-- what C and Rust see of it: the number and the count, and what the lent lists hold
+pub record Listed (r : Count) (starts ends : List ℤ) (w : Written) : Type 0 where
+  pub number : r ≡ countOf (w .answer)
+  pub starts-are : starts ≡ w .starts
+  pub ends-are : ends ≡ w .ends
+
 -- what an edit answers, and the map that it leaves
 pub record Edited : Type 0 where
   pub answer : ℕ
@@ -94,6 +103,9 @@ leaving n m = record { answer = n; left = m }
 pub record Extended : Type 0 where
   pub told : Applied
   pub left : Stored
+
+abbrev pub extended : Applied → Stored → Extended
+extended r m = record { told = r; left = m }
 
 -- an edit of a list of them: a range, and the value that it is given, or none
 pub record Change : Type 0 where

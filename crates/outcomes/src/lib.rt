@@ -2,7 +2,7 @@
 // C and Rust see it as a struct of numbers. Both kinds of map, and the sets, share them.
 ghost use mathlib.Core.Path.{_≡_};
 ghost use Rattle.outcomes.specs.Stored.{places};
-ghost use Rattle.outcomes.specs.Numbers.{toldOf, countOf, rangeOf, stretchOf, orderOf};
+ghost use Rattle.outcomes.specs.Numbers.{toldOf, countOf, rangeOf, stretchOf, orderOf, equalOf};
 
 // How many places a map has.
 pub const PLACES: usize = 512;
@@ -190,5 +190,17 @@ pub fn order_of(a: Compared) -> Order
             answer: n,
             order: 0,
         },
+    }
+}
+
+// Whether two maps are equal, by how they compare.
+pub fn equal_of(a: Compared) -> Asked
+    ensures { λ n. ⌜ n ≡ equalOf a ⌝ }
+{
+    match a {
+        Compared::Less => Asked::No,
+        Compared::Equal => Asked::Yes,
+        Compared::Greater => Asked::No,
+        Compared::Refused(n) => Asked::Refused(n),
     }
 }

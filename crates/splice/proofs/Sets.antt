@@ -1,7 +1,7 @@
 -- Laws of a run of stores, `sets`, over any type of elements: a load beside it, and one more store at its end or before it.
 use Prim.Native.Nat.{ℕ, zero, suc, _+_, _-_, _≤_, _<_}
 use mathlib.Core.Path.{_≡_, refl, sym, ap, _∙_}
-use mathlib.Core.List.{List, [], _∷_, _++_, append-assoc}
+use mathlib.Core.List.{List, [], _∷_, _++_, append-assoc, append-nil}
 use native.Mathlib.Omega.{arith}
 use native.Mathlib.Numerals.{add-one, sub-one}
 use native.Mathlib.Nat.{add-zero, add-suc, lt-irrefl}
@@ -122,3 +122,13 @@ module _ {A : Type 0} (a : List A) (i j count : ℕ) (vs : List A) (z : A) (ij :
   -- the three calls, by what each ensures
   pub splice-done : {m p c : List A} (k : ℕ) → length vs ≡ k → m ≡ moved a j (i + k) (count - j) → p ≡ sets m i vs → c ≡ cleared p (i + k + (count - j)) count z → c ≡ spliced a i j count vs z
   splice-done k ek em ep ec = rw (ec, ep, em, ← ek) splice-eq
+
+-- a list that is cleared whole holds nothing
+pub all-clear : {A : Type 0} (l : List A) (z : A) {n : ℕ} → length l ≡ n → cleared l 0 n z ≡ replicate n z
+all-clear l z {n} e =
+    let r : length (replicate (n - 0) z) ≡ n = length-replicate (n - 0) z ∙ sub-zero n in
+    let d : drop (0 + length (replicate (n - 0) z)) l ≡ [] = ap (λ (k : ℕ). drop (0 + k) l) r ∙ drop-of-length-le l {i = 0 + n} (omega arith) in
+    sets-eq (replicate (n - 0) z) l 0 (omega arith) ∙ rw (d, append-nil) (ap (λ (k : ℕ). replicate k z) (sub-zero n))
+  where
+    sub-zero : (n : ℕ) → n - 0 ≡ n
+    sub-zero n = omega arith

@@ -38,7 +38,7 @@ fn move_i64(a: &mut [i64], from: usize, to: usize, n: usize)
     }
 }
 
-fn clear_i64(a: &mut [i64], from: usize, to: usize)
+pub fn clear_i64(a: &mut [i64], from: usize, to: usize)
     requires { ⌜ to ≤ length (now a) ⌝ }
     ensures { λ _. ⌜ now (a .exit) ≡ cleared (now (a .entry)) from to (pos 0) ⌝ }
 {
@@ -111,7 +111,7 @@ fn move_u8(a: &mut [u8], from: usize, to: usize, n: usize)
     }
 }
 
-fn clear_u8(a: &mut [u8], from: usize, to: usize)
+pub fn clear_u8(a: &mut [u8], from: usize, to: usize)
     requires { ⌜ to ≤ length (now a) ⌝ }
     ensures { λ _. ⌜ now (a .exit) ≡ cleared (now (a .entry)) from to 0 ⌝ }
 {

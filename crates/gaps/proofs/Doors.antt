@@ -1,0 +1,134 @@
+-- What the doors answer, for both kinds: of a well-formed map the walk from the right place finds the gaps.
+use Prim.Native.Nat.{ℕ, zero, suc, _+_, _≤_, _<_, min}
+use native.Mathlib.Omega.{arith}
+use native.Mathlib.Decide.{decLt}
+use mathlib.Core.Path.{_≡_, refl, ap, _∙_}
+use mathlib.Core.List.{List, [], _∷_, map}
+use borrow.Author.Tests.{lt-ltb, le-ltb, le-leb, lt-leb}
+use lib.ListN.{length, getD, take, drop, length-map, take-append-drop, drop-of-length-le}
+use lib.Seq.{sets, sets-eq, drop-cons}
+use lib.IntN.{ℤ, pos}
+use Rattle.span.specs.Span.{Span, span, Upto}
+use Rattle.span.specs.Operations.{gaps}
+use Rattle.key.specs.Rank.{rank, keyAt}
+use Rattle.key.specs.Range.{Kind}
+use Rattle.outcomes.specs.Stored.{Stored, spans, ranges, Sound}
+use Rattle.outcomes.specs.Outcomes.{over, writing, uncovered}
+use Rattle.outcomes.specs.declared.Counted.the-variants as Counted
+use Rattle.outcomes.proofs.Formed.{Formed, Shaped, formed, length-ranges, getD-ranges}
+use Rattle.gaps.specs.Walk.{wrote, startsOf, endsOf, Puts, walked, bare, rest, found, Places, First}
+use Rattle.gaps.proofs.Walk.{Ahead, walked-gaps}
+
+-- a gap does not depend on values
+abbrev plain : Span → Span
+plain x = span (x .lo) (x .hi) 0
+
+walked-plain : (c hi : ℕ) (xs : List Span) → walked c hi (map plain xs) ≡ walked c hi xs
+unfolding walked
+walked-plain c hi [] = refl
+walked-plain c hi (x ∷ xs) = rw (walked-plain (x .hi) hi xs)
+
+plain-spans : (kind : Kind) (ss es : List ℤ) (vs : List ℕ) → length es ≡ length ss → length vs ≡ length ss → bare kind ss es ≡ map plain (spans kind ss es vs)
+unfolding spans
+plain-spans kind [] es vs p q = refl
+plain-spans kind (s ∷ ss) [] vs p q = absurd (omega arith)
+plain-spans kind (s ∷ ss) (e ∷ es) [] p q = absurd (omega arith)
+plain-spans kind (s ∷ ss) (e ∷ es) (v ∷ vs) p q = rw (plain-spans kind ss es vs (omega arith) (omega arith))
+
+module _ {A B : Type 0} (f : A → B) where
+  map-take : (n : ℕ) (l : List A) → map f (take n l) ≡ take n (map f l)
+  map-take zero l = refl
+  map-take (suc n) [] = refl
+  map-take (suc n) (x ∷ xs) = rw (map-take n xs)
+
+  map-drop : (n : ℕ) (l : List A) → map f (drop n l) ≡ drop n (map f l)
+  map-drop zero l = refl
+  map-drop (suc n) [] = refl
+  map-drop (suc n) (x ∷ xs) = map-drop n xs
+
+-- the first p of a list end by c
+upto-take : (c p : ℕ) (d : Span) (xs : List Span) → p ≤ length xs → ((j : ℕ) → j < p → getD xs j d .hi ≤ c) → Upto c (take p xs)
+upto-take c zero d xs h f = tt
+upto-take c (suc p) d [] h f = tt
+upto-take c (suc p) d (x ∷ xs) h f = (f 0 (omega arith), upto-take c p d xs (omega arith) (λ j i. f (suc j) (omega arith)))
+
+ahead-drop : (c p : ℕ) (d : Span) (xs : List Span) → (p < length xs → c ≤ getD xs p d .hi) → Ahead c (drop p xs)
+ahead-drop c p d xs f = elim (decLt p (length xs)) [
+  | yes h ↦ rw (drop-cons xs p d h) (f h)
+  | no h ↦ rw (drop-of-length-le xs {i = p} (omega arith)) tt
+]
+
+-- a lent list with stores in its first places
+sets-over : (vs l : List ℤ) → length vs ≤ length l → sets l 0 vs ≡ over vs l
+sets-over vs l h = let n : 0 + length vs ≡ length vs = omega arith in rw n at (sets-eq vs l 0 (omega arith))
+
+-- the outer range is empty or reversed
+pub answers-empty : (kind : Kind) (m : Stored) (s e : ℤ) (os oe : List ℤ) → kind .past e ≤ rank s → wrote (Counted.Refused 1) os oe ≡ uncovered kind m s e os oe
+unfolding uncovered
+answers-empty kind m s e os oe h = rw (le-leb (kind .past e) (rank s) h)
+
+-- it is not
+real-range : (kind : Kind) (m : Stored) (s e : ℤ) (os oe : List ℤ) → rank s < kind .past e → writing kind (gaps (rank s) (kind .past e) (ranges kind m)) os oe ≡ uncovered kind m s e os oe
+unfolding uncovered
+real-range kind m s e os oe h = rw (lt-leb (kind .past e) (rank s) h)
+
+module _ (kind : Kind) (xs : List Span) (os oe : List ℤ) where
+  writes-none : min (length os) (length oe) < length xs → wrote (Counted.Refused 3) os oe ≡ writing kind xs os oe
+  unfolding writing
+  writes-none h = rw (lt-ltb (min (length os) (length oe)) (length xs) h)
+
+  writes-all : length xs ≤ length os → length xs ≤ length oe → wrote (Counted.Count (length xs)) (sets os 0 (startsOf xs)) (sets oe 0 (endsOf kind xs)) ≡ writing kind xs os oe
+  unfolding writing
+  writes-all h i =
+      let a = sets-over (startsOf xs) os (omega (arith, length-map xs (λ (x : Span). keyAt (x .lo)))) in
+      let b = sets-over (endsOf kind xs) oe (omega (arith, length-map xs (λ (x : Span). kind .ending (x .hi)))) in
+      rw (a, b, le-ltb (min (length os) (length oe)) (length xs) (omega arith))
+
+-- of a well-formed map
+module _ (kind : Kind) {m : Stored} (sound : Sound kind m) where
+  pub shape : Shaped (length (m .starts)) m
+  shape = record { starts = refl; ends = sound .ends-as; values = sound .values-as }
+
+  pub well : Formed kind (length (m .starts)) m
+  well = formed kind (length (m .starts)) m (sound .well)
+
+  end-at : (j : ℕ) → j < m .count → getD (ranges kind m) j (span 0 0 0) .hi ≡ kind .past (getD (m .ends) j (pos 0))
+  end-at j b = ap (λ (x : Span). x .hi) (getD-ranges kind (length (m .starts)) m shape (well .held) j (span 0 0 0) b)
+
+  rest-plain : (lo hi p : ℕ) → walked lo hi (rest kind (m .starts) (m .ends) (m .count) p) ≡ walked lo hi (drop p (ranges kind m))
+  unfolding rest ranges
+  rest-plain lo hi p =
+      let xs = spans kind (m .starts) (m .ends) (m .values) in
+      rw (plain-spans kind (m .starts) (m .ends) (m .values) (sound .ends-as) (sound .values-as), ← map-take plain (m .count) xs, ← map-drop plain p (take (m .count) xs))
+      (walked-plain lo hi (drop p (take (m .count) xs)))
+
+  module _ {p lo : ℕ} (first : First kind (m .ends) (m .count) lo p) where
+    pub places : Places (m .count) p (m .starts) (m .ends)
+    places = record { held = well .held; ends-as = sound .ends-as; from = first .within }
+
+    -- THE WALK from the first range that ends past lo finds the gaps
+    finds-gaps : (hi : ℕ) → lo < hi → walked lo hi (rest kind (m .starts) (m .ends) (m .count) p) ≡ gaps lo hi (ranges kind m)
+    finds-gaps hi h =
+        let xs = ranges kind m in
+        let n = length-ranges kind (length (m .starts)) m shape (well .held) in
+        let whole = take-append-drop p xs in
+        let ended : (j : ℕ) → j < p → getD xs j (span 0 0 0) .hi ≤ lo = λ j b. rw (end-at j (omega (arith, first .within))) (first .ended j b) in
+        let goes-on : p < length xs → lo ≤ getD xs p (span 0 0 0) .hi = λ b. rw (end-at p (omega arith)) (omega (arith, first .goes-on (omega arith))) in
+        rest-plain lo hi p
+        ∙ walked-gaps lo hi 0 (take p xs) (drop p xs) h (rw whole (well .tidy .ordered)) (upto-take lo p (span 0 0 0) xs (omega (arith, first .within)) ended) (ahead-drop lo p (span 0 0 0) xs goes-on)
+        ∙ ap (gaps lo hi) whole
+
+  -- THE ANSWERS where the outer range is not empty, by what was counted and written
+  module _ {p : ℕ} (s e : ℤ) (first : First kind (m .ends) (m .count) (rank s) p) (real : rank s < kind .past e) (os oe : List ℤ) {n : ℕ}
+      (count : n ≡ length (found kind (m .starts) (m .ends) (m .count) p s e)) where
+    pub answers-short : min (length os) (length oe) < n → wrote (Counted.Refused 3) os oe ≡ uncovered kind m s e os oe
+    answers-short h =
+        let c = rw (finds-gaps first (kind .past e) real) at count in
+        writes-none kind _ os oe (omega (arith, c)) ∙ real-range kind m s e os oe real
+
+    pub answers-done : {os₁ oe₁ : List ℤ} → n ≤ length os → n ≤ length oe → Puts kind 0 (found kind (m .starts) (m .ends) (m .count) p s e) os oe os₁ oe₁
+        → wrote (Counted.Count n) os₁ oe₁ ≡ uncovered kind m s e os oe
+    answers-done h i w =
+        let finds = finds-gaps first (kind .past e) real in
+        let c = rw finds at count in
+        rw (c, w .starts, w .ends, finds) (writes-all kind _ os oe (omega (arith, c)) (omega (arith, c)) ∙ real-range kind m s e os oe real)

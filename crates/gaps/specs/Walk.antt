@@ -1,0 +1,69 @@
+-- The walk that finds the gaps. `kind` is `halfOpen` or `inclusive`.
+use Prim.Native.Nat.{ℕ, _+_, _≤_, _<_}
+use mathlib.Core.Path.{_≡_}
+use mathlib.Core.Bool.{cond}
+use mathlib.Core.List.{List, [], _∷_, _++_, map}
+use lib.Dec.{leb}
+use lib.ListN.{length, getD, take, drop, replicate}
+use lib.Seq.{sets}
+use lib.IntN.{ℤ, pos}
+use Rattle.span.specs.Span.{Span, span, keep}
+use Rattle.key.specs.Rank.{rank, keyAt}
+use Rattle.key.specs.Range.{Kind}
+use Rattle.outcomes.specs.Stored.{spans}
+use Rattle.outcomes.specs.Outcomes.{Written}
+use Rattle.outcomes.specs.declared.Counted.{Counted}
+
+-- what a door answers, and what the two lent lists hold then
+abbrev pub wrote : Counted → List ℤ → List ℤ → Written
+wrote r ss es = record { answer = r; starts = ss; ends = es }
+
+-- the starts and the ends that are written for gaps
+abbrev pub startsOf : List Span → List ℤ
+startsOf xs = map (λ (x : Span). keyAt (x .lo)) xs
+
+abbrev pub endsOf : Kind → List Span → List ℤ
+endsOf kind xs = map (λ (x : Span). kind .ending (x .hi)) xs
+
+-- from place n on, two lent lists have room for gaps
+pub record Room (n : ℕ) (xs : List Span) (os oe : List ℤ) : Type 0 where
+  pub starts : n + length xs ≤ length os
+  pub ends : n + length xs ≤ length oe
+
+-- with the gaps written there, os and oe are os₁ and oe₁
+pub record Puts (kind : Kind) (n : ℕ) (xs : List Span) (os oe os₁ oe₁ : List ℤ) : Type 0 where
+  pub starts : os₁ ≡ sets os n (startsOf xs)
+  pub ends : oe₁ ≡ sets oe n (endsOf kind xs)
+
+-- the gap from c up to d, if there is one
+unfoldable pub gap : ℕ → ℕ → List Span
+gap c d = keep (span c d 0) []
+
+-- the gaps from c up to hi among ranges that ascend, of which none ends by c: one before each range, until a range reaches hi, and then one up to hi
+unfoldable pub walked : ℕ → ℕ → List Span → List Span
+walked c hi [] = span c hi 0 ∷ []
+walked c hi (x ∷ xs) = let more = walked (x .hi) hi xs in cond (leb hi (x .lo)) (span c hi 0 ∷ []) (gap c (x .lo) ++ cond (leb hi (x .hi)) [] more)
+
+-- the ranges of two columns, all with value 0: a gap does not depend on values
+abbrev pub bare : Kind → List ℤ → List ℤ → List Span
+bare kind ss es = spans kind ss es (replicate (length ss) 0)
+
+-- those of the first n places, from place k on
+unfoldable pub rest : Kind → List ℤ → List ℤ → ℕ → ℕ → List Span
+rest kind ss es n k = drop k (take n (bare kind ss es))
+
+-- what the walk from s to e finds that begins at place k
+abbrev pub found : Kind → List ℤ → List ℤ → ℕ → ℕ → ℤ → ℤ → List Span
+found kind ss es n k s e = walked (rank s) (kind .past e) (rest kind ss es n k)
+
+-- the places from k up to n are there in both lists
+pub record Places (n k : ℕ) (ss es : List ℤ) : Type 0 where
+  pub held : n ≤ length ss
+  pub ends-as : length es ≡ length ss
+  pub from : k ≤ n
+
+-- of the first n places, p is the first whose range ends past lo
+pub record First (kind : Kind) (es : List ℤ) (n lo p : ℕ) : Type 0 where
+  pub within : p ≤ n
+  pub ended : (j : ℕ) → j < p → kind .past (getD es j (pos 0)) ≤ lo
+  pub goes-on : p < n → lo < kind .past (getD es p (pos 0))

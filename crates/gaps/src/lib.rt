@@ -1,0 +1,29 @@
+// GAPS, for half-open ranges (mod half_open) and inclusive ones (mod inclusive): the maximal uncovered ranges inside an outer range.
+// They are counted first and written after, so nothing is written where the lent lists are too short.
+pub mod half_open;
+pub mod inclusive;
+
+ghost use mathlib.Core.Path.{_≡_};
+ghost use Prim.Native.Nat.{_<_};
+ghost use lib.ListN.{length, set};
+ghost use Rattle.key.specs.Rank.{rank};
+ghost use Rattle.gaps.specs.Walk.{gap};
+
+// How many gaps lie between the cursor, the first key that may be free, and the next range: one or none.
+pub fn between(cursor: i64, start: i64) -> usize
+    ensures { λ r. ⌜ r ≡ length (gap (rank cursor) (rank start)) ⌝ }
+{
+    if cursor < start {
+        return 1;
+    }
+    0
+}
+
+// Writes a gap into place `n` of the two lent lists.
+pub fn put(out_starts: &mut [i64], out_ends: &mut [i64], n: usize, start: i64, end: i64)
+    requires { ⌜ (n < length (now «out_starts»)) × (n < length (now «out_ends»)) ⌝ }
+    ensures { λ _. ⌜ (now («out_starts» .exit) ≡ set (now («out_starts» .entry)) n start) × (now («out_ends» .exit) ≡ set (now («out_ends» .entry)) n end) ⌝ }
+{
+    out_starts[n] = start;
+    out_ends[n] = end;
+}

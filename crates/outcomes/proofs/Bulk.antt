@@ -1,0 +1,79 @@
+-- Bulk insert: one entry, as a loop takes it.
+use Prim.Native.Nat.{ℕ, zero, suc, _≤_, _<_, min}
+use native.Mathlib.Omega.{arith}
+use mathlib.Core.Path.{_≡_, refl, sym, ap, subst, _∙_}
+use mathlib.Core.Bool.{Bool, true, false, cond}
+use mathlib.Core.List.{List, [], _∷_}
+use mathlib.Core.Option.{some}
+use borrow.Author.Tests.{eq-eqb, ne-eqb}
+use lib.Dec.{leb, ltb}
+use lib.ListN.{length, getD}
+use lib.IntN.{ℤ, pos}
+use Rattle.key.specs.Rank.{rank}
+use Rattle.key.specs.Range.{Kind}
+use Rattle.key.proofs.Lawful.{Lawful}
+use Rattle.span.specs.Span.{given}
+use Rattle.outcomes.specs.Stored.{places, Stored, ranges, storing, Sound}
+use Rattle.outcomes.specs.Outcomes.{Entry, entries, Edited, leaving, editing, extended, inserts}
+use Rattle.outcomes.proofs.Formed.{formed}
+use Rattle.outcomes.proofs.Edits.{done, edit-sound, edit-length}
+
+abbrev entry : ℤ → ℤ → ℕ → Entry
+entry s e v = record { start = s; end = e; value = v }
+
+-- the entries of three lists: as many as the shortest has, place by place
+pub length-entries : (ss es : List ℤ) (vs : List ℕ) → length (entries ss es vs) ≡ min (min (length ss) (length es)) (length vs)
+unfolding entries
+length-entries [] es vs = omega arith
+length-entries (s ∷ ss) [] vs = omega arith
+length-entries (s ∷ ss) (e ∷ es) [] = omega arith
+length-entries (s ∷ ss) (e ∷ es) (v ∷ vs) = omega (arith, length-entries ss es vs)
+
+-- the entry at a place of three lists
+abbrev pub entry-at : List ℤ → List ℤ → List ℕ → ℕ → Entry
+entry-at ss es vs k = entry (getD ss k (pos 0)) (getD es k (pos 0)) (getD vs k 0)
+
+pub getD-entries : (ss es : List ℤ) (vs : List ℕ) (k : ℕ) → k < length (entries ss es vs)
+    → getD (entries ss es vs) k (entry (pos 0) (pos 0) 0) ≡ entry-at ss es vs k
+unfolding entries
+getD-entries [] es vs k h = absurd (omega arith)
+getD-entries (s ∷ ss) [] vs k h = absurd (omega arith)
+getD-entries (s ∷ ss) (e ∷ es) [] k h = absurd (omega arith)
+getD-entries (s ∷ ss) (e ∷ es) (v ∷ vs) zero h = refl
+getD-entries (s ∷ ss) (e ∷ es) (v ∷ vs) (suc k) h = getD-entries ss es vs k (omega arith)
+
+module _ (kind : Kind) (m : Stored) (i : ℕ) (x : Entry) (xs : List Entry) {a : ℕ} {left : Stored}
+    (is : leaving a left ≡ editing kind places m (x .start) (x .end) (some (x .value))) where
+  answer-is : editing kind places m (x .start) (x .end) (some (x .value)) .answer ≡ a
+  answer-is = ap (λ (o : Edited). o .answer) (sym is)
+
+  left-is : editing kind places m (x .start) (x .end) (some (x .value)) .left ≡ left
+  left-is = ap (λ (o : Edited). o .left) (sym is)
+
+  -- a refused entry leaves the map as it was
+  unchanged : (a ≡ 0 → ⊥) → left ≡ m
+  unfolding editing
+  unchanged n = sym left-is ∙ go (leb (kind .past (x .end)) (rank (x .start))) (ltb places (length (given (rank (x .start)) (kind .past (x .end)) (some (x .value)) (ranges kind m)))) answer-is
+    where
+      go : (t u : Bool)
+          → cond t (leaving 1 m) (cond u (leaving 2 m) (leaving 0 (storing kind places (given (rank (x .start)) (kind .past (x .end)) (some (x .value)) (ranges kind m))))) .answer ≡ a
+          → cond t (leaving 1 m) (cond u (leaving 2 m) (leaving 0 (storing kind places (given (rank (x .start)) (kind .past (x .end)) (some (x .value)) (ranges kind m))))) .left ≡ m
+      go true u e = refl
+      go false true e = refl
+      go false false e = absurd (n (sym e))
+
+  pub entry-refused : (a ≡ 0 → ⊥) → extended (record { answer = a; applied = i }) left ≡ inserts kind m i (x ∷ xs)
+  unfolding inserts
+  entry-refused n = rw (answer-is, ne-eqb a 0 n, unchanged n)
+
+  pub entry-done : a ≡ 0 → inserts kind left (suc i) xs ≡ inserts kind m i (x ∷ xs)
+  unfolding inserts
+  entry-done e = rw (answer-is, eq-eqb a 0 e, left-is)
+
+  pub entry-sound : Lawful kind → Sound kind m → a ≡ 0 → Sound kind left × (length (left .starts) ≡ places)
+  entry-sound law sound e =
+      let d = done kind places m (x .start) (x .end) (some (x .value)) (answer-is ∙ e) in
+      let t = formed kind (length (m .starts)) m (sound .well) .tidy in (
+        subst (Sound kind) left-is (edit-sound kind law places m t (x .start) (x .end) (some (x .value)) d),
+        ap (λ (r : Stored). length (r .starts)) (sym left-is) ∙ edit-length kind law places m t (x .start) (x .end) (some (x .value)) d,
+      )
