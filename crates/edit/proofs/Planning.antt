@@ -20,6 +20,7 @@ use Rattle.span.proofs.Local.{EndsBefore, leftEdge, rightEdge, given-local}
 use Rattle.key.specs.Rank.{rank}
 use Rattle.key.specs.Range.{Kind, rangeOf}
 use Rattle.key.specs.Decides.{Decides}
+use Rattle.key.proofs.Answers.{never}
 use Rattle.key.proofs.Lawful.{Lawful}
 use Rattle.splice.specs.declared.Entry.{Entry}
 use Rattle.outcomes.specs.Stored.{Stored, spans, ranges, AllFit, Sound}
@@ -122,6 +123,10 @@ module _ (xs : List Span) (lo hi : ℕ) (new : Option ℕ) (from to : ℕ) (ns :
 abbrev pub entrySpan : Kind → Entry → Span
 entrySpan kind x = rangeOf kind (x .start) (x .end) (x .value)
 
+-- from where it starts to where it ends
+pub from-to : (kind : Kind) (x : Entry) {a b : ℕ} → rank (x .start) ≡ a → kind .past (x .end) ≡ b → entrySpan kind x ≡ span a b (x .value)
+from-to kind x p q = rw (p, q)
+
 -- a span put in front, if it is kept
 abbrev with : Bool → Span → List Span → List Span
 with true x xs = x ∷ xs
@@ -159,6 +164,17 @@ pub right-key-fits : {end last key : ℤ} {q v : ℕ} {k : Bool} → RightSide e
 right-key-fits (r-clear h) f g = f
 right-key-fits (r-joined h e) f g = g
 right-key-fits (r-kept h n) f g = f
+
+-- what is kept on a side lies beyond the new range
+pub left-beyond : {first start key : ℤ} {p v : ℕ} {k : Bool} → LeftSide first start p v k key → k ≡ true → rank first < rank start
+left-beyond (l-clear h) t = never t
+left-beyond (l-joined h e) t = h
+left-beyond (l-kept h n) t = h
+
+pub right-beyond : {end last key : ℤ} {q v : ℕ} {k : Bool} → RightSide end last q v k key → k ≡ true → rank end < rank last
+right-beyond (r-clear h) t = never t
+right-beyond (r-joined h e) t = h
+right-beyond (r-kept h n) t = h
 
 -- REMOVE: a part that is cut off is kept, unless it is empty
 keep-with : (a b p : ℕ) (k : Bool) → Decides k (a < b) → keep (span a b p) [] ≡ with k (span a b p) []

@@ -1,5 +1,5 @@
 -- A plan says which places an edit replaces, and by what. These definitions serve the proofs of insert and remove; what those promise is in `outcomes`.
-use Prim.Native.Nat.{ℕ, _+_, _-_, _≤_, _<_}
+use Prim.Native.Nat.{ℕ, suc, _+_, _-_, _≤_, _<_}
 use mathlib.Core.Path.{_≡_}
 use mathlib.Core.Bool.{Bool, true, false, cond}
 use mathlib.Core.List.{List, [], _∷_, _++_}
@@ -79,6 +79,12 @@ pub record Before (ends : List ℤ) (count : ℕ) (key : ℤ) (n : ℕ) : Type 0
   pub within : n ≤ count
   pub less : (k : ℕ) → k < n → rank (getD ends k (pos 0)) < rank key
   pub more : (k : ℕ) → n ≤ k → k < count → rank key ≤ rank (getD ends k (pos 0))
+
+-- n of the first ends leave a key between themselves and a key, and no more: an inclusive range that ends just before a key touches it
+pub record Parted (ends : List ℤ) (count : ℕ) (key : ℤ) (n : ℕ) : Type 0 where
+  pub within : n ≤ count
+  pub less : (k : ℕ) → k < n → suc (rank (getD ends k (pos 0))) < rank key
+  pub more : (k : ℕ) → n ≤ k → k < count → rank key ≤ suc (rank (getD ends k (pos 0)))
 
 -- the starts from place `from` up to n are at most a key, and the next is not
 pub record Begun (starts : List ℤ) (from count : ℕ) (key : ℤ) (n : ℕ) : Type 0 where

@@ -1,6 +1,7 @@
 // What insert and remove of both kinds of map share: a plan says which places go and which ranges come, and one function carries it out.
 // Nothing is written before the answer is known.
 pub mod half_open;
+pub mod inclusive;
 mod met;
 mod sides;
 

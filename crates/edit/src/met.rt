@@ -19,7 +19,8 @@ pub fn short_of(ends: &[i64], count: usize, key: i64) -> usize
     if key == key::LEAST {
         return 0;
     }
-    places::search::ended(ends, count, key::prev(key))
+    let before = key::prev(key);
+    places::search::ended(ends, count, before)
 }
 
 // The first place from `from` on that starts after `key`.

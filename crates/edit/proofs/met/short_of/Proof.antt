@@ -1,29 +1,19 @@
 -- `edit::met::short_of` meets its contract.
 use native.Mathlib.Omega.{arith}
-use mathlib.Core.Path.{_≡_, ap}
-use Prim.Native.Nat.{_<_, _^_, _-_}
-use native.Mathlib.Decide.{decLt}
-use lib.IntN.{negsuc}
-use mir.Facts.{sfits-lit}
-use Rattle.key.specs.Rank.{rank, bitRank}
-use Rattle.key.proofs.Laws.{rank-back, rank-least, rank-ne}
+use mathlib.Core.Path.{ap}
+use Rattle.key.specs.Rank.{bitRank}
+use Rattle.key.proofs.Laws.{rank-back, rank-least}
 use Rattle.places.proofs.Seeking.{passed-facts, passed-after}
+use Rattle.edit.proofs.Places.{above-least}
 use borrow.Author.Needs.{needs}
 use Rattle.edit.proofs.met.short_of.Statement.{statement}
 use Rattle.edit.proofs.met.short_of.Tie as tie
-
--- a key that is not the least has one before it
-not-least : (c : tie.Else1) → 0 < rank (c .before .args .key)
-not-least c = elim (decLt 0 (rank (c .before .args .key))) [
-  | yes p ↦ p
-  | no p ↦ absurd (rank-ne {b = negsuc (2 ^ 63 - 1)} (c .before .fits .key) (sfits-lit tt) (c .if1 .left) (omega (arith, rank-least)))
-]
 
 returns : tie.Need-returns
 returns c = record { within = omega arith; less = λ k h. absurd (omega arith); more = λ k h b. omega (arith, ap bitRank (c .if1 .taken), rank-least) }
 
 prev-requires : tie.Need-prev-requires
-prev-requires c κs = simp rank-back (not-least c)
+prev-requires c κs = simp rank-back (above-least (c .before .fits .key) (c .if1 .left))
 
 ended-requires : tie.Need-ended-requires
 ended-requires c κs = search needs

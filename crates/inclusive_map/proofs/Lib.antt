@@ -1,0 +1,2 @@
+-- Maps: the map as the thin functions lend it.
+pub mod Maps

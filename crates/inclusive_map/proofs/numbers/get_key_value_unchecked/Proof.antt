@@ -1,0 +1,20 @@
+-- `inclusive_map::numbers::get_key_value_unchecked` meets its contract.
+use mathlib.Core.Path.{ap, _∙_}
+use mir.Facts.{toZ-ofZ}
+use Rattle.outcomes.specs.Numbers.{rangeOf}
+use borrow.Author.Needs.{needs}
+use Rattle.inclusive_map.proofs.numbers.get_key_value_unchecked.Statement.{statement}
+use Rattle.inclusive_map.proofs.numbers.get_key_value_unchecked.Tie as tie
+
+get-key-value-requires : tie.Need-get-key-value-requires
+get-key-value-requires c κs = search needs
+
+range-of-requires : tie.Need-range-of-requires
+range-of-requires c κs = search needs
+
+returns : tie.Need-returns
+returns c = c .range-of .ensures ∙ ap rangeOf (rw (toZ-ofZ (c .before .before .before .before .before .before .fits .key)) at (c .before .get-key-value .ensures))
+
+pub get-key-value-unchecked-spec : {M : Type 1} → statement M
+get-key-value-unchecked-spec =
+    tie.close (tie.spec get-key-value-requires range-of-requires returns)

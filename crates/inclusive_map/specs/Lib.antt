@@ -1,0 +1,2 @@
+-- What a reader must believe of the inclusive map: how a struct in memory is a map. What each function answers is in `outcomes`.
+pub mod Map

@@ -1,0 +1,318 @@
+// The same answers as structs of numbers: what C and Rust see.
+use outcomes::Applied;
+use outcomes::Count;
+use outcomes::Order;
+use outcomes::PLACES;
+use outcomes::Range;
+use outcomes::Stretch;
+use outcomes::Told;
+use outcomes::count_of;
+use outcomes::order_of;
+use outcomes::range_of;
+use outcomes::stretch_of;
+use outcomes::told_of;
+ghost use mathlib.Core.Path.{_≡_};
+ghost use Rattle.key.specs.Range.{inclusive};
+ghost use mathlib.Core.Option.{some, none};
+ghost use Rattle.outcomes.specs.Stored.{places, lent, Sound};
+ghost use Rattle.outcomes.specs.Numbers.{toldOf, countOf, rangeOf, stretchOf, orderOf};
+ghost use Rattle.outcomes.specs.Outcomes.{Listed, cleared, containing, counting, editing, entries, equality, extended, extending, firstOf, formed, found, gapsIn, inserting, isEmpty, lastOf, leaving, lookup, meeting, ordering, overlapping, rangeAt, removing, uncovered};
+
+pub fn is_empty<'a>(
+    count: &'a usize,
+    starts: &'a [i64; PLACES],
+    ends: &'a [i64; PLACES],
+    values: &'a [u8; PLACES],
+) -> Told
+    ensures { λ r. ⌜ r ≡ toldOf (isEmpty inclusive (lent (count .entry) (starts .entry) (ends .entry) (values .entry))) ⌝ }
+{
+    told_of(crate::cores::is_empty(count, starts, ends, values))
+}
+
+pub fn len<'a>(
+    count: &'a usize,
+    starts: &'a [i64; PLACES],
+    ends: &'a [i64; PLACES],
+    values: &'a [u8; PLACES],
+) -> Count
+    ensures { λ r. ⌜ r ≡ countOf (counting inclusive (lent (count .entry) (starts .entry) (ends .entry) (values .entry))) ⌝ }
+{
+    count_of(crate::cores::len(count, starts, ends, values))
+}
+
+pub fn range_at<'a>(
+    count: &'a usize,
+    starts: &'a [i64; PLACES],
+    ends: &'a [i64; PLACES],
+    values: &'a [u8; PLACES],
+    place: usize,
+) -> Range
+    ensures { λ r. ⌜ r ≡ rangeOf (rangeAt inclusive (lent (count .entry) (starts .entry) (ends .entry) (values .entry)) place) ⌝ }
+{
+    range_of(crate::cores::range_at(count, starts, ends, values, place))
+}
+
+pub fn first_range_value<'a>(
+    count: &'a usize,
+    starts: &'a [i64; PLACES],
+    ends: &'a [i64; PLACES],
+    values: &'a [u8; PLACES],
+) -> Range
+    ensures { λ r. ⌜ r ≡ rangeOf (firstOf inclusive (lent (count .entry) (starts .entry) (ends .entry) (values .entry))) ⌝ }
+{
+    range_of(crate::cores::first_range_value(count, starts, ends, values))
+}
+
+pub fn last_range_value<'a>(
+    count: &'a usize,
+    starts: &'a [i64; PLACES],
+    ends: &'a [i64; PLACES],
+    values: &'a [u8; PLACES],
+) -> Range
+    ensures { λ r. ⌜ r ≡ rangeOf (lastOf inclusive (lent (count .entry) (starts .entry) (ends .entry) (values .entry))) ⌝ }
+{
+    range_of(crate::cores::last_range_value(count, starts, ends, values))
+}
+
+pub fn get_key_value<'a>(
+    count: &'a usize,
+    starts: &'a [i64; PLACES],
+    ends: &'a [i64; PLACES],
+    values: &'a [u8; PLACES],
+    key: i64,
+) -> Range
+    ensures { λ r. ⌜ r ≡ rangeOf (lookup inclusive (lent (count .entry) (starts .entry) (ends .entry) (values .entry)) key) ⌝ }
+{
+    range_of(crate::cores::get_key_value(count, starts, ends, values, key))
+}
+
+pub fn contains_key<'a>(
+    count: &'a usize,
+    starts: &'a [i64; PLACES],
+    ends: &'a [i64; PLACES],
+    values: &'a [u8; PLACES],
+    key: i64,
+) -> Told
+    ensures { λ r. ⌜ r ≡ toldOf (containing inclusive (lent (count .entry) (starts .entry) (ends .entry) (values .entry)) key) ⌝ }
+{
+    told_of(crate::cores::contains_key(count, starts, ends, values, key))
+}
+
+pub fn overlaps<'a>(
+    count: &'a usize,
+    starts: &'a [i64; PLACES],
+    ends: &'a [i64; PLACES],
+    values: &'a [u8; PLACES],
+    start: i64,
+    end: i64,
+) -> Told
+    ensures { λ r. ⌜ r ≡ toldOf (meeting inclusive (lent (count .entry) (starts .entry) (ends .entry) (values .entry)) start end) ⌝ }
+{
+    told_of(crate::cores::overlaps(count, starts, ends, values, start, end))
+}
+
+pub fn overlapping<'a>(
+    count: &'a usize,
+    starts: &'a [i64; PLACES],
+    ends: &'a [i64; PLACES],
+    values: &'a [u8; PLACES],
+    start: i64,
+    end: i64,
+) -> Stretch
+    ensures { λ r. ⌜ r ≡ stretchOf (overlapping inclusive (lent (count .entry) (starts .entry) (ends .entry) (values .entry)) start end) ⌝ }
+{
+    stretch_of(crate::cores::overlapping(count, starts, ends, values, start, end))
+}
+
+pub fn gaps<'a>(
+    count: &'a usize,
+    starts: &'a [i64; PLACES],
+    ends: &'a [i64; PLACES],
+    values: &'a [u8; PLACES],
+    start: i64,
+    end: i64,
+    out_starts: &mut [i64],
+    out_ends: &mut [i64],
+) -> Count
+    ensures { λ r. ⌜ Listed r (now («out_starts» .exit)) (now («out_ends» .exit)) (gapsIn inclusive (lent (count .entry) (starts .entry) (ends .entry) (values .entry)) start end (now («out_starts» .entry)) (now («out_ends» .entry))) ⌝ }
+{
+    count_of(crate::cores::gaps(
+        count,
+        starts,
+        ends,
+        values,
+        start,
+        end,
+        out_starts,
+        out_ends,
+    ))
+}
+
+pub fn eq<'a, 'b>(
+    count: &'a usize,
+    starts: &'a [i64; PLACES],
+    ends: &'a [i64; PLACES],
+    values: &'a [u8; PLACES],
+    count2: &'b usize,
+    starts2: &'b [i64; PLACES],
+    ends2: &'b [i64; PLACES],
+    values2: &'b [u8; PLACES],
+) -> Told
+    ensures { λ r. ⌜ r ≡ toldOf (equality inclusive (lent (count .entry) (starts .entry) (ends .entry) (values .entry)) (lent (count2 .entry) (starts2 .entry) (ends2 .entry) (values2 .entry))) ⌝ }
+{
+    told_of(crate::cores::eq(count, starts, ends, values, count2, starts2, ends2, values2))
+}
+
+pub fn cmp<'a, 'b>(
+    count: &'a usize,
+    starts: &'a [i64; PLACES],
+    ends: &'a [i64; PLACES],
+    values: &'a [u8; PLACES],
+    count2: &'b usize,
+    starts2: &'b [i64; PLACES],
+    ends2: &'b [i64; PLACES],
+    values2: &'b [u8; PLACES],
+) -> Order
+    ensures { λ r. ⌜ r ≡ orderOf (ordering inclusive (lent (count .entry) (starts .entry) (ends .entry) (values .entry)) (lent (count2 .entry) (starts2 .entry) (ends2 .entry) (values2 .entry))) ⌝ }
+{
+    order_of(crate::cores::cmp(count, starts, ends, values, count2, starts2, ends2, values2))
+}
+
+pub fn insert<'a>(
+    count: &'a mut usize,
+    starts: &'a mut [i64; PLACES],
+    ends: &'a mut [i64; PLACES],
+    values: &'a mut [u8; PLACES],
+    start: i64,
+    end: i64,
+    value: u8,
+) -> u8
+    ensures { λ r. ⌜ leaving r (lent (count .exit) (starts .exit) (ends .exit) (values .exit)) ≡ inserting inclusive (lent (count .entry) (starts .entry) (ends .entry) (values .entry)) start end value ⌝ }
+{
+    crate::cores::insert(count, starts, ends, values, start, end, value)
+}
+
+pub fn remove<'a>(
+    count: &'a mut usize,
+    starts: &'a mut [i64; PLACES],
+    ends: &'a mut [i64; PLACES],
+    values: &'a mut [u8; PLACES],
+    start: i64,
+    end: i64,
+) -> u8
+    ensures { λ r. ⌜ leaving r (lent (count .exit) (starts .exit) (ends .exit) (values .exit)) ≡ removing inclusive (lent (count .entry) (starts .entry) (ends .entry) (values .entry)) start end ⌝ }
+{
+    crate::cores::remove(count, starts, ends, values, start, end)
+}
+
+pub fn clear<'a>(
+    count: &'a mut usize,
+    starts: &'a mut [i64; PLACES],
+    ends: &'a mut [i64; PLACES],
+    values: &'a mut [u8; PLACES],
+)
+    ensures { λ _. ⌜ (lent (count .exit) (starts .exit) (ends .exit) (values .exit)) ≡ cleared inclusive ⌝ }
+{
+    crate::cores::clear(count, starts, ends, values)
+}
+
+pub fn extend<'a>(
+    count: &'a mut usize,
+    starts: &'a mut [i64; PLACES],
+    ends: &'a mut [i64; PLACES],
+    values: &'a mut [u8; PLACES],
+    new_starts: &[i64],
+    new_ends: &[i64],
+    new_values: &[u8],
+) -> Applied
+    ensures { λ r. ⌜ extended r (lent (count .exit) (starts .exit) (ends .exit) (values .exit)) ≡ extending inclusive (lent (count .entry) (starts .entry) (ends .entry) (values .entry)) (entries (now («new_starts» .entry)) (now («new_ends» .entry)) (now («new_values» .entry))) ⌝ }
+{
+    crate::bulk::extend(
+        count,
+        starts,
+        ends,
+        values,
+        new_starts,
+        new_ends,
+        new_values,
+    )
+}
+
+pub fn is_formed<'a>(
+    count: &'a usize,
+    starts: &'a [i64; PLACES],
+    ends: &'a [i64; PLACES],
+    values: &'a [u8; PLACES],
+) -> bool
+    ensures { λ r. ⌜ r ≡ formed inclusive (lent (count .entry) (starts .entry) (ends .entry) (values .entry)) ⌝ }
+{
+    crate::cores::is_formed(*count, starts, ends, values)
+}
+
+// The inner doors.
+pub fn get_key_value_unchecked<'a>(
+    count: &'a usize,
+    starts: &'a [i64; PLACES],
+    ends: &'a [i64; PLACES],
+    values: &'a [u8; PLACES],
+    key: i64,
+) -> Range
+    requires { ⌜ Sound inclusive (lent count starts ends values) ⌝ }
+    ensures { λ r. ⌜ r ≡ rangeOf (found inclusive (lent (count .entry) (starts .entry) (ends .entry) (values .entry)) key) ⌝ }
+{
+    range_of(lookup::inclusive::get_key_value(*count, starts, ends, values, key))
+}
+
+pub fn gaps_unchecked<'a>(
+    count: &'a usize,
+    starts: &'a [i64; PLACES],
+    ends: &'a [i64; PLACES],
+    values: &'a [u8; PLACES],
+    start: i64,
+    end: i64,
+    out_starts: &mut [i64],
+    out_ends: &mut [i64],
+) -> Count
+    requires { ⌜ Sound inclusive (lent count starts ends values) ⌝ }
+    ensures { λ r. ⌜ Listed r (now («out_starts» .exit)) (now («out_ends» .exit)) (uncovered inclusive (lent (count .entry) (starts .entry) (ends .entry) (values .entry)) start end (now («out_starts» .entry)) (now («out_ends» .entry))) ⌝ }
+{
+    count_of(gaps::inclusive::gaps(
+        *count,
+        starts,
+        ends,
+        values,
+        start,
+        end,
+        out_starts,
+        out_ends,
+    ))
+}
+
+pub fn insert_unchecked<'a>(
+    count: &'a mut usize,
+    starts: &'a mut [i64; PLACES],
+    ends: &'a mut [i64; PLACES],
+    values: &'a mut [u8; PLACES],
+    start: i64,
+    end: i64,
+    value: u8,
+) -> u8
+    requires { ⌜ Sound inclusive (lent count starts ends values) ⌝ }
+    ensures { λ r. ⌜ leaving r (lent (count .exit) (starts .exit) (ends .exit) (values .exit)) ≡ editing inclusive places (lent (count .entry) (starts .entry) (ends .entry) (values .entry)) start end (some value) ⌝ }
+{
+    crate::unchecked::insert(count, starts, ends, values, start, end, value)
+}
+
+pub fn remove_unchecked<'a>(
+    count: &'a mut usize,
+    starts: &'a mut [i64; PLACES],
+    ends: &'a mut [i64; PLACES],
+    values: &'a mut [u8; PLACES],
+    start: i64,
+    end: i64,
+) -> u8
+    requires { ⌜ Sound inclusive (lent count starts ends values) ⌝ }
+    ensures { λ r. ⌜ leaving r (lent (count .exit) (starts .exit) (ends .exit) (values .exit)) ≡ editing inclusive places (lent (count .entry) (starts .entry) (ends .entry) (values .entry)) start end none ⌝ }
+{
+    crate::unchecked::remove(count, starts, ends, values, start, end)
+}
