@@ -1,20 +1,21 @@
 -- Bulk insert: one entry, as a loop takes it.
-use Prim.Native.Nat.{ℕ, zero, suc, _≤_, _<_, min}
+use Prim.Native.Nat.{ℕ, zero, suc, _-_, _≤_, _<_, min}
 use native.Mathlib.Omega.{arith}
+use native.Mathlib.Decide.{decLt}
 use mathlib.Core.Path.{_≡_, refl, sym, ap, subst, _∙_}
 use mathlib.Core.Bool.{Bool, true, false, cond}
-use mathlib.Core.List.{List, [], _∷_}
-use mathlib.Core.Option.{some}
+use mathlib.Core.List.{List, [], _∷_, map}
+use mathlib.Core.Option.{Option, some}
 use borrow.Author.Tests.{eq-eqb, ne-eqb}
 use lib.Dec.{leb, ltb}
-use lib.ListN.{length, getD}
+use lib.ListN.{length, getD, take}
 use lib.IntN.{ℤ, pos}
 use Rattle.key.specs.Rank.{rank}
 use Rattle.key.specs.Range.{Kind}
 use Rattle.key.proofs.Lawful.{Lawful}
 use Rattle.span.specs.Span.{given}
-use Rattle.outcomes.specs.Stored.{places, Stored, ranges, storing, Sound}
-use Rattle.outcomes.specs.Outcomes.{Entry, entries, Edited, leaving, editing, extended, inserts}
+use Rattle.outcomes.specs.Stored.{places, Stored, ranges, storing, wellFormed, Sound}
+use Rattle.outcomes.specs.Outcomes.{Entry, entries, Edited, leaving, editing, edited, extended, inserts, Change, run}
 use Rattle.outcomes.proofs.Formed.{formed}
 use Rattle.outcomes.proofs.Edits.{done, edit-sound, edit-length}
 
@@ -77,3 +78,52 @@ module _ (kind : Kind) (m : Stored) (i : ℕ) (x : Entry) (xs : List Entry) {a :
         subst (Sound kind) left-is (edit-sound kind law places m t (x .start) (x .end) (some (x .value)) d),
         ap (λ (r : Stored). length (r .starts)) (sym left-is) ∙ edit-length kind law places m t (x .start) (x .end) (some (x .value)) d,
       )
+
+-- an edit of a well-formed map
+edited-well : (kind : Kind) (m : Stored) (s e : ℤ) (new : Option ℕ) → wellFormed kind places m ≡ true → edited kind m s e new ≡ editing kind places m s e new
+unfolding edited
+edited-well kind m s e new w = rw w
+
+-- BULK INSERT is that many single inserts, none refused
+abbrev pub single : Entry → Change
+single x = record { start = x .start; end = x .end; new = some (x .value) }
+
+module _ (kind : Kind) (law : Lawful kind) where
+  pub record Singles (m : Stored) (n : ℕ) (es : List Entry) : Type 0 where
+    pub from : n ≤ inserts kind m n es .told .applied
+    pub same : run kind m (map single (take (inserts kind m n es .told .applied - n) es)) ≡ leaving 0 (inserts kind m n es .left)
+
+  none-taken : (n : ℕ) (es : List Entry) → take (n - n) es ≡ []
+  none-taken n es = let z : n - n ≡ 0 = omega arith in rw z
+
+  singles : (m : Stored) (n : ℕ) (es : List Entry) → Sound kind m → length (m .starts) ≡ places → Singles m n es
+  unfolding inserts run
+  singles m n [] s p = record { from = omega arith; same = rw (none-taken n []) }
+  singles m n (x ∷ xs) s p =
+      let one = editing kind places m (x .start) (x .end) (some (x .value)) in
+      elim (decLt 0 (one .answer)) [
+        | no p0 ↦
+            let e : one .answer ≡ 0 = omega arith in
+            let (sound, len) = entry-sound kind m n x xs {a = one .answer} {left = one .left} refl law s e in
+            let r = singles (one .left) (suc n) xs sound len in
+            let is : inserts kind m n (x ∷ xs) ≡ inserts kind (one .left) (suc n) xs = sym (entry-done kind m n x xs {a = one .answer} {left = one .left} refl e) in
+            let k = inserts kind (one .left) (suc n) xs .told .applied in
+            let f = r .from in
+            let t : k - n ≡ suc (k - suc n) = omega arith in
+            let w : wellFormed kind places m ≡ true = subst (λ (j : ℕ). wellFormed kind j m ≡ true) p (s .well) in
+            record {
+              from = rw is (omega arith);
+              same = rw (is, t, edited-well kind m (x .start) (x .end) (some (x .value)) w, eq-eqb (one .answer) 0 e) (r .same);
+            }
+        | yes p0 ↦
+            let e : one .answer ≡ 0 → ⊥ = omega arith in
+            let is : inserts kind m n (x ∷ xs) ≡ extended (record { answer = one .answer; applied = n }) (one .left) = sym (entry-refused kind m n x xs {a = one .answer} {left = one .left} refl e) in
+            record { from = rw is (omega arith); same = rw (is, none-taken n (x ∷ xs), unchanged kind m n x xs {a = one .answer} {left = one .left} refl e) }
+      ]
+
+  pub bulk-singles : (m : Stored) (es : List Entry) → Sound kind m → length (m .starts) ≡ places
+      → run kind m (map single (take (inserts kind m 0 es .told .applied) es)) ≡ leaving 0 (inserts kind m 0 es .left)
+  bulk-singles m es s p =
+      let k = inserts kind m 0 es .told .applied in
+      let z : k - 0 ≡ k = omega arith in
+      rw z at (singles m 0 es s p .same)
