@@ -1,2 +1,3 @@
--- Maps: the map as the thin functions lend it.
+-- Held: a struct is what it stores. Maps: the map as the thin functions lend it.
+pub mod Held
 pub mod Maps
