@@ -58,6 +58,9 @@ ahead-drop c p d xs f = elim (decLt p (length xs)) [
   | no h ↦ rw (drop-of-length-le xs {i = p} (omega arith)) tt
 ]
 
+not-le : {a b : ℕ} → (a ≤ b → ⊥) → b < a
+not-le {a} {b} h = elim (decLt b a) [ yes p ↦ p | no p ↦ absurd (h (omega arith)) ]
+
 -- a lent list with stores in its first places
 sets-over : (vs l : List ℤ) → length vs ≤ length l → sets l 0 vs ≡ over vs l
 sets-over vs l h = let n : 0 + length vs ≡ length vs = omega arith in rw n at (sets-eq vs l 0 (omega arith))
@@ -118,17 +121,17 @@ module _ (kind : Kind) {m : Stored} (sound : Sound kind m) where
         ∙ walked-gaps lo hi 0 (take p xs) (drop p xs) h (rw whole (well .tidy .ordered)) (upto-take lo p (span 0 0 0) xs (omega (arith, first .within)) ended) (ahead-drop lo p (span 0 0 0) xs goes-on)
         ∙ ap (gaps lo hi) whole
 
-  -- THE ANSWERS where the outer range is not empty, by what was counted and written
-  module _ {p : ℕ} (s e : ℤ) (first : First kind (m .ends) (m .count) (rank s) p) (real : rank s < kind .past e) (os oe : List ℤ) {n : ℕ}
-      (count : n ≡ length (found kind (m .starts) (m .ends) (m .count) p s e)) where
-    pub answers-short : min (length os) (length oe) < n → wrote (Counted.Refused 3) os oe ≡ uncovered kind m s e os oe
+  -- THE ANSWERS where the outer range is not empty, by what the parts find. r is the room that there is
+  module _ {p : ℕ} (s e : ℤ) (first : First kind (m .ends) (m .count) (rank s) p) (real : rank s < kind .past e) (os oe : List ℤ) {r : ℕ} (room : r ≡ min (length os) (length oe)) where
+    pub answers-short : (length (found kind (m .starts) (m .ends) (m .count) p s e) ≤ r → ⊥) → wrote (Counted.Refused 3) os oe ≡ uncovered kind m s e os oe
     answers-short h =
-        let c = rw (finds-gaps first (kind .past e) real) at count in
-        writes-none kind _ os oe (omega (arith, c)) ∙ real-range kind m s e os oe real
+        let more = rw (finds-gaps first (kind .past e) real, room) at h in
+        writes-none kind _ os oe (not-le more) ∙ real-range kind m s e os oe real
 
-    pub answers-done : {os₁ oe₁ : List ℤ} → n ≤ length os → n ≤ length oe → Puts kind 0 (found kind (m .starts) (m .ends) (m .count) p s e) os oe os₁ oe₁
+    pub answers-done : {n : ℕ} {os₁ oe₁ : List ℤ} → length (found kind (m .starts) (m .ends) (m .count) p s e) ≤ r
+        → (n ≡ length (found kind (m .starts) (m .ends) (m .count) p s e)) × Puts kind 0 (found kind (m .starts) (m .ends) (m .count) p s e) os oe os₁ oe₁
         → wrote (Counted.Count n) os₁ oe₁ ≡ uncovered kind m s e os oe
-    answers-done h i w =
+    answers-done h w =
         let finds = finds-gaps first (kind .past e) real in
-        let c = rw finds at count in
-        rw (c, w .starts, w .ends, finds) (writes-all kind _ os oe (omega (arith, c)) (omega (arith, c)) ∙ real-range kind m s e os oe real)
+        let fits = rw (finds, room) at h in
+        rw (w .0, w .1 .starts, w .1 .ends, finds) (writes-all kind _ os oe (omega (arith, fits)) (omega (arith, fits)) ∙ real-range kind m s e os oe real)

@@ -1,4 +1,4 @@
--- Walk (the walk finds the gaps), Steps (one step of the loops), Doors (what the doors answer).
+-- Walk (the walk of a tidy list finds its gaps), Steps (one step of the loops), Doors (what the doors answer).
 pub mod Walk
 pub mod Steps
 pub mod Doors

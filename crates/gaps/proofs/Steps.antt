@@ -5,7 +5,7 @@ use native.Mathlib.Decide.{decLt}
 use native.Mathlib.Numerals.{add-one}
 use mathlib.Core.Path.{_≡_, refl, sym, ap, _∙_}
 use mathlib.Core.List.{List, [], _∷_, _++_, map, append-nil, map-append}
-use lib.ListN.{length, getD, set, take, replicate, length-append, length-map, length-replicate, drop-of-length-le}
+use lib.ListN.{length, getD, set, take, replicate, length-append, length-map, length-replicate, length-drop, drop-of-length-le}
 use lib.Seq.{sets, length-sets, drop-cons, getD-take, length-take-le}
 use lib.IntN.{ℤ, pos, _-ℤ_}
 use mir.Syntax.{w64}
@@ -18,7 +18,7 @@ use Rattle.key.proofs.Laws.{rank-back, rank-prev, key-rank, toZ-fit}
 use Rattle.key.proofs.Lawful.{Lawful}
 use Rattle.outcomes.proofs.Formed.{length-spans, getD-spans}
 use Rattle.gaps.specs.Walk.{startsOf, endsOf, Room, Puts, gap, walked, bare, rest, Places}
-use Rattle.gaps.proofs.Walk.{gap-yes, gap-no, length-gap, walked-none, walked-stop, walked-last, walked-on}
+use Rattle.gaps.proofs.Walk.{gap-yes, gap-no, length-gap, length-walked, walked-none, walked-stop, walked-last, walked-on}
 
 -- the loop is at place k, the cursor at rank c, and so many gaps were found
 pub record Met (kind : Kind) (ss es : List ℤ) (n from lo hi k c found : ℕ) : Type 0 where
@@ -62,6 +62,11 @@ module _ (kind : Kind) {n from : ℕ} {ss es : List ℤ} (p : Places n from ss e
 
     found-on : k < n → start ss k < hi → past kind es k < hi → walked c hi (rest kind ss es n k) ≡ gap c (start ss k) ++ walked (past kind es k) hi (rest kind ss es n (k + 1))
     found-on b h i = rw (rest-more k b) (walked-on c hi _ _ h i)
+
+  -- at most one gap for each place, and one more
+  pub most : (lo hi : ℕ) → length (walked lo hi (rest kind ss es n from)) ≤ n - from + 1
+  unfolding rest
+  most lo hi = omega (arith, length-walked lo hi (rest kind ss es n from), length-drop from (take n (bare kind ss es)), length-all)
 
   -- COUNTING
   pub met-first : {lo hi : ℕ} → lo < hi → Met kind ss es n from lo hi from lo 0
@@ -144,12 +149,16 @@ module _ (kind : Kind) {n from : ℕ} {ss es : List ℤ} (p : Places n from ss e
     ]
 
     pub going-stop : {os₂ oe₂ : List ℤ} → (k < n → hi ≤ start ss k) → os₂ ≡ set os₁ found (keyAt c) → oe₂ ≡ set oe₁ found (kind .ending hi)
-        → Puts kind 0 (walked lo hi (rest kind ss es n from)) os oe os₂ oe₂
-    going-stop h s e = let stop = found-stop kind p c hi k h in record { starts = s ∙ (rw stop at (g .starts)); ends = e ∙ (rw stop at (g .ends)) }
+        → (found + 1 ≡ length (walked lo hi (rest kind ss es n from))) × Puts kind 0 (walked lo hi (rest kind ss es n from)) os oe os₂ oe₂
+    going-stop h s e =
+        let stop = found-stop kind p c hi k h in
+        (met-stop kind p (g .met) h, record { starts = s ∙ (rw stop at (g .starts)); ends = e ∙ (rw stop at (g .ends)) })
 
     module _ {r : ℕ} {os₂ oe₂ : List ℤ} (b : k < n) (h : start ss k < hi) (w : (r ≡ found + length (gap c (start ss k))) × Puts kind found (gap c (start ss k)) os₁ oe₁ os₂ oe₂) where
-      pub going-last : hi ≤ past kind es k → Puts kind 0 (walked lo hi (rest kind ss es n from)) os oe os₂ oe₂
-      going-last i = let last = found-last kind p c hi k b h i in record { starts = w .1 .starts ∙ (rw last at (g .starts)); ends = w .1 .ends ∙ (rw last at (g .ends)) }
+      pub going-last : hi ≤ past kind es k → (r ≡ length (walked lo hi (rest kind ss es n from))) × Puts kind 0 (walked lo hi (rest kind ss es n from)) os oe os₂ oe₂
+      going-last i =
+          let last = found-last kind p c hi k b h i in
+          (w .0 ∙ met-last kind p (g .met) b refl h i, record { starts = w .1 .starts ∙ (rw last at (g .starts)); ends = w .1 .ends ∙ (rw last at (g .ends)) })
 
       pub going-on : {c₁ : ℕ} → c₁ ≡ past kind es k → c₁ < hi → Going kind ss es os oe n from lo hi (k + 1) c₁ r os₂ oe₂
       going-on {c₁} q i =

@@ -1,5 +1,5 @@
 -- The walk finds the gaps: of a tidy list it makes what `gaps` says, for both kinds.
-use Prim.Native.Nat.{ℕ, _≤_, _<_}
+use Prim.Native.Nat.{ℕ, _+_, _≤_, _<_}
 use native.Mathlib.Omega.{arith}
 use mathlib.Core.Path.{_≡_, refl, sym, _∙_}
 use mathlib.Core.Bool.{cond}
@@ -7,7 +7,7 @@ use mathlib.Core.List.{List, [], _∷_, _++_}
 use mathlib.Core.Option.{Option, some, none}
 use borrow.Author.Tests.{lt-ltb, le-ltb, le-leb, lt-leb, leb-true, leb-false}
 use lib.Dec.{leb}
-use lib.ListN.{length}
+use lib.ListN.{length, length-append}
 use Rattle.span.specs.Span.{Span, span, inside, at, Ordered, Upto, Apart, Tidy, keep}
 use Rattle.span.specs.Operations.{gaps, unless}
 use Rattle.span.proofs.Tests.{cases, lt-cases, below, among, beyond, place, in-yes, in-no, in-same, in-cases}
@@ -52,6 +52,17 @@ module _ (c hi : ℕ) (x : Span) (xs : List Span) where
   pub walked-on : x .lo < hi → x .hi < hi → walked c hi (x ∷ xs) ≡ gap c (x .lo) ++ walked (x .hi) hi xs
   unfolding walked
   walked-on h i = rw (lt-leb hi (x .lo) h, lt-leb hi (x .hi) i)
+
+-- there is at most one gap before each range, and one more
+pub length-walked : (c hi : ℕ) (xs : List Span) → length (walked c hi xs) ≤ length xs + 1
+unfolding walked
+length-walked c hi [] = omega arith
+length-walked c hi (x ∷ xs) =
+    let more = length-walked (x .hi) hi xs in
+    cases (leb hi (x .lo)) (λ (m : List Span). length m ≤ length (x ∷ xs) + 1)
+    (λ t. omega arith)
+    (λ t. rw (length-append) (cases (leb hi (x .hi)) (λ (m : List Span). length (gap c (x .lo)) + length m ≤ length (x ∷ xs) + 1)
+    (λ s. omega (arith, length-gap c (x .lo))) (λ s. omega (arith, length-gap c (x .lo)))))
 
 -- WHAT THE WALK FINDS
 -- no range ends by c: the first does not

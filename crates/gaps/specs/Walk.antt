@@ -18,10 +18,11 @@ use Rattle.outcomes.specs.declared.Counted.{Counted}
 abbrev pub wrote : Counted → List ℤ → List ℤ → Written
 wrote r ss es = record { answer = r; starts = ss; ends = es }
 
--- the starts and the ends that are written for gaps
+-- the starts that are written for gaps
 abbrev pub startsOf : List Span → List ℤ
 startsOf xs = map (λ (x : Span). keyAt (x .lo)) xs
 
+-- the ends that are written for them
 abbrev pub endsOf : Kind → List Span → List ℤ
 endsOf kind xs = map (λ (x : Span). kind .ending (x .hi)) xs
 
@@ -30,7 +31,7 @@ pub record Room (n : ℕ) (xs : List Span) (os oe : List ℤ) : Type 0 where
   pub starts : n + length xs ≤ length os
   pub ends : n + length xs ≤ length oe
 
--- with the gaps written there, os and oe are os₁ and oe₁
+-- with the gaps written there, the lists os and oe become os₁ and oe₁
 pub record Puts (kind : Kind) (n : ℕ) (xs : List Span) (os oe os₁ oe₁ : List ℤ) : Type 0 where
   pub starts : os₁ ≡ sets os n (startsOf xs)
   pub ends : oe₁ ≡ sets oe n (endsOf kind xs)
@@ -48,11 +49,11 @@ walked c hi (x ∷ xs) = let more = walked (x .hi) hi xs in cond (leb hi (x .lo)
 abbrev pub bare : Kind → List ℤ → List ℤ → List Span
 bare kind ss es = spans kind ss es (replicate (length ss) 0)
 
--- those of the first n places, from place k on
+-- those at the places from k up to n
 unfoldable pub rest : Kind → List ℤ → List ℤ → ℕ → ℕ → List Span
 rest kind ss es n k = drop k (take n (bare kind ss es))
 
--- what the walk from s to e finds that begins at place k
+-- what the walk from place k on finds between the keys s and e
 abbrev pub found : Kind → List ℤ → List ℤ → ℕ → ℕ → ℤ → ℤ → List Span
 found kind ss es n k s e = walked (rank s) (kind .past e) (rest kind ss es n k)
 

@@ -1,13 +1,15 @@
 // Gaps among half-open ranges, start..end.
 use crate::between;
 use crate::put;
+use crate::shorter;
 use outcomes::Counted;
 use outcomes::EMPTY_RANGE;
 use outcomes::TOO_SHORT;
 use places::search;
 ghost use mathlib.Core.Path.{_≡_};
-ghost use Prim.Native.Nat.{_+_, _<_};
+ghost use Prim.Native.Nat.{_+_, _≤_, _<_};
 ghost use lib.ListN.{length};
+ghost use Rattle.key.specs.Decides.{Decides};
 ghost use Rattle.key.specs.Rank.{rank};
 ghost use Rattle.key.specs.Range.{halfOpen};
 ghost use Rattle.outcomes.specs.Stored.{Sound, stored};
@@ -37,6 +39,28 @@ fn counted(starts: &[i64], ends: &[i64], count: usize, from: usize, start: i64, 
     n + 1
 }
 
+// Whether `room` places are enough for the gaps. There is at most one before each range, and one more, so mostly none is counted.
+fn fits(
+    starts: &[i64],
+    ends: &[i64],
+    count: usize,
+    from: usize,
+    start: i64,
+    end: i64,
+    room: usize,
+) -> bool
+    requires { ⌜ Places count from (now starts) (now ends) × (rank start < rank end) ⌝ }
+    ensures { λ r. ⌜ Decides r (length (found halfOpen (now (starts .entry)) (now (ends .entry)) count from start end) ≤ room) ⌝ }
+{
+    if count - from < room {
+        return true;
+    }
+    if room < counted(starts, ends, count, from, start, end) {
+        return false;
+    }
+    true
+}
+
 // Writes the gap from the cursor up to the next range into place `n`, if there is one, and answers the next place.
 fn write_before(
     out_starts: &mut [i64],
@@ -56,7 +80,7 @@ fn write_before(
     n
 }
 
-// Writes the gaps that were counted.
+// Writes the gaps, and answers how many there are.
 fn write(
     starts: &[i64],
     ends: &[i64],
@@ -66,32 +90,34 @@ fn write(
     end: i64,
     out_starts: &mut [i64],
     out_ends: &mut [i64],
-)
+) -> usize
     requires { ⌜ Places count from (now starts) (now ends) × (rank start < rank end)
         × Room 0 (found halfOpen (now starts) (now ends) count from start end) (now «out_starts») (now «out_ends») ⌝ }
-    ensures { λ _. ⌜ Puts halfOpen 0 (found halfOpen (now (starts .entry)) (now (ends .entry)) count from start end)
+    ensures { λ r. ⌜ (r ≡ length (found halfOpen (now (starts .entry)) (now (ends .entry)) count from start end))
+        × Puts halfOpen 0 (found halfOpen (now (starts .entry)) (now (ends .entry)) count from start end)
         (now («out_starts» .entry)) (now («out_ends» .entry)) (now («out_starts» .exit)) (now («out_ends» .exit)) ⌝ }
 {
-    let mut n = 0;
+    let mut at = 0;
     let mut cursor = start;
     let mut k = from;
     while k < count {
-        let s = starts[k];
-        if end <= s {
-            put(out_starts, out_ends, n, cursor, end);
-            return;
+        let next = starts[k];
+        if end <= next {
+            put(out_starts, out_ends, at, cursor, end);
+            return at + 1;
         }
-        n = write_before(out_starts, out_ends, n, cursor, s);
+        at = write_before(out_starts, out_ends, at, cursor, next);
         cursor = ends[k];
         if end <= cursor {
-            return;
+            return at;
         }
         k += 1;
     }
-    put(out_starts, out_ends, n, cursor, end);
+    put(out_starts, out_ends, at, cursor, end);
+    at + 1
 }
 
-// GAPS. The walk begins at the first range that ends after the outer range's start.
+// GAPS. The walk begins at the first range that ends after the outer range's start. The values are lent as a part of the map, and none is read.
 pub fn gaps(
     count: usize,
     starts: &[i64],
@@ -110,13 +136,10 @@ pub fn gaps(
         return Counted::Refused(EMPTY_RANGE);
     }
     let from = search::ended(ends, count, start);
-    let n = counted(starts, ends, count, from, start, end);
-    if out_starts.len() < n {
+    let room = shorter(out_starts.len(), out_ends.len());
+    if !fits(starts, ends, count, from, start, end, room) {
         return Counted::Refused(TOO_SHORT);
     }
-    if out_ends.len() < n {
-        return Counted::Refused(TOO_SHORT);
-    }
-    write(starts, ends, count, from, start, end, out_starts, out_ends);
+    let n = write(starts, ends, count, from, start, end, out_starts, out_ends);
     Counted::Count(n)
 }

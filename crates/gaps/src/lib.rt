@@ -1,10 +1,10 @@
 // GAPS, for half-open ranges (mod half_open) and inclusive ones (mod inclusive): the maximal uncovered ranges inside an outer range.
-// They are counted first and written after, so nothing is written where the lent lists are too short.
+// Nothing is written before it is known that the lent lists are long enough; the gaps are counted for that only where there may be too many.
 pub mod half_open;
 pub mod inclusive;
 
 ghost use mathlib.Core.Path.{_≡_};
-ghost use Prim.Native.Nat.{_<_};
+ghost use Prim.Native.Nat.{_<_, min};
 ghost use lib.ListN.{length, set};
 ghost use Rattle.key.specs.Rank.{rank};
 ghost use Rattle.gaps.specs.Walk.{gap};
@@ -17,6 +17,16 @@ pub fn between(cursor: i64, start: i64) -> usize
         return 1;
     }
     0
+}
+
+// The lesser of two lengths: a lent list of ranges is as long as the shorter of its two slices.
+pub fn shorter(a: usize, b: usize) -> usize
+    ensures { λ r. ⌜ r ≡ min a b ⌝ }
+{
+    if a < b {
+        return a;
+    }
+    b
 }
 
 // Writes a gap into place `n` of the two lent lists.

@@ -11,20 +11,20 @@ use Rattle.gaps.proofs.half_open.write.Statement.{statement}
 use Rattle.gaps.proofs.half_open.write.Tie as tie
 
 abbrev Inv-loop : tie.InvT-loop
-Inv-loop starts ends count from start end out-starts₀ out-ends₀ n₀ cursor₀ k₀ out-starts out-ends n cursor k =
-    Going halfOpen starts ends out-starts₀ out-ends₀ count from (bitRank start) (bitRank end) k (bitRank cursor) n out-starts out-ends
+Inv-loop starts ends count from start end out-starts₀ out-ends₀ at₀ cursor₀ k₀ out-starts out-ends at cursor k =
+    Going halfOpen starts ends out-starts₀ out-ends₀ count from (bitRank start) (bitRank end) k (bitRank cursor) at out-starts out-ends
 
 abbrev μ-loop : tie.MeasureT-loop
-μ-loop starts ends count from start end out-starts₀ out-ends₀ n₀ cursor₀ k₀ out-starts out-ends n cursor k = count - k
+μ-loop starts ends count from start end out-starts₀ out-ends₀ at₀ cursor₀ k₀ out-starts out-ends at cursor k = count - k
 
 loop-holds : tie.Need-loop-holds Inv-loop μ-loop
 loop-holds c = going-first halfOpen (c .pre .0) (c .pre .1)
 
-mul-s : tie.Need-mul-s Inv-loop μ-loop
-mul-s c = omega arith
+mul-next : tie.Need-mul-next Inv-loop μ-loop
+mul-next c = omega arith
 
-shared-slice-copy-out-s : tie.Need-shared-slice-copy-out-s Inv-loop μ-loop
-shared-slice-copy-out-s c = omega arith
+shared-slice-copy-out-next : tie.Need-shared-slice-copy-out-next Inv-loop μ-loop
+shared-slice-copy-out-next c = omega arith
 
 put-requires : tie.Need-put-requires Inv-loop μ-loop
 put-requires c κs =
@@ -32,6 +32,9 @@ put-requires c κs =
     let s = c .before .before .before .before .before .before in
     let room = met-stop halfOpen (s .pre .0) (l .inv .met) (λ _. omega (arith, tests)) in
     (omega arith, omega arith)
+
+add-result : tie.Need-add-result Inv-loop μ-loop
+add-result c = omega arith
 
 same-length : tie.Need-same-length Inv-loop μ-loop
 same-length c = omega arith
@@ -44,7 +47,7 @@ returns c =
     let l = c .before .before .before .before .before .before .before .before .loop in
     let s = c .before .before .before .before .before .before .before .before .before in
     let w = c .before .before .put .ensures in
-    going-stop halfOpen (s .pre .0) (l .inv) (λ _. omega (arith, tests)) (set-key (l .out-starts) (l .n) (l .cursor) (w .0)) (set-end half-open (l .out-ends) (l .n) (s .fits .end) (w .1))
+    going-stop halfOpen (s .pre .0) (l .inv) (λ _. omega (arith, tests)) (set-key (l .out-starts) (l .at) (l .cursor) (w .0)) (set-end half-open (l .out-ends) (l .at) (s .fits .end) (w .1))
 
 write-before-requires : tie.Need-write-before-requires Inv-loop μ-loop
 write-before-requires c κs =
@@ -90,6 +93,9 @@ put-requires-2 c κs =
     let room = met-stop halfOpen (s .pre .0) (l .inv .met) (λ b. absurd (omega arith)) in
     (omega arith, omega arith)
 
+add-result-2 : tie.Need-add-result-2 Inv-loop μ-loop
+add-result-2 c = omega arith
+
 same-length-5 : tie.Need-same-length-5 Inv-loop μ-loop
 same-length-5 c = omega arith
 
@@ -101,7 +107,7 @@ returns-3 c =
     let l = c .before .before .before .before .before .before .loop in
     let s = c .before .before .before .before .before .before .before in
     let w = c .before .before .put2 .ensures in
-    going-stop halfOpen (s .pre .0) (l .inv) (λ b. absurd (omega arith)) (set-key (l .out-starts) (l .n) (l .cursor) (w .0)) (set-end half-open (l .out-ends) (l .n) (s .fits .end) (w .1))
+    going-stop halfOpen (s .pre .0) (l .inv) (λ b. absurd (omega arith)) (set-key (l .out-starts) (l .at) (l .cursor) (w .0)) (set-end half-open (l .out-ends) (l .at) (s .fits .end) (w .1))
 
 pub write-spec : {M : Type 1} → statement M
 write-spec =
@@ -110,9 +116,10 @@ write-spec =
     Inv-loop
     μ-loop
     loop-holds
-    mul-s
-    shared-slice-copy-out-s
+    mul-next
+    shared-slice-copy-out-next
     put-requires
+    add-result
     same-length
     same-length-2
     returns
@@ -126,6 +133,7 @@ write-spec =
     loop-less
     loop-again
     put-requires-2
+    add-result-2
     same-length-5
     same-length-6
     returns-3)

@@ -14,20 +14,20 @@ use Rattle.gaps.proofs.inclusive.write.Statement.{statement}
 use Rattle.gaps.proofs.inclusive.write.Tie as tie
 
 abbrev Inv-loop : tie.InvT-loop
-Inv-loop starts ends count from start end out-starts₀ out-ends₀ n₀ cursor₀ k₀ out-starts out-ends n cursor k =
-    Going inclusive starts ends out-starts₀ out-ends₀ count from (bitRank start) (suc (bitRank end)) k (bitRank cursor) n out-starts out-ends
+Inv-loop starts ends count from start end out-starts₀ out-ends₀ at₀ cursor₀ k₀ out-starts out-ends at cursor k =
+    Going inclusive starts ends out-starts₀ out-ends₀ count from (bitRank start) (suc (bitRank end)) k (bitRank cursor) at out-starts out-ends
 
 abbrev μ-loop : tie.MeasureT-loop
-μ-loop starts ends count from start end out-starts₀ out-ends₀ n₀ cursor₀ k₀ out-starts out-ends n cursor k = count - k
+μ-loop starts ends count from start end out-starts₀ out-ends₀ at₀ cursor₀ k₀ out-starts out-ends at cursor k = count - k
 
 loop-holds : tie.Need-loop-holds Inv-loop μ-loop
 loop-holds c = going-first inclusive (c .pre .0) (omega arith)
 
-mul-s : tie.Need-mul-s Inv-loop μ-loop
-mul-s c = omega arith
+mul-next : tie.Need-mul-next Inv-loop μ-loop
+mul-next c = omega arith
 
-shared-slice-copy-out-s : tie.Need-shared-slice-copy-out-s Inv-loop μ-loop
-shared-slice-copy-out-s c = omega arith
+shared-slice-copy-out-next : tie.Need-shared-slice-copy-out-next Inv-loop μ-loop
+shared-slice-copy-out-next c = omega arith
 
 put-requires : tie.Need-put-requires Inv-loop μ-loop
 put-requires c κs =
@@ -35,6 +35,9 @@ put-requires c κs =
     let s = c .before .before .before .before .before .before in
     let room = met-stop inclusive (s .pre .0) (l .inv .met) (λ _. omega (arith, tests)) in
     (omega arith, omega arith)
+
+add-result : tie.Need-add-result Inv-loop μ-loop
+add-result c = omega arith
 
 same-length : tie.Need-same-length Inv-loop μ-loop
 same-length c = omega arith
@@ -47,7 +50,7 @@ returns c =
     let l = c .before .before .before .before .before .before .before .before .loop in
     let s = c .before .before .before .before .before .before .before .before .before in
     let w = c .before .before .put .ensures in
-    going-stop inclusive (s .pre .0) (l .inv) (λ _. omega (arith, tests)) (set-key (l .out-starts) (l .n) (l .cursor) (w .0)) (set-end inclusive-too (l .out-ends) (l .n) (s .fits .end) (w .1))
+    going-stop inclusive (s .pre .0) (l .inv) (λ _. omega (arith, tests)) (set-key (l .out-starts) (l .at) (l .cursor) (w .0)) (set-end inclusive-too (l .out-ends) (l .at) (s .fits .end) (w .1))
 
 write-before-requires : tie.Need-write-before-requires Inv-loop μ-loop
 write-before-requires c κs =
@@ -56,11 +59,11 @@ write-before-requires c κs =
     let room = going-room inclusive (s .pre .0) (l .inv) (omega arith) (omega (arith, tests)) in
     simp rank-back (omega arith)
 
-mul-e : tie.Need-mul-e Inv-loop μ-loop
-mul-e c = omega arith
+mul-last : tie.Need-mul-last Inv-loop μ-loop
+mul-last c = omega arith
 
-shared-slice-copy-out-e : tie.Need-shared-slice-copy-out-e Inv-loop μ-loop
-shared-slice-copy-out-e c = omega arith
+shared-slice-copy-out-last : tie.Need-shared-slice-copy-out-last Inv-loop μ-loop
+shared-slice-copy-out-last c = omega arith
 
 same-length-3 : tie.Need-same-length-3 Inv-loop μ-loop
 same-length-3 c = omega arith
@@ -101,6 +104,9 @@ put-requires-2 c κs =
     let room = met-stop inclusive (s .pre .0) (l .inv .met) (λ b. absurd (omega arith)) in
     (omega arith, omega arith)
 
+add-result-2 : tie.Need-add-result-2 Inv-loop μ-loop
+add-result-2 c = omega arith
+
 same-length-5 : tie.Need-same-length-5 Inv-loop μ-loop
 same-length-5 c = omega arith
 
@@ -112,7 +118,7 @@ returns-3 c =
     let l = c .before .before .before .before .before .before .loop in
     let s = c .before .before .before .before .before .before .before in
     let w = c .before .before .put2 .ensures in
-    going-stop inclusive (s .pre .0) (l .inv) (λ b. absurd (omega arith)) (set-key (l .out-starts) (l .n) (l .cursor) (w .0)) (set-end inclusive-too (l .out-ends) (l .n) (s .fits .end) (w .1))
+    going-stop inclusive (s .pre .0) (l .inv) (λ b. absurd (omega arith)) (set-key (l .out-starts) (l .at) (l .cursor) (w .0)) (set-end inclusive-too (l .out-ends) (l .at) (s .fits .end) (w .1))
 
 pub write-spec : {M : Type 1} → statement M
 write-spec =
@@ -121,15 +127,16 @@ write-spec =
     Inv-loop
     μ-loop
     loop-holds
-    mul-s
-    shared-slice-copy-out-s
+    mul-next
+    shared-slice-copy-out-next
     put-requires
+    add-result
     same-length
     same-length-2
     returns
     write-before-requires
-    mul-e
-    shared-slice-copy-out-e
+    mul-last
+    shared-slice-copy-out-last
     same-length-3
     same-length-4
     returns-2
@@ -138,6 +145,7 @@ write-spec =
     loop-less
     loop-again
     put-requires-2
+    add-result-2
     same-length-5
     same-length-6
     returns-3)
