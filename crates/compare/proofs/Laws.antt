@@ -17,7 +17,7 @@ use Rattle.key.specs.Rank.{rank}
 use Rattle.key.specs.Range.{Kind, halfOpen, inclusive, rangeOf}
 use Rattle.key.proofs.Laws.{rank-inj}
 use Rattle.key.proofs.Lawful.{Lawful}
-use Rattle.outcomes.specs.Stored.{Stored, stored, spans, ranges}
+use Rattle.outcomes.specs.Stored.{Stored, stored, spans, ranges, AllFit}
 use Rattle.outcomes.specs.Outcomes.{Entry, entries, compared}
 use Rattle.outcomes.proofs.Formed.{Spare, Formed, Shaped, length-ranges, getD-ranges}
 use Rattle.compare.proofs.Walk.{placeOf}
@@ -75,10 +75,6 @@ one-order = compared-kind inclusive inclusive-ascends
 -- a column is known by its live places
 column : {A : Type 0} (z : A) (n : ℕ) (l l′ : List A) → length l ≡ length l′ → Spare l n z → Spare l′ n z → ((k : ℕ) → k < n → getD l k z ≡ getD l′ k z) → l ≡ l′
 column z n l l′ e s s′ h = ext-getD z l l′ e (λ k b. elim (decLt k n) [ yes q ↦ h k q | no q ↦ s k (omega arith) ∙ sym (s′ k (omega arith)) ])
-
--- all of a list are i64, as those of a lent slice are
-abbrev pub AllFit : List ℤ → Type 0
-AllFit l = (k : ℕ) → SFits w64 (getD l k (pos 0))
 
 -- a map of n places, as the check leaves it
 pub record Good (kind : Kind) (n : ℕ) (m : Stored) : Type 0 where

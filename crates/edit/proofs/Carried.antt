@@ -1,5 +1,5 @@
 -- A plan that is right, carried out, leaves what the edit promises: the stored map with its unused places, for both kinds.
-use Prim.Native.Nat.{ℕ, zero, suc, _+_, _-_, _≤_, _<_}
+use Prim.Native.Nat.{ℕ, _+_, _-_, _≤_, _<_}
 use native.Mathlib.Omega.{arith}
 use mathlib.Core.Path.{_≡_, refl, sym, ap, _∙_}
 use mathlib.Core.Bool.{cond}
@@ -8,7 +8,7 @@ use mathlib.Core.Option.{Option}
 use borrow.Author.Tests.{le-leb, lt-leb}
 use lib.Dec.{ltb}
 use lib.ListN.{length, getD, take, drop, replicate, length-append, length-drop, length-map}
-use lib.Seq.{take-take, length-take-le, take-nil, drop-nil}
+use lib.Seq.{take-take, length-take-le}
 use lib.IntN.{ℤ, pos}
 use Rattle.span.specs.Span.{Span, given}
 use Rattle.key.specs.Rank.{rank, keyAt}
@@ -18,28 +18,10 @@ use Rattle.splice.specs.Splice.{spliced}
 use Rattle.outcomes.specs.Stored.{Stored, stored, spans, ranges, filled, storing, AllFit, Sound}
 use Rattle.outcomes.specs.Outcomes.{Edited, leaving, editing}
 use Rattle.outcomes.proofs.Formed.{length-spans}
-use Rattle.outcomes.proofs.Storing.{starts-back, ends-back, values-back}
+use Rattle.outcomes.proofs.Storing.{map-take, map-drop, drop-take, starts-back, ends-back, values-back}
 use Rattle.edit.specs.Plan.{newStarts, newEnds, newValues, newCount, carried, Columns, Planned}
 use Rattle.edit.specs.declared.Replacement.{Replacement}
 use Rattle.edit.proofs.Places.{columns}
-
-module _ {A B : Type 0} (f : A → B) where
-  map-take : (n : ℕ) (l : List A) → map f (take n l) ≡ take n (map f l)
-  map-take zero l = refl
-  map-take (suc n) [] = refl
-  map-take (suc n) (x ∷ xs) = rw (map-take n xs)
-
-  map-drop : (n : ℕ) (l : List A) → map f (drop n l) ≡ drop n (map f l)
-  map-drop zero l = refl
-  map-drop (suc n) [] = refl
-  map-drop (suc n) (x ∷ xs) = map-drop n xs
-
--- what of the first n is left after the first j
-drop-take : {A : Type 0} (j n : ℕ) (l : List A) → drop j (take n l) ≡ take (n - j) (drop j l)
-drop-take zero n l = let e : n ≡ n - 0 = omega arith in ap (λ (k : ℕ). take k l) e
-drop-take (suc j) zero l = let e : 0 ≡ 0 - suc j = omega arith in drop-nil (suc j) ∙ ap (λ (k : ℕ). take k (drop (suc j) l)) e
-drop-take (suc j) (suc n) [] = sym (take-nil (suc n - suc j))
-drop-take (suc j) (suc n) (x ∷ xs) = let e : n - j ≡ suc n - suc j = omega arith in drop-take j n xs ∙ ap (λ (k : ℕ). take k (drop j xs)) e
 
 -- one column, whatever it holds: l is that of the places and vs that of the ranges that come
 module _ {A : Type 0} (f : Span → A) (z : A) (l vs : List A) (ys news : List Span) (i j count : ℕ) (old : map f ys ≡ l) (new : map f news ≡ vs)

@@ -1,20 +1,16 @@
 -- A sound map by its places, for both kinds: what its ranges are, how they follow each other, and which of them an edit meets or touches.
-use Prim.Native.Nat.{ℕ, zero, suc, _+_, _-_, _^_, _≤_, _<_}
+use Prim.Native.Nat.{ℕ, zero, suc, _+_, _-_, _≤_, _<_}
 use native.Mathlib.Omega.{arith}
 use native.Mathlib.Decide.{decLt}
 use mathlib.Core.Path.{_≡_, refl, sym, ap, subst, _∙_}
 use mathlib.Core.List.{List}
 use lib.ListN.{length, getD, drop, replicate, length-drop, length-replicate, getD-replicate}
 use lib.Seq.{getD-drop, ext-getD}
-use lib.IntN.{ℤ, pos, negsuc}
-use mir.Syntax.{w64}
-use mir.Val.{SFits, ofZ}
-use mir.Facts.{sfits-lit}
+use lib.IntN.{pos}
 use Rattle.span.specs.Span.{Span}
 use Rattle.span.proofs.Pieces.{places-tidy}
-use Rattle.key.specs.Rank.{rank, keys}
+use Rattle.key.specs.Rank.{rank}
 use Rattle.key.specs.Range.{Kind, rangeOf}
-use Rattle.key.proofs.Laws.{rank-below, rank-ne, rank-least, rank-greatest}
 use Rattle.key.proofs.Lawful.{Lawful}
 use Rattle.outcomes.specs.Stored.{Stored, ranges, Sound}
 use Rattle.outcomes.proofs.Formed.{Formed, Shaped, formed, length-ranges, getD-ranges}
@@ -22,19 +18,6 @@ use Rattle.places.specs.Search.{Ascends}
 use Rattle.places.proofs.Seeking.{ends-ascend}
 use Rattle.splice.specs.Splice.{Spare}
 use Rattle.edit.specs.Plan.{nowhere, Touching, Columns}
-
--- a key that is not the least has one before it, and one that is not the greatest has one after it
-pub above-least : {a : ℤ} → SFits w64 a → (ofZ w64 a ≡ ofZ w64 (negsuc (2 ^ 63 - 1)) → ⊥) → 0 < rank a
-above-least {a} f h = elim (decLt 0 (rank a)) [
-  | yes p ↦ p
-  | no p ↦ absurd (rank-ne {b = negsuc (2 ^ 63 - 1)} f (sfits-lit tt) h (omega (arith, rank-least)))
-]
-
-pub below-greatest : {a : ℤ} → SFits w64 a → (ofZ w64 a ≡ ofZ w64 (pos (2 ^ 63 - 1)) → ⊥) → rank a + 1 < keys
-below-greatest {a} f h = elim (decLt (rank a + 1) keys) [
-  | yes p ↦ p
-  | no p ↦ absurd (rank-ne {b = pos (2 ^ 63 - 1)} f (sfits-lit tt) h (omega (arith, rank-greatest, rank-below (ofZ w64 a))))
-]
 
 -- what holds nothing from a place on is filled up with nothing there
 spare-of : {A : Type 0} (l : List A) (count : ℕ) (z : A) → ((k : ℕ) → count ≤ k → getD l k z ≡ z) → Spare l count z

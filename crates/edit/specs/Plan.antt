@@ -74,12 +74,6 @@ pub record Touching (xs : List Span) (lo hi from to : ℕ) : Type 0 where
   pub begun : (k : ℕ) → k < to → getD xs k nowhere .lo ≤ hi
   pub after : (k : ℕ) → to ≤ k → k < length xs → hi < getD xs k nowhere .lo
 
--- n of the first ends are less than a key, and no more
-pub record Before (ends : List ℤ) (count : ℕ) (key : ℤ) (n : ℕ) : Type 0 where
-  pub within : n ≤ count
-  pub less : (k : ℕ) → k < n → rank (getD ends k (pos 0)) < rank key
-  pub more : (k : ℕ) → n ≤ k → k < count → rank key ≤ rank (getD ends k (pos 0))
-
 -- n of the first ends leave a key between themselves and a key, and no more: an inclusive range that ends just before a key touches it
 pub record Parted (ends : List ℤ) (count : ℕ) (key : ℤ) (n : ℕ) : Type 0 where
   pub within : n ≤ count

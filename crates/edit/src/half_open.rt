@@ -17,7 +17,7 @@ fn touched(count: usize, starts: &[i64], ends: &[i64], values: &[u8], start: i64
     requires { ⌜ Sound halfOpen (stored count (now starts) (now ends) (now values)) × (rank start < rank end) ⌝ }
     ensures { λ r. ⌜ Touching (ranges halfOpen (stored count (now (starts .entry)) (now (ends .entry)) (now (values .entry)))) (rank start) (rank end) (r .from) (r .to) ⌝ }
 {
-    let from = crate::met::short_of(ends, count, start);
+    let from = places::search::short_of(ends, count, start);
     Met {
         from: from,
         to: crate::met::begun(starts, from, count, end),

@@ -26,7 +26,7 @@ fn parted(ends: &[i64], count: usize, start: i64) -> usize
         return 0;
     }
     let before = key::prev(start);
-    crate::met::short_of(ends, count, before)
+    places::search::short_of(ends, count, before)
 }
 
 // The last key at which a range can start that touches one that ends with `end`. No key lies after the greatest.

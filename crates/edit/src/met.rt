@@ -2,25 +2,12 @@
 ghost use mathlib.Core.Path.{_≡_};
 ghost use Prim.Native.Nat.{_≤_};
 ghost use lib.ListN.{length};
-ghost use Rattle.places.specs.Search.{Ascends};
-ghost use Rattle.edit.specs.Plan.{Before, Begun};
+ghost use Rattle.edit.specs.Plan.{Begun};
 
 // Places, from one up to another.
 pub struct Met {
     pub from: usize,
     pub to: usize,
-}
-
-// How many of the first `count` ends are less than `key`.
-pub fn short_of(ends: &[i64], count: usize, key: i64) -> usize
-    requires { ⌜ (count ≤ length (now ends)) × Ascends count (now ends) ⌝ }
-    ensures { λ r. ⌜ Before (now (ends .entry)) count key r ⌝ }
-{
-    if key == key::LEAST {
-        return 0;
-    }
-    let before = key::prev(key);
-    places::search::ended(ends, count, before)
 }
 
 // The first place from `from` on that starts after `key`.

@@ -15,6 +15,7 @@ use Rattle.key.specs.Range.{Kind}
 use Rattle.outcomes.specs.Stored.{Stored, spans, ranges, Sound}
 use Rattle.outcomes.specs.Outcomes.{over, writing, uncovered}
 use Rattle.outcomes.specs.declared.Counted.the-variants as Counted
+use Rattle.outcomes.proofs.Storing.{map-take, map-drop}
 use Rattle.outcomes.proofs.Formed.{Formed, Shaped, formed, length-ranges, getD-ranges}
 use Rattle.gaps.specs.Walk.{wrote, startsOf, endsOf, Puts, walked, bare, rest, found, Places, First}
 use Rattle.gaps.proofs.Walk.{Ahead, walked-gaps}
@@ -34,17 +35,6 @@ plain-spans kind [] es vs p q = refl
 plain-spans kind (s ∷ ss) [] vs p q = absurd (omega arith)
 plain-spans kind (s ∷ ss) (e ∷ es) [] p q = absurd (omega arith)
 plain-spans kind (s ∷ ss) (e ∷ es) (v ∷ vs) p q = rw (plain-spans kind ss es vs (omega arith) (omega arith))
-
-module _ {A B : Type 0} (f : A → B) where
-  map-take : (n : ℕ) (l : List A) → map f (take n l) ≡ take n (map f l)
-  map-take zero l = refl
-  map-take (suc n) [] = refl
-  map-take (suc n) (x ∷ xs) = rw (map-take n xs)
-
-  map-drop : (n : ℕ) (l : List A) → map f (drop n l) ≡ drop n (map f l)
-  map-drop zero l = refl
-  map-drop (suc n) [] = refl
-  map-drop (suc n) (x ∷ xs) = map-drop n xs
 
 -- the first p of a list end by c
 upto-take : (c p : ℕ) (d : Span) (xs : List Span) → p ≤ length xs → ((j : ℕ) → j < p → getD xs j d .hi ≤ c) → Upto c (take p xs)

@@ -125,10 +125,7 @@ fn first(ends: &[i64], count: usize, start: i64) -> usize
     requires { ⌜ (count ≤ length (now ends)) × Ascends count (now ends) ⌝ }
     ensures { λ r. ⌜ First inclusive (now (ends .entry)) count (rank start) r ⌝ }
 {
-    if key::LEAST < start {
-        return search::ended(ends, count, start - 1);
-    }
-    0
+    search::short_of(ends, count, start)
 }
 
 // GAPS. The walk begins at the first range that ends at the outer range's start or after it. The values are lent as a part of the map, and none is read.

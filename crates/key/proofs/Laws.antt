@@ -3,12 +3,13 @@ use mathlib.Core.Path.{_≡_, refl, sym, ap, _∙_, subst}
 use mathlib.Core.Bool.{Bool, true, false, cond}
 use Prim.Native.Nat.{ℕ, zero, suc, _+_, _-_, _^_, _≤_, _<_, min, max}
 use native.Mathlib.Omega.{arith}
+use native.Mathlib.Decide.{decLt}
 use lib.Dec.{T, ltb, leb, ltb→lt}
 use lib.IntN.{ℤ, pos, negsuc, sucℤ, predℤ, natAbs, _+ℤ_, _-ℤ_, +ℤ-one, -ℤ-one}
 use lib.Signed.{ltZ, leZ, nonNeg}
 use mir.Syntax.{w64}
 use mir.Val.{SFits, toZ, ofZ, sel}
-use mir.Facts.{toZ-ofZ}
+use mir.Facts.{toZ-ofZ, sfits-lit}
 use borrow.Author.Tests.{ltb-true, ltb-false, leb-true, leb-false, lt-ltb, le-ltb, le-leb, lt-leb}
 use Rattle.key.specs.Rank.{place, bitRank, rank, keyAt, keys, lesser, greater}
 
@@ -239,3 +240,16 @@ rank-key r h = rank-place (keyAt r) (key-fits r h) ∙ place-key r h .1
 
 pub key-rank : {z : ℤ} → SFits w64 z → keyAt (rank z) ≡ z
 key-rank {z} f = let h = rank-below (ofZ w64 z) in rank-inj (key-fits (rank z) h) f (rank-key (rank z) h)
+
+-- a key that is not the least has one before it, and one that is not the greatest has one after it
+pub above-least : {a : ℤ} → SFits w64 a → (ofZ w64 a ≡ ofZ w64 (negsuc (2 ^ 63 - 1)) → ⊥) → 0 < rank a
+above-least {a} f h = elim (decLt 0 (rank a)) [
+  | yes p ↦ p
+  | no p ↦ absurd (rank-ne {b = negsuc (2 ^ 63 - 1)} f (sfits-lit tt) h (omega (arith, rank-least)))
+]
+
+pub below-greatest : {a : ℤ} → SFits w64 a → (ofZ w64 a ≡ ofZ w64 (pos (2 ^ 63 - 1)) → ⊥) → rank a + 1 < keys
+below-greatest {a} f h = elim (decLt (rank a + 1) keys) [
+  | yes p ↦ p
+  | no p ↦ absurd (rank-ne {b = pos (2 ^ 63 - 1)} f (sfits-lit tt) h (omega (arith, rank-greatest, rank-below (ofZ w64 a))))
+]

@@ -19,11 +19,7 @@ fn first_reaching(count: usize, ends: &[i64], key: i64) -> usize
     requires { ⌜ (count ≤ length (now ends)) × Ascends count (now ends) ⌝ }
     ensures { λ r. ⌜ Reached inclusive count (now (ends .entry)) key r ⌝ }
 {
-    if key == key::LEAST {
-        return 0;
-    }
-    let before = key::prev(key);
-    places::search::ended(ends, count, before)
+    places::search::short_of(ends, count, key)
 }
 
 // The place of the range that holds the key: `count` if none does.

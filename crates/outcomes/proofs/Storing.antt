@@ -5,7 +5,7 @@ use native.Mathlib.Decide.{decLt}
 use mathlib.Core.Path.{_≡_, refl, sym, ap, _∙_}
 use mathlib.Core.List.{List, [], _∷_, _++_, map}
 use lib.ListN.{length, getD, take, drop, replicate, length-append, length-replicate, length-map, getD-replicate}
-use lib.Seq.{getD-append-add, take-append-seam, drop-append-seam, take-length}
+use lib.Seq.{getD-append-add, take-nil, drop-nil}
 use lib.IntN.{ℤ, pos}
 use mir.Syntax.{w64}
 use mir.Val.{SFits}
@@ -17,6 +17,25 @@ use Rattle.key.proofs.Laws.{key-rank, rank-key, key-fits}
 use Rattle.key.proofs.Lawful.{Lawful}
 use Rattle.outcomes.specs.Stored.{Stored, spans, ranges, filled, storing, AllFit, Sound}
 use Rattle.outcomes.proofs.Formed.{Spare, Formed, well-formed}
+
+-- parts of lists
+module _ {A B : Type 0} (f : A → B) where
+  pub map-take : (n : ℕ) (l : List A) → map f (take n l) ≡ take n (map f l)
+  map-take zero l = refl
+  map-take (suc n) [] = refl
+  map-take (suc n) (x ∷ xs) = rw (map-take n xs)
+
+  pub map-drop : (n : ℕ) (l : List A) → map f (drop n l) ≡ drop n (map f l)
+  map-drop zero l = refl
+  map-drop (suc n) [] = refl
+  map-drop (suc n) (x ∷ xs) = map-drop n xs
+
+-- what of the first n is left after the first j
+pub drop-take : {A : Type 0} (j n : ℕ) (l : List A) → drop j (take n l) ≡ take (n - j) (drop j l)
+drop-take zero n l = let e : n ≡ n - 0 = omega arith in ap (λ (k : ℕ). take k l) e
+drop-take (suc j) zero l = let e : 0 ≡ 0 - suc j = omega arith in drop-nil (suc j) ∙ ap (λ (k : ℕ). take k (drop (suc j) l)) e
+drop-take (suc j) (suc n) [] = sym (take-nil (suc n - suc j))
+drop-take (suc j) (suc n) (x ∷ xs) = let e : n - j ≡ suc n - suc j = omega arith in drop-take j n xs ∙ ap (λ (k : ℕ). take k (drop j xs)) e
 
 -- the starts, ends and values of the ranges of three lists
 pub starts-back : (kind : Kind) (ss es : List ℤ) (vs : List ℕ) → length es ≡ length ss → length vs ≡ length ss → AllFit ss → map (λ (x : Span). keyAt (x .lo)) (spans kind ss es vs) ≡ ss

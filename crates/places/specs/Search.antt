@@ -1,5 +1,5 @@
 -- What the search finds among the ends of a map.
-use Prim.Native.Nat.{ℕ, suc, _<_}
+use Prim.Native.Nat.{ℕ, suc, _≤_, _<_}
 use mathlib.Core.Bool.{cond}
 use mathlib.Core.List.{List, [], _∷_}
 use lib.Dec.{leb}
@@ -15,3 +15,9 @@ Ascends n l = (p q : ℕ) → p < q → q < n → rank (getD l p (pos 0)) < rank
 unfoldable pub passed : ℕ → List ℤ → ℕ
 passed k [] = 0
 passed k (e ∷ es) = cond (leb (rank e) k) (suc (passed k es)) 0
+
+-- n of the first ends are less than a key, and no more
+pub record Before (ends : List ℤ) (count : ℕ) (key : ℤ) (n : ℕ) : Type 0 where
+  pub within : n ≤ count
+  pub less : (k : ℕ) → k < n → rank (getD ends k (pos 0)) < rank key
+  pub more : (k : ℕ) → n ≤ k → k < count → rank key ≤ rank (getD ends k (pos 0))

@@ -3,7 +3,7 @@ ghost use mathlib.Core.Path.{_≡_};
 ghost use Prim.Native.Nat.{_≤_};
 ghost use lib.ListN.{length, take};
 ghost use Rattle.key.specs.Rank.{rank};
-ghost use Rattle.places.specs.Search.{Ascends, passed};
+ghost use Rattle.places.specs.Search.{Ascends, passed, Before};
 
 // How many of the first `count` ends are at most `key`: the place of the first range that ends after it.
 pub fn ended(ends: &[i64], count: usize, key: i64) -> usize
@@ -18,4 +18,16 @@ pub fn ended(ends: &[i64], count: usize, key: i64) -> usize
         k += 1;
     }
     k
+}
+
+// How many of the first `count` ends are less than `key`. Nothing is taken from the least key.
+pub fn short_of(ends: &[i64], count: usize, key: i64) -> usize
+    requires { ⌜ (count ≤ length (now ends)) × Ascends count (now ends) ⌝ }
+    ensures { λ r. ⌜ Before (now (ends .entry)) count key r ⌝ }
+{
+    if key == key::LEAST {
+        return 0;
+    }
+    let before = key::prev(key);
+    ended(ends, count, before)
 }

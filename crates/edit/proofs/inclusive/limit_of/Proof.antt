@@ -2,8 +2,7 @@
 use native.Mathlib.Omega.{arith}
 use mathlib.Core.Path.{ap}
 use Rattle.key.specs.Rank.{bitRank}
-use Rattle.key.proofs.Laws.{rank-back, rank-greatest}
-use Rattle.edit.proofs.Places.{below-greatest}
+use Rattle.key.proofs.Laws.{rank-back, rank-greatest, below-greatest}
 use Rattle.edit.proofs.inclusive.limit_of.Statement.{statement}
 use Rattle.edit.proofs.inclusive.limit_of.Tie as tie
 

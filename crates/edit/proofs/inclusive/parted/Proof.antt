@@ -2,8 +2,7 @@
 use native.Mathlib.Omega.{arith}
 use mathlib.Core.Path.{ap}
 use Rattle.key.specs.Rank.{bitRank}
-use Rattle.key.proofs.Laws.{rank-back, rank-least}
-use Rattle.edit.proofs.Places.{above-least}
+use Rattle.key.proofs.Laws.{rank-back, rank-least, above-least}
 use borrow.Author.Needs.{needs}
 use Rattle.edit.proofs.inclusive.parted.Statement.{statement}
 use Rattle.edit.proofs.inclusive.parted.Tie as tie

@@ -56,14 +56,16 @@ returns-5 : tie.Need-returns-5
 returns-5 c =
     let n = c .before .before .before .before in
     let e = n .before .before .before .before in
-    let a = e .before .args in
-    (holds (record {
-      full = omega (arith, tests);
-      past = λ _. omega (arith, tests);
-      unlike = λ _ t v. ⊎-elim (λ w. eqb-false _ _ (w .1 .left) v)
-          (λ w. rank-ne {a = getD (a .starts .now) (a .k + 1) (pos 0)} {b = getD (a .ends .now) (a .k) (pos 0)} (sfits-of (n .next .given)) (sfits-of (e .end .given)) (w .left) (sym t))
-          (c .if4 .came);
-    }), (record { start-fits = sfits-of (c .before .before .before .before .before .before .before .if12 .given); end-fits = sfits-of (c .before .before .before .before .before .before .before .before .end .given) }))
+    let a = e .before .args in (
+      holds (record {
+        full = omega (arith, tests);
+        past = λ _. omega (arith, tests);
+        unlike = λ _ t v. ⊎-elim (λ w. eqb-false _ _ (w .1 .left) v)
+            (λ w. rank-ne {a = getD (a .starts .now) (a .k + 1) (pos 0)} {b = getD (a .ends .now) (a .k) (pos 0)} (sfits-of (n .next .given)) (sfits-of (e .end .given)) (w .left) (sym t))
+            (c .if4 .came);
+      }),
+      (record { start-fits = sfits-of (c .before .before .before .before .before .before .before .if12 .given); end-fits = sfits-of (c .before .before .before .before .before .before .before .before .end .given) }),
+    )
 
 pub step-spec : {M : Type 1} → statement M
 step-spec =

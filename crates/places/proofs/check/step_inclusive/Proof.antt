@@ -68,14 +68,16 @@ returns-5 c =
     let n = c .before .before .before .before in
     let a = n .before .before .before .before .before .args in
     let end = ofZ w64 (getD (a .ends .now) (a .k) (pos 0)) in
-    let r = room (c .before) in
-    (holds (record {
-      full = omega (arith, tests);
-      past = λ _. omega (arith, tests);
-      unlike = λ _ t v. ⊎-elim (λ w. eqb-false _ _ (w .1 .left) v)
-          (λ w. rank-ne {a = getD (a .starts .now) (a .k + 1) (pos 0)} {b = toZ w64 end +ℤ pos 1} (sfits-of (n .next .given)) (next-fits end r) (w .left) (omega (arith, rank-next end r)))
-          (c .if4 .came);
-    }), (record { start-fits = sfits-of (c .before .before .before .before .before .before .before .if12 .given); end-fits = sfits-of (c .before .before .before .before .before .before .before .before .end .given) }))
+    let r = room (c .before) in (
+      holds (record {
+        full = omega (arith, tests);
+        past = λ _. omega (arith, tests);
+        unlike = λ _ t v. ⊎-elim (λ w. eqb-false _ _ (w .1 .left) v)
+            (λ w. rank-ne {a = getD (a .starts .now) (a .k + 1) (pos 0)} {b = toZ w64 end +ℤ pos 1} (sfits-of (n .next .given)) (next-fits end r) (w .left) (omega (arith, rank-next end r)))
+            (c .if4 .came);
+      }),
+      (record { start-fits = sfits-of (c .before .before .before .before .before .before .before .if12 .given); end-fits = sfits-of (c .before .before .before .before .before .before .before .before .end .given) }),
+    )
 
 pub step-inclusive-spec : {M : Type 1} → statement M
 step-inclusive-spec =

@@ -1,13 +1,12 @@
--- `edit::met::short_of` meets its contract.
+-- `places::search::short_of` meets its contract.
 use native.Mathlib.Omega.{arith}
 use mathlib.Core.Path.{ap}
 use Rattle.key.specs.Rank.{bitRank}
-use Rattle.key.proofs.Laws.{rank-back, rank-least}
+use Rattle.key.proofs.Laws.{rank-back, rank-least, above-least}
 use Rattle.places.proofs.Seeking.{passed-facts, passed-after}
-use Rattle.edit.proofs.Places.{above-least}
 use borrow.Author.Needs.{needs}
-use Rattle.edit.proofs.met.short_of.Statement.{statement}
-use Rattle.edit.proofs.met.short_of.Tie as tie
+use Rattle.places.proofs.search.short_of.Statement.{statement}
+use Rattle.places.proofs.search.short_of.Tie as tie
 
 returns : tie.Need-returns
 returns c = record { within = omega arith; less = λ k h. absurd (omega arith); more = λ k h b. omega (arith, ap bitRank (c .if1 .taken), rank-least) }
