@@ -1,7 +1,7 @@
 -- A range of keys is a span of ranks, by its kind; its length is the number of its keys.
 use Prim.Native.Nat.{ℕ, suc, _-_}
-use mathlib.Core.Bool.{cond}
-use lib.Dec.{ltb}
+use mathlib.Core.Bool.{Bool, cond}
+use lib.Dec.{ltb, leb}
 use lib.IntN.{ℤ}
 use Rattle.span.specs.Span.{Span, span}
 use Rattle.key.specs.Rank.{rank, keys, keyAt}
@@ -24,6 +24,10 @@ inclusive = record { past = λ e. suc (rank e); ending = λ r. keyAt (r - 1) }
 -- the span of a range of either kind, with a label
 abbrev pub rangeOf : Kind → ℤ → ℤ → ℕ → Span
 rangeOf kind s e v = span (rank s) (kind .past e) v
+
+-- is a range empty or reversed: it has no key
+abbrev pub empty : Span → Bool
+empty x = leb (x .hi) (x .lo)
 
 -- how many keys a span has: none if it is empty or reversed
 unfoldable pub size : Span → ℕ

@@ -7,13 +7,13 @@ use mathlib.Core.Path.{_≡_}
 use mathlib.Core.Bool.{Bool, true, false, _&&_, cond}
 use mathlib.Core.List.{List, [], _∷_, _++_, map}
 use mathlib.Core.Option.{Option, some, none}
-use lib.Dec.{eqb, ltb, leb}
+use lib.Dec.{eqb, ltb}
 use lib.ListN.{length, getD, drop}
 use lib.IntN.{ℤ, pos}
 use Rattle.span.specs.Span.{Span, given, Edit}
 use Rattle.span.specs.Operations.{gaps, overlaps, any, holds, order}
 use Rattle.key.specs.Rank.{rank, keyAt}
-use Rattle.key.specs.Range.{Kind, rangeOf}
+use Rattle.key.specs.Range.{Kind, rangeOf, empty}
 use Rattle.outcomes.specs.Stored.{places, Stored, ranges, storing, wellFormed}
 use Rattle.outcomes.specs.declared.Asked.{Asked}
 use Rattle.outcomes.specs.declared.Asked.the-variants as Asked
@@ -28,10 +28,6 @@ use Rattle.outcomes.specs.declared.Compared.the-variants as Compared
 use Rattle.outcomes.specs.declared.Applied.{Applied}
 use Rattle.outcomes.specs.declared.Count.{Count}
 use Rattle.outcomes.specs.Numbers.{countOf}
-
--- is a range empty or reversed
-abbrev pub empty : Span → Bool
-empty x = leb (x .hi) (x .lo)
 
 abbrev pub yesNo : Bool → Asked
 yesNo true = Asked.Yes

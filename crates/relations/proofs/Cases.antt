@@ -6,13 +6,13 @@ use Rattle.span.specs.Span.{inside}
 use Rattle.span.specs.Operations.{overlaps}
 use Rattle.key.specs.Rank.{place, bitRank, lesser, greater}
 use Rattle.key.specs.Range.{halfOpen, inclusive}
-use Rattle.relations.specs.Relations.{empty, touches, containing, overlapping, touching, intersecting}
+use Rattle.relations.specs.Relations.{touches, containing, overlapping, touching, intersecting}
 use Rattle.relations.specs.declared.Relation.the-variants.{Yes, No, Empty}
 use Rattle.relations.specs.declared.Common.the-variants.{Between, Nothing}
 
 -- `unfolding all` opens every definition that a case computes with
 unfoldable all : Unit {0}
-unfolding place bitRank lesser greater inside overlaps empty touches containing overlapping touching intersecting
+unfolding place bitRank lesser greater inside overlaps touches containing overlapping touching intersecting
 all = tt
 
 intersect-shorter : intersecting halfOpen (pos 0) (pos 5) (pos 0) (pos 3) ≡ Between (pos 0) (pos 3)

@@ -11,11 +11,11 @@ use Rattle.span.specs.Span.{Span, inside}
 use Rattle.span.specs.Operations.{overlaps}
 use Rattle.span.proofs.Tests.{Within, yes-in, both}
 use Rattle.key.specs.Rank.{rank, lesser, greater}
-use Rattle.key.specs.Range.{Kind, rangeOf}
+use Rattle.key.specs.Range.{Kind, rangeOf, empty}
 use Rattle.key.proofs.Laws.{rank-greater}
 use Rattle.key.proofs.Lawful.{Lawful}
 use Rattle.key.proofs.Answers.{one-answer}
-use Rattle.relations.specs.Relations.{empty, touches, related, containing, overlapping, touching, intersecting}
+use Rattle.relations.specs.Relations.{touches, related, containing, overlapping, touching, intersecting}
 use Rattle.relations.specs.declared.Relation.{Relation}
 use Rattle.relations.specs.declared.Relation.the-variants.{Yes, No, Empty}
 use Rattle.relations.specs.declared.Common.{Common}
@@ -39,7 +39,6 @@ neither true b e = (e, absurd (omega (arith, let z : _≡_ {A = ℕ} 0 1 = cc in
 neither false b e = (refl, e)
 
 proper : (x : Span) → empty x ≡ false → x .lo < x .hi
-unfolding empty
 proper x e = leb-false (x .hi) (x .lo) e
 
 module _ (kind : Kind) (s e : ℤ) where

@@ -9,17 +9,15 @@ use Rattle.span.specs.Span.{Span, inside}
 use Rattle.span.specs.Operations.{overlaps}
 use Rattle.span.proofs.Tests.{Within, in-yes, in-no}
 use Rattle.key.specs.Rank.{rank, lesser, greater}
-use Rattle.key.specs.Range.{Kind, rangeOf}
-use Rattle.relations.specs.Relations.{empty, touches, related, containing, overlapping, touching, intersecting}
+use Rattle.key.specs.Range.{Kind, rangeOf, empty}
+use Rattle.relations.specs.Relations.{touches, related, containing, overlapping, touching, intersecting}
 use Rattle.relations.specs.declared.Relation.the-variants.{Yes, No, Empty}
 use Rattle.relations.specs.declared.Common.the-variants.{Between, Nothing}
 
 pub empty-yes : (x : Span) → x .hi ≤ x .lo → empty x ≡ true
-unfolding empty
 empty-yes x h = le-leb (x .hi) (x .lo) h
 
 pub empty-no : (x : Span) → x .lo < x .hi → empty x ≡ false
-unfolding empty
 empty-no x h = lt-leb (x .hi) (x .lo) h
 
 -- a range is empty, the first or the second

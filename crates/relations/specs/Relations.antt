@@ -6,17 +6,13 @@ use lib.IntN.{ℤ, pos}
 use Rattle.span.specs.Span.{Span, inside}
 use Rattle.span.specs.Operations.{overlaps}
 use Rattle.key.specs.Rank.{rank, lesser, greater}
-use Rattle.key.specs.Range.{Kind, rangeOf}
+use Rattle.key.specs.Range.{Kind, rangeOf, empty}
 use Rattle.relations.specs.declared.Relation.{Relation}
 use Rattle.relations.specs.declared.Relation.the-variants.{Yes, No, Empty}
 use Rattle.relations.specs.declared.Common.{Common}
 use Rattle.relations.specs.declared.Common.the-variants.{Between, Nothing}
 use Rattle.relations.specs.declared.Related.{Related}
 use Rattle.relations.specs.declared.Intersected.{Intersected}
-
--- a range that is empty or reversed has no key
-unfoldable pub empty : Span → Bool
-empty x = leb (x .hi) (x .lo)
 
 -- two ranges touch where nothing lies between them; so ranges that overlap touch too
 unfoldable pub touches : Span → Span → Bool
