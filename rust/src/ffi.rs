@@ -54,3 +54,209 @@ unsafe extern "C" {
         other_end: i64,
     ) -> Intersected;
 }
+
+/// How many places a map has.
+pub const PLACES: usize = 512;
+
+/// A map of either kind, as it is lent. It has no padding, so two are equal when all their bytes are.
+#[repr(C)]
+#[derive(Clone, PartialEq, Eq)]
+pub struct Map {
+    pub count: usize,
+    pub starts: [i64; PLACES],
+    pub ends: [i64; PLACES],
+    pub values: [u8; PLACES],
+}
+
+/// Yes or no.
+#[repr(C)]
+#[derive(Clone, Copy, Debug, PartialEq, Eq)]
+pub struct Told {
+    pub answer: u8,
+    /// A bool, read as a byte.
+    pub yes: u8,
+}
+
+#[repr(C)]
+#[derive(Clone, Copy, Debug, PartialEq, Eq)]
+pub struct Count {
+    pub answer: u8,
+    pub count: usize,
+}
+
+/// A stored range and its value.
+#[repr(C)]
+#[derive(Clone, Copy, Debug, PartialEq, Eq)]
+pub struct Range {
+    pub answer: u8,
+    pub start: i64,
+    pub end: i64,
+    pub value: u8,
+}
+
+/// A consecutive part of the places.
+#[repr(C)]
+#[derive(Clone, Copy, Debug, PartialEq, Eq)]
+pub struct Stretch {
+    pub answer: u8,
+    pub place: usize,
+    pub count: usize,
+}
+
+#[repr(C)]
+#[derive(Clone, Copy, Debug, PartialEq, Eq)]
+pub struct Order {
+    pub answer: u8,
+    pub order: i8,
+}
+
+/// How a bulk insert went.
+#[repr(C)]
+#[derive(Clone, Copy, Debug, PartialEq, Eq)]
+pub struct Applied {
+    pub answer: u8,
+    pub applied: usize,
+}
+
+pub type Gaps = unsafe extern "C" fn(&mut Map, i64, i64, *mut i64, usize, *mut i64, usize) -> Count;
+
+/// The functions of one kind of map. Each lent map is a `&mut` here, also where it is only read:
+/// else the compiler would take for granted that it stays as it was.
+/// A function is unsafe here where it takes a list, or a map that it does not check.
+pub struct Functions {
+    pub new: extern "C" fn() -> Map,
+    pub clear: extern "C" fn(&mut Map),
+    pub is_empty: extern "C" fn(&mut Map) -> Told,
+    pub len: extern "C" fn(&mut Map) -> Count,
+    pub first_range_value: extern "C" fn(&mut Map) -> Range,
+    pub last_range_value: extern "C" fn(&mut Map) -> Range,
+    pub range_at: extern "C" fn(&mut Map, usize) -> Range,
+    pub get_key_value: extern "C" fn(&mut Map, i64) -> Range,
+    pub contains_key: extern "C" fn(&mut Map, i64) -> Told,
+    pub insert: extern "C" fn(&mut Map, i64, i64, u8) -> u8,
+    pub remove: extern "C" fn(&mut Map, i64, i64) -> u8,
+    pub overlapping: extern "C" fn(&mut Map, i64, i64) -> Stretch,
+    pub overlaps: extern "C" fn(&mut Map, i64, i64) -> Told,
+    pub gaps: Gaps,
+    pub eq: extern "C" fn(&mut Map, &mut Map) -> Told,
+    pub cmp: extern "C" fn(&mut Map, &mut Map) -> Order,
+    pub extend: unsafe extern "C" fn(
+        &mut Map,
+        *const i64,
+        usize,
+        *const i64,
+        usize,
+        *const u8,
+        usize,
+    ) -> Applied,
+    /// The check alone, as a byte.
+    pub well_formed: extern "C" fn(&mut Map) -> u8,
+    pub get_key_value_unchecked: unsafe extern "C" fn(&mut Map, i64) -> Range,
+    pub insert_unchecked: unsafe extern "C" fn(&mut Map, i64, i64, u8) -> u8,
+    pub remove_unchecked: unsafe extern "C" fn(&mut Map, i64, i64) -> u8,
+    pub gaps_unchecked: Gaps,
+}
+
+macro_rules! functions {
+    ($table:ident, $prefix:literal) => {
+        pub static $table: Functions = {
+            unsafe extern "C" {
+                #[link_name = concat!($prefix, "new")]
+                safe fn new() -> Map;
+                #[link_name = concat!($prefix, "clear")]
+                safe fn clear(m: &mut Map);
+                #[link_name = concat!($prefix, "is_empty")]
+                safe fn is_empty(m: &mut Map) -> Told;
+                #[link_name = concat!($prefix, "len")]
+                safe fn len(m: &mut Map) -> Count;
+                #[link_name = concat!($prefix, "first_range_value")]
+                safe fn first_range_value(m: &mut Map) -> Range;
+                #[link_name = concat!($prefix, "last_range_value")]
+                safe fn last_range_value(m: &mut Map) -> Range;
+                #[link_name = concat!($prefix, "range_at")]
+                safe fn range_at(m: &mut Map, place: usize) -> Range;
+                #[link_name = concat!($prefix, "get_key_value")]
+                safe fn get_key_value(m: &mut Map, key: i64) -> Range;
+                #[link_name = concat!($prefix, "contains_key")]
+                safe fn contains_key(m: &mut Map, key: i64) -> Told;
+                #[link_name = concat!($prefix, "insert")]
+                safe fn insert(m: &mut Map, start: i64, end: i64, value: u8) -> u8;
+                #[link_name = concat!($prefix, "remove")]
+                safe fn remove(m: &mut Map, start: i64, end: i64) -> u8;
+                #[link_name = concat!($prefix, "overlapping")]
+                safe fn overlapping(m: &mut Map, start: i64, end: i64) -> Stretch;
+                #[link_name = concat!($prefix, "overlaps")]
+                safe fn overlaps(m: &mut Map, start: i64, end: i64) -> Told;
+                #[link_name = concat!($prefix, "gaps")]
+                fn gaps(
+                    m: &mut Map,
+                    start: i64,
+                    end: i64,
+                    out_starts: *mut i64,
+                    out_starts_length: usize,
+                    out_ends: *mut i64,
+                    out_ends_length: usize,
+                ) -> Count;
+                #[link_name = concat!($prefix, "eq")]
+                safe fn eq(m: &mut Map, other: &mut Map) -> Told;
+                #[link_name = concat!($prefix, "cmp")]
+                safe fn cmp(m: &mut Map, other: &mut Map) -> Order;
+                #[link_name = concat!($prefix, "extend")]
+                fn extend(
+                    m: &mut Map,
+                    starts: *const i64,
+                    starts_length: usize,
+                    ends: *const i64,
+                    ends_length: usize,
+                    values: *const u8,
+                    values_length: usize,
+                ) -> Applied;
+                #[link_name = concat!($prefix, "well_formed")]
+                safe fn well_formed(m: &mut Map) -> u8;
+                #[link_name = concat!($prefix, "get_key_value_unchecked")]
+                fn get_key_value_unchecked(m: &mut Map, key: i64) -> Range;
+                #[link_name = concat!($prefix, "insert_unchecked")]
+                fn insert_unchecked(m: &mut Map, start: i64, end: i64, value: u8) -> u8;
+                #[link_name = concat!($prefix, "remove_unchecked")]
+                fn remove_unchecked(m: &mut Map, start: i64, end: i64) -> u8;
+                #[link_name = concat!($prefix, "gaps_unchecked")]
+                fn gaps_unchecked(
+                    m: &mut Map,
+                    start: i64,
+                    end: i64,
+                    out_starts: *mut i64,
+                    out_starts_length: usize,
+                    out_ends: *mut i64,
+                    out_ends_length: usize,
+                ) -> Count;
+            }
+            Functions {
+                new,
+                clear,
+                is_empty,
+                len,
+                first_range_value,
+                last_range_value,
+                range_at,
+                get_key_value,
+                contains_key,
+                insert,
+                remove,
+                overlapping,
+                overlaps,
+                gaps,
+                eq,
+                cmp,
+                extend,
+                well_formed,
+                get_key_value_unchecked,
+                insert_unchecked,
+                remove_unchecked,
+                gaps_unchecked,
+            }
+        };
+    };
+}
+
+functions!(RANGE_MAP, "range_map_");
+functions!(RANGE_INCLUSIVE_MAP, "range_inclusive_map_");

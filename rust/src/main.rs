@@ -1,20 +1,23 @@
 //! Compares the exported functions with rangemap. Each module of the port has a file of its own here.
 mod ffi;
 mod inside;
+mod maps;
 mod relations;
 mod report;
+mod shown;
 
 use report::Report;
 use std::process::ExitCode;
 
 /// The differences that are allowed, of all modules.
 fn known() -> Vec<&'static str> {
-    relations::KNOWN.to_vec()
+    [&relations::KNOWN[..], &maps::KNOWN[..]].concat()
 }
 
-fn compare() -> bool {
+fn compare(size: &maps::Size) -> bool {
     let mut report = Report::new(&known());
     relations::compare(&mut report);
+    maps::compare(&mut report, size);
     report.finish()
 }
 
@@ -22,6 +25,8 @@ fn compare() -> bool {
 fn replay(module: &str) -> bool {
     match module {
         "relations" => print!("{}", relations::replay()),
+        "map" => print!("{}", maps::replay()),
+        "inclusive_map" => print!("{}", maps::replay_inclusive()),
         _ => {
             eprintln!("there is no replay of {module}");
             return false;
@@ -34,10 +39,11 @@ fn main() -> ExitCode {
     let words: Vec<String> = std::env::args().skip(1).collect();
     let words: Vec<&str> = words.iter().map(String::as_str).collect();
     let good = match words[..] {
-        [] => compare(),
+        [] => compare(&maps::SHORT),
+        ["full"] => compare(&maps::FULL),
         ["replay", module] => replay(module),
         _ => {
-            eprintln!("usage: compare [replay MODULE]");
+            eprintln!("usage: compare [full | replay MODULE]");
             false
         }
     };

@@ -3,6 +3,7 @@ use crate::ffi::{self, Intersected, Related};
 use crate::inside::std_ext::{RangeExt, RangeInclusiveExt};
 use crate::inside::{intersect, intersect_inclusive};
 use crate::report::Report;
+use crate::shown::Key;
 use rangemap::{RangeInclusiveSet, RangeSet};
 use std::fmt::{Arguments, Display, Formatter, Result, Write};
 use std::ops::{Range, RangeInclusive};
@@ -148,20 +149,6 @@ fn intersected(common: Option<Ends>) -> Intersected {
     let answer = if common.is_some() { 0 } else { 5 };
     let (start, end) = common.unwrap_or((0, 0));
     Intersected { answer, start, end }
-}
-
-/// A key, with the ends of the i64 by name.
-struct Key(i64);
-
-impl Display for Key {
-    fn fmt(&self, f: &mut Formatter) -> Result {
-        match self.0 {
-            i64::MIN => f.write_str("min"),
-            i64::MAX => f.write_str("max"),
-            key if key == i64::MAX - 1 => f.write_str("max-1"),
-            key => key.fmt(f),
-        }
-    }
 }
 
 /// A range as Rust writes it.

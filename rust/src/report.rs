@@ -59,6 +59,11 @@ impl Report {
         }
     }
 
+    /// Tells something about the part that nobody compares.
+    pub fn note(&self, what: Arguments) {
+        println!("{}: {what}", self.part);
+    }
+
     fn fail(&mut self, what: Arguments) {
         if self.failures < TOLD {
             println!("DIFFERENT {}: {what}", self.part);

@@ -1,0 +1,304 @@
+/*
+ * Hourledger for C: relations of ranges, maps of half-open ranges and maps of inclusive ranges.
+ * Keys are int64_t, values are uint8_t. Link the static libraries relations, map and inclusive_map.
+ *
+ * ANSWERS
+ *   0  done
+ *   1  range empty or reversed
+ *   2  result would need over 512 ranges
+ *   3  lent output too short
+ *   4  lent map not well formed
+ *   5  not covered, or no such place: an answer, not a fault
+ * Where several apply, the first of 4, 1, 5, 2, 3 is given. The first lent map is checked before the second.
+ * On any number but 0, every other result field is 0 and all lent memory is unchanged. Bulk insert alone differs: see there.
+ *
+ * RANGES
+ * A half-open range start..end has the keys from start up to end, without end itself, and needs start < end.
+ * An inclusive range start..=end has its end too, and needs start <= end. INT64_MIN and INT64_MAX are legal keys.
+ *
+ * LENT MEMORY
+ * A lent list is a pointer and a number of elements. A list of ranges is two lists, or three with values,
+ * and is as long as the shortest of them. No pointer may be null. Memory that a function changes must not
+ * overlap other memory that is lent to the same call. On success, places of an output list past the stated
+ * count are unchanged. Nothing is kept after a call.
+ */
+#ifndef HOURLEDGER_H
+#define HOURLEDGER_H
+
+#include <stdbool.h>
+#include <stddef.h>
+#include <stdint.h>
+
+#ifdef __cplusplus
+extern "C" {
+#endif
+
+/* How many places a map has. */
+#define HOURLEDGER_PLACES 512
+
+/* The longest list of gaps: one before each range, and one behind the last. */
+#define HOURLEDGER_GAPS (HOURLEDGER_PLACES + 1)
+
+/*
+ * A map of half-open ranges. Well formed: the count is at most 512, no stored range is empty or reversed,
+ * unused places hold start 0, end 0 and value 0, ranges ascend without overlap, and no two that touch have
+ * equal values. Two touch when one's end equals the next start. All bytes 0 is the empty map.
+ * Read it freely; change it only by these functions. A map that is not well formed is answered with 4.
+ */
+typedef struct RangeMap {
+    size_t count;
+    int64_t starts[HOURLEDGER_PLACES];
+    int64_t ends[HOURLEDGER_PLACES];
+    uint8_t values[HOURLEDGER_PLACES];
+} RangeMap;
+
+/*
+ * A map of inclusive ranges. Well formed as above; two ranges touch when the next start is the end plus one.
+ * The same stored numbers can be well formed as one kind and not as the other.
+ */
+typedef struct RangeInclusiveMap {
+    size_t count;
+    int64_t starts[HOURLEDGER_PLACES];
+    int64_t ends[HOURLEDGER_PLACES];
+    uint8_t values[HOURLEDGER_PLACES];
+} RangeInclusiveMap;
+
+/* Whether two ranges are related, or a range has a key. */
+typedef struct LedgerRelated {
+    uint8_t answer;
+    bool yes;
+} LedgerRelated;
+
+/* What two ranges have in common. */
+typedef struct LedgerIntersected {
+    uint8_t answer;
+    int64_t start;
+    int64_t end;
+} LedgerIntersected;
+
+/* Yes or no, about a map. */
+typedef struct LedgerTold {
+    uint8_t answer;
+    bool yes;
+} LedgerTold;
+
+/* How many. */
+typedef struct LedgerCount {
+    uint8_t answer;
+    size_t count;
+} LedgerCount;
+
+/* A stored range and its value. */
+typedef struct LedgerRange {
+    uint8_t answer;
+    int64_t start;
+    int64_t end;
+    uint8_t value;
+} LedgerRange;
+
+/* A consecutive part of the places: the first, and how many. */
+typedef struct LedgerStretch {
+    uint8_t answer;
+    size_t place;
+    size_t count;
+} LedgerStretch;
+
+/* How two maps compare: -1, 0 or 1. */
+typedef struct LedgerOrder {
+    uint8_t answer;
+    int8_t order;
+} LedgerOrder;
+
+/* How a bulk insert went: the first refusal or 0, and how many entries were applied before it. */
+typedef struct LedgerApplied {
+    uint8_t answer;
+    size_t applied;
+} LedgerApplied;
+
+/* ---- RELATIONS OF HALF-OPEN RANGES ---- */
+
+/* Whether the range has the key. 1 if it is empty or reversed. */
+LedgerRelated range_contains(int64_t start, int64_t end, int64_t key);
+
+/* Whether the two have a key in common. 1 if one of them is empty or reversed. */
+LedgerRelated range_overlaps(int64_t start, int64_t end, int64_t other_start, int64_t other_end);
+
+/* Whether one ends where the other starts, or they overlap. 1 if one of them is empty or reversed. */
+LedgerRelated range_touches(int64_t start, int64_t end, int64_t other_start, int64_t other_end);
+
+/* The greater start and the lesser end, of any pair. 5 if these leave nothing. */
+LedgerIntersected range_intersect(int64_t start, int64_t end, int64_t other_start, int64_t other_end);
+
+/* ---- RELATIONS OF INCLUSIVE RANGES ---- */
+
+/* Whether the range has the key. 1 if it is reversed. */
+LedgerRelated range_inclusive_contains(int64_t start, int64_t end, int64_t key);
+
+/* Whether the two have a key in common. 1 if one of them is reversed. */
+LedgerRelated range_inclusive_overlaps(int64_t start, int64_t end, int64_t other_start, int64_t other_end);
+
+/* Whether one starts right after the other's end, or they overlap. 1 if one of them is reversed. */
+LedgerRelated range_inclusive_touches(int64_t start, int64_t end, int64_t other_start, int64_t other_end);
+
+/* The greater start and the lesser end, of any pair. 5 if these leave nothing. */
+LedgerIntersected range_inclusive_intersect(int64_t start, int64_t end, int64_t other_start, int64_t other_end);
+
+/* ---- MAPS OF HALF-OPEN RANGES ---- */
+
+/* A new empty map. */
+RangeMap range_map_new(void);
+
+/* Empties the map. It overwrites the map, so it does not check it. */
+void range_map_clear(RangeMap *m);
+
+/* The check alone: whether the map is well formed. */
+bool range_map_well_formed(const RangeMap *m);
+
+/* Whether nothing is held. */
+LedgerTold range_map_is_empty(const RangeMap *m);
+
+/* How many ranges are held. */
+LedgerCount range_map_len(const RangeMap *m);
+
+/* The first range and its value. 5 if the map is empty. */
+LedgerRange range_map_first_range_value(const RangeMap *m);
+
+/* The last range and its value. 5 if the map is empty. */
+LedgerRange range_map_last_range_value(const RangeMap *m);
+
+/* The range and the value at a place, counted from 0. 5 if there is no such place. */
+LedgerRange range_map_range_at(const RangeMap *m, size_t place);
+
+/* The range that has the key, and its value. 5 if the key is not covered. */
+LedgerRange range_map_get_key_value(const RangeMap *m, int64_t key);
+
+/* Whether some range has the key. */
+LedgerTold range_map_contains_key(const RangeMap *m, int64_t key);
+
+/*
+ * Gives the value to each key of the range and to no other, and leaves the one well-formed map of that.
+ * 2 if that map would need over 512 ranges: fullness is judged on the final map.
+ */
+uint8_t range_map_insert(RangeMap *m, int64_t start, int64_t end, uint8_t value);
+
+/* Uncovers exactly the range. 2 as for insert: a cut inside one range of a full map needs one more. */
+uint8_t range_map_remove(RangeMap *m, int64_t start, int64_t end);
+
+/* Which consecutive stored part meets the query. Place 0 and count 0 if none does. */
+LedgerStretch range_map_overlapping(const RangeMap *m, int64_t start, int64_t end);
+
+/* Whether some range meets the query. */
+LedgerTold range_map_overlaps(const RangeMap *m, int64_t start, int64_t end);
+
+/* Writes the maximal uncovered ranges inside the outer range, ascending. 3 if they do not fit into the lists. */
+LedgerCount range_map_gaps(const RangeMap *m, int64_t start, int64_t end,
+                           int64_t *out_starts, size_t out_starts_length,
+                           int64_t *out_ends, size_t out_ends_length);
+
+/* Whether the two maps hold the same. */
+LedgerTold range_map_eq(const RangeMap *m, const RangeMap *other);
+
+/* Compares (start, end, value) place by place, a prefix coming first. */
+LedgerOrder range_map_cmp(const RangeMap *m, const RangeMap *other);
+
+/*
+ * Bulk insert: works in list order and stops at the first refusal. Earlier entries stay, and the count
+ * applied is returned, also with an answer other than 0.
+ */
+LedgerApplied range_map_extend(RangeMap *m, const int64_t *starts, size_t starts_length,
+                               const int64_t *ends, size_t ends_length,
+                               const uint8_t *values, size_t values_length);
+
+/*
+ * The inner doors: the same without the check, for a caller that owns its map and knows that it is well
+ * formed, as each of these functions leaves it. A map that is not well formed must not be lent to them.
+ */
+LedgerRange range_map_get_key_value_unchecked(const RangeMap *m, int64_t key);
+uint8_t range_map_insert_unchecked(RangeMap *m, int64_t start, int64_t end, uint8_t value);
+uint8_t range_map_remove_unchecked(RangeMap *m, int64_t start, int64_t end);
+LedgerCount range_map_gaps_unchecked(const RangeMap *m, int64_t start, int64_t end,
+                                     int64_t *out_starts, size_t out_starts_length,
+                                     int64_t *out_ends, size_t out_ends_length);
+
+/* ---- MAPS OF INCLUSIVE RANGES ---- */
+
+/* A new empty map. */
+RangeInclusiveMap range_inclusive_map_new(void);
+
+/* Empties the map. It overwrites the map, so it does not check it. */
+void range_inclusive_map_clear(RangeInclusiveMap *m);
+
+/* The check alone: whether the map is well formed. */
+bool range_inclusive_map_well_formed(const RangeInclusiveMap *m);
+
+/* Whether nothing is held. */
+LedgerTold range_inclusive_map_is_empty(const RangeInclusiveMap *m);
+
+/* How many ranges are held. */
+LedgerCount range_inclusive_map_len(const RangeInclusiveMap *m);
+
+/* The first range and its value. 5 if the map is empty. */
+LedgerRange range_inclusive_map_first_range_value(const RangeInclusiveMap *m);
+
+/* The last range and its value. 5 if the map is empty. */
+LedgerRange range_inclusive_map_last_range_value(const RangeInclusiveMap *m);
+
+/* The range and the value at a place, counted from 0. 5 if there is no such place. */
+LedgerRange range_inclusive_map_range_at(const RangeInclusiveMap *m, size_t place);
+
+/* The range that has the key, and its value. 5 if the key is not covered. */
+LedgerRange range_inclusive_map_get_key_value(const RangeInclusiveMap *m, int64_t key);
+
+/* Whether some range has the key. */
+LedgerTold range_inclusive_map_contains_key(const RangeInclusiveMap *m, int64_t key);
+
+/*
+ * Gives the value to each key of the range and to no other, and leaves the one well-formed map of that.
+ * 2 if that map would need over 512 ranges: fullness is judged on the final map.
+ */
+uint8_t range_inclusive_map_insert(RangeInclusiveMap *m, int64_t start, int64_t end, uint8_t value);
+
+/* Uncovers exactly the range. 2 as for insert: a cut inside one range of a full map needs one more. */
+uint8_t range_inclusive_map_remove(RangeInclusiveMap *m, int64_t start, int64_t end);
+
+/* Which consecutive stored part meets the query. Place 0 and count 0 if none does. */
+LedgerStretch range_inclusive_map_overlapping(const RangeInclusiveMap *m, int64_t start, int64_t end);
+
+/* Whether some range meets the query. */
+LedgerTold range_inclusive_map_overlaps(const RangeInclusiveMap *m, int64_t start, int64_t end);
+
+/* Writes the maximal uncovered ranges inside the outer range, ascending. 3 if they do not fit into the lists. */
+LedgerCount range_inclusive_map_gaps(const RangeInclusiveMap *m, int64_t start, int64_t end,
+                                     int64_t *out_starts, size_t out_starts_length,
+                                     int64_t *out_ends, size_t out_ends_length);
+
+/* Whether the two maps hold the same. */
+LedgerTold range_inclusive_map_eq(const RangeInclusiveMap *m, const RangeInclusiveMap *other);
+
+/* Compares (start, end, value) place by place, a prefix coming first. */
+LedgerOrder range_inclusive_map_cmp(const RangeInclusiveMap *m, const RangeInclusiveMap *other);
+
+/*
+ * Bulk insert: works in list order and stops at the first refusal. Earlier entries stay, and the count
+ * applied is returned, also with an answer other than 0.
+ */
+LedgerApplied range_inclusive_map_extend(RangeInclusiveMap *m, const int64_t *starts, size_t starts_length,
+                                         const int64_t *ends, size_t ends_length,
+                                         const uint8_t *values, size_t values_length);
+
+/*
+ * The inner doors: the same without the check, for a caller that owns its map and knows that it is well
+ * formed, as each of these functions leaves it. A map that is not well formed must not be lent to them.
+ */
+LedgerRange range_inclusive_map_get_key_value_unchecked(const RangeInclusiveMap *m, int64_t key);
+uint8_t range_inclusive_map_insert_unchecked(RangeInclusiveMap *m, int64_t start, int64_t end, uint8_t value);
+uint8_t range_inclusive_map_remove_unchecked(RangeInclusiveMap *m, int64_t start, int64_t end);
+LedgerCount range_inclusive_map_gaps_unchecked(const RangeInclusiveMap *m, int64_t start, int64_t end,
+                                               int64_t *out_starts, size_t out_starts_length,
+                                               int64_t *out_ends, size_t out_ends_length);
+
+#ifdef __cplusplus
+}
+#endif
+
+#endif

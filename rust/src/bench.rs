@@ -1,0 +1,323 @@
+//! Times the exported functions beside rangemap: lookups, edits and gaps, through both doors, and the check alone.
+//!
+//! Method. Both sides work on the same entries, the same keys and the same edits, which are random and the same in every run.
+//! A batch is some thousand calls. The batches of the two doors and of rangemap take turns, so that a slow moment of the
+//! machine hits all three; each figure is the median of all its batches, divided by the calls. A ratio is ours by rangemap's.
+//! rangemap is optimised for the processor that rustc takes by default; the static libraries are as they are handed out.
+//! Where the two sides do not give the same results, the run stops.
+#[allow(dead_code)]
+mod ffi;
+#[allow(dead_code)]
+#[path = "maps/kind.rs"]
+mod kind;
+#[allow(dead_code)]
+#[path = "maps/random.rs"]
+mod random;
+#[allow(dead_code)]
+mod shown;
+#[allow(dead_code)]
+#[path = "maps/stored.rs"]
+mod stored;
+
+use ffi::{Gaps, Map, Range, PLACES};
+use kind::{Ends, Entry, HalfOpen, Inclusive, Kind};
+use random::Random;
+use std::hint::black_box;
+use std::time::Instant;
+
+/// Batches of each side.
+const REPETITIONS: usize = 151;
+
+/// Calls of a batch, for lookups and edits.
+const CALLS: usize = 2000;
+
+/// Ranges of the maps that are asked and edited, and of the one whose gaps are listed.
+const RANGES: usize = 400;
+const GAPS_RANGES: usize = 500;
+
+/// Each range has 10 keys, and the next 10 belong to none.
+const STEP: i128 = 20;
+
+fn entries<K: Kind>(count: usize) -> Vec<Entry> {
+    let mut random = Random::new(7);
+    let from = |i: usize| STEP * i as i128;
+    let range = |i| K::ends(from(i), from(i) + STEP / 2).expect("small keys");
+    let mut value = || random.below(200) as u8;
+    (0..count).map(|i| (range(i), value())).collect()
+}
+
+fn random_keys(ranges: usize, seed: u64) -> Vec<i64> {
+    let mut random = Random::new(seed);
+    let keys = ranges * STEP as usize;
+    (0..CALLS).map(|_| random.below(keys) as i64).collect()
+}
+
+/// Runs the works in turns, and gives the median of each in nanoseconds a call.
+fn race<const N: usize>(calls: usize, mut works: [&mut dyn FnMut(); N]) -> [f64; N] {
+    let mut times = [const { Vec::new() }; N];
+    for _ in 0..REPETITIONS {
+        for (work, times) in works.iter_mut().zip(&mut times) {
+            let start = Instant::now();
+            work();
+            times.push(start.elapsed().as_nanos() as f64 / calls as f64);
+        }
+    }
+    times.map(median)
+}
+
+fn median(mut times: Vec<f64>) -> f64 {
+    times.sort_by(f64::total_cmp);
+    times[times.len() / 2]
+}
+
+/// A figure that is wanted, and whether it was met.
+struct Wanted {
+    what: String,
+    most: f64,
+    got: f64,
+}
+
+fn tell(what: &str, [inner, checked, rust]: [f64; 3]) {
+    println!(
+        "{what}: inner door {inner:.1} ns, ratio {:.2}; checked door {checked:.1} ns, ratio {:.2}; rangemap {rust:.1} ns",
+        inner / rust,
+        checked / rust
+    );
+}
+
+/// All that is found, in one number, so that no lookup can be left out.
+fn sum_of(keys: &[i64], mut get: impl FnMut(i64) -> Option<Entry>) -> i64 {
+    let mut sum = 0;
+    for &key in black_box(keys) {
+        if let Some(((start, end), value)) = get(key) {
+            sum += start + end + i64::from(value);
+        }
+    }
+    black_box(sum)
+}
+
+fn entry_of(found: Range) -> Option<Entry> {
+    (found.answer == 0).then_some(((found.start, found.end), found.value))
+}
+
+fn lookups<K: Kind>() {
+    let entries = entries::<K>(RANGES);
+    let keys = random_keys(RANGES, 11);
+    let rust = K::rust_of(&entries);
+    let (mut map, mut lent) = (Map::of(&entries), Map::of(&entries));
+    // SAFETY: the map is well formed.
+    let inner = |m: &mut Map, key| unsafe { (K::OURS.get_key_value_unchecked)(m, key) };
+    let checked = |m: &mut Map, key| (K::OURS.get_key_value)(m, key);
+
+    let sum = sum_of(&keys, |key| K::rust_get(&rust, key));
+    assert_eq!(sum, sum_of(&keys, |key| entry_of(inner(&mut map, key))));
+    assert_eq!(sum, sum_of(&keys, |key| entry_of(checked(&mut map, key))));
+
+    let times = race(
+        CALLS,
+        [
+            &mut || {
+                sum_of(&keys, |key| entry_of(inner(&mut map, key)));
+            },
+            &mut || {
+                sum_of(&keys, |key| entry_of(checked(&mut lent, key)));
+            },
+            &mut || {
+                sum_of(&keys, |key| K::rust_get(&rust, key));
+            },
+        ],
+    );
+    let name = K::NAME;
+    tell(&format!("{name} map, lookup at {RANGES} ranges"), times);
+}
+
+/// One key gets a value that no entry has, and then what it had before: a split and a join, or a range more and one less.
+struct Edit {
+    range: Ends,
+    undo: Option<u8>,
+}
+
+const NEW: u8 = 255;
+
+fn edits<K: Kind>(rust: &K::Rust, keys: &[i64]) -> Vec<Edit> {
+    let edit = |&key: &i64| Edit {
+        range: K::ends(key.into(), i128::from(key) + 1).expect("small keys"),
+        undo: K::rust_get(rust, key).map(|entry| entry.1),
+    };
+    keys.iter().map(edit).collect()
+}
+
+fn edit_all<M>(m: &mut M, edits: &[Edit], mut edit: impl FnMut(&mut M, Ends, Option<u8>)) {
+    for one in black_box(edits) {
+        edit(m, one.range, Some(NEW));
+        edit(m, one.range, one.undo);
+    }
+    black_box(m);
+}
+
+fn edit_inner<K: Kind>(m: &mut Map, r: Ends, new: Option<u8>) {
+    // SAFETY: the map is well formed, and each edit leaves it so.
+    let answer = unsafe {
+        match new {
+            Some(value) => (K::OURS.insert_unchecked)(m, r.0, r.1, value),
+            None => (K::OURS.remove_unchecked)(m, r.0, r.1),
+        }
+    };
+    assert_eq!(answer, 0);
+}
+
+fn edit_checked<K: Kind>(m: &mut Map, r: Ends, new: Option<u8>) {
+    let answer = match new {
+        Some(value) => (K::OURS.insert)(m, r.0, r.1, value),
+        None => (K::OURS.remove)(m, r.0, r.1),
+    };
+    assert_eq!(answer, 0);
+}
+
+fn race_edits<K: Kind>(wanted: &mut Vec<Wanted>) {
+    let entries = entries::<K>(RANGES);
+    let mut rust = K::rust_of(&entries);
+    let edits = edits::<K>(&rust, &random_keys(RANGES, 13));
+    let (mut map, mut lent) = (Map::of(&entries), Map::of(&entries));
+    let times = race(
+        2 * CALLS,
+        [
+            &mut || edit_all(&mut map, &edits, edit_inner::<K>),
+            &mut || edit_all(&mut lent, &edits, edit_checked::<K>),
+            &mut || edit_all(&mut rust, &edits, |m, r, new| K::rust_edit(m, r, new)),
+        ],
+    );
+    // Each edit was undone.
+    let before = Map::of(&entries);
+    assert!(map == before && lent == before && K::rust_entries(&rust) == entries);
+
+    let what = format!("{} map, edit at {RANGES} ranges", K::NAME);
+    tell(&what, times);
+    wanted.push(Wanted {
+        what: format!("{what}, inner door, ratio"),
+        most: 1.5,
+        got: times[0] / times[2],
+    });
+}
+
+/// The lists that the gaps are written to.
+struct Lists {
+    starts: [i64; PLACES + 1],
+    ends: [i64; PLACES + 1],
+}
+
+impl Lists {
+    const EMPTY: Lists = Lists {
+        starts: [0; PLACES + 1],
+        ends: [0; PLACES + 1],
+    };
+
+    fn fill_by(&mut self, gaps: Gaps, m: &mut Map, r: Ends) -> usize {
+        let (starts, ends) = (&mut self.starts, &mut self.ends);
+        // SAFETY: the lists are there, and the map is well formed.
+        let count = unsafe {
+            gaps(
+                black_box(m),
+                r.0,
+                r.1,
+                starts.as_mut_ptr(),
+                starts.len(),
+                ends.as_mut_ptr(),
+                ends.len(),
+            )
+        };
+        assert_eq!(count.answer, 0);
+        black_box(self);
+        count.count
+    }
+
+    fn fill_by_rust<K: Kind>(&mut self, m: &K::Rust, r: Ends) -> usize {
+        let mut count = 0;
+        K::rust_each_gap(black_box(m), r, |(start, end)| {
+            self.starts[count] = start;
+            self.ends[count] = end;
+            count += 1;
+        });
+        black_box(self);
+        count
+    }
+}
+
+fn gaps<K: Kind>(wanted: &mut Vec<Wanted>) {
+    const CALLS: usize = 200;
+    let entries = entries::<K>(GAPS_RANGES);
+    let rust = K::rust_of(&entries);
+    let mut map = Map::of(&entries);
+    let mut lent = map.clone();
+    let r = K::ends(-5, STEP * GAPS_RANGES as i128).expect("small keys");
+
+    let (mut one, mut other, mut rusts) = (Lists::EMPTY, Lists::EMPTY, Lists::EMPTY);
+    let times = race(
+        CALLS,
+        [
+            &mut || {
+                for _ in 0..CALLS {
+                    one.fill_by(K::OURS.gaps_unchecked, &mut map, r);
+                }
+            },
+            &mut || {
+                for _ in 0..CALLS {
+                    other.fill_by(K::OURS.gaps, &mut lent, r);
+                }
+            },
+            &mut || {
+                for _ in 0..CALLS {
+                    rusts.fill_by_rust::<K>(&rust, r);
+                }
+            },
+        ],
+    );
+    assert_eq!(rusts.fill_by_rust::<K>(&rust, r), GAPS_RANGES + 1);
+    assert!(one.starts == rusts.starts && one.ends == rusts.ends);
+    assert!(other.starts == rusts.starts && other.ends == rusts.ends);
+
+    let what = format!("{} map, gaps of {GAPS_RANGES} ranges", K::NAME);
+    tell(&what, times);
+    wanted.push(Wanted {
+        what: format!("{what}, inner door, ratio"),
+        most: 0.6,
+        got: times[0] / times[2],
+    });
+}
+
+fn check<K: Kind>(wanted: &mut Vec<Wanted>) {
+    const CALLS: usize = 500;
+    for count in [0, RANGES, PLACES] {
+        let mut map = Map::of(&entries::<K>(count));
+        let check_all = &mut || {
+            for _ in 0..CALLS {
+                assert_eq!((K::OURS.well_formed)(black_box(&mut map)), 1);
+            }
+        };
+        let [time] = race(CALLS * PLACES, [check_all]);
+        let what = format!("{} map, the check at {count} ranges", K::NAME);
+        println!("{what}: {time:.2} ns a place");
+        wanted.push(Wanted {
+            what: format!("{what}, ns a place"),
+            most: 1.5,
+            got: time,
+        });
+    }
+}
+
+fn race_kind<K: Kind>(wanted: &mut Vec<Wanted>) {
+    lookups::<K>();
+    race_edits::<K>(wanted);
+    gaps::<K>(wanted);
+    check::<K>(wanted);
+}
+
+fn main() {
+    let mut wanted = Vec::new();
+    race_kind::<HalfOpen>(&mut wanted);
+    race_kind::<Inclusive>(&mut wanted);
+    for Wanted { what, most, got } in wanted {
+        let met = if got <= most { "met" } else { "NOT MET" };
+        println!("wanted at most {most}: {met}, {got:.2} ({what})");
+    }
+}

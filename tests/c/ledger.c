@@ -1,0 +1,408 @@
+/*
+ * Runs document 01's cases through the C header, and some refusals and damaged maps.
+ * Every check prints a line; the status is 1 if one of them fails. A map is compared with all its bytes.
+ */
+#include "hourledger.h"
+
+#include <stdio.h>
+#include <string.h>
+
+/* The maps have no padding, and the layout that the libraries were built for. */
+_Static_assert(sizeof(RangeMap) == 8 + HOURLEDGER_PLACES * 17, "the layout of RangeMap");
+_Static_assert(sizeof(RangeInclusiveMap) == sizeof(RangeMap), "the layout of RangeInclusiveMap");
+_Static_assert(sizeof(LedgerRange) == 32 && sizeof(LedgerStretch) == 24, "the layout of the answers");
+
+static int checks;
+static int failures;
+
+static void check(const char *name, bool good) {
+    checks++;
+    if (!good) {
+        failures++;
+    }
+    printf("%s %s\n", good ? "good" : "WRONG", name);
+}
+
+typedef struct Entry {
+    int64_t start;
+    int64_t end;
+    uint8_t value;
+} Entry;
+
+/* A list of entries and its length. */
+#define ENTRIES(...) (const Entry[]){__VA_ARGS__}, sizeof((const Entry[]){__VA_ARGS__}) / sizeof(Entry)
+#define NOTHING NULL, 0
+
+static bool is_range(LedgerRange r, uint8_t answer, int64_t start, int64_t end, uint8_t value) {
+    return r.answer == answer && r.start == start && r.end == end && r.value == value;
+}
+
+static bool is_told(LedgerTold r, uint8_t answer, bool yes) {
+    return r.answer == answer && r.yes == yes;
+}
+
+static bool is_count(LedgerCount r, uint8_t answer, size_t count) {
+    return r.answer == answer && r.count == count;
+}
+
+static bool is_stretch(LedgerStretch r, uint8_t answer, size_t place, size_t count) {
+    return r.answer == answer && r.place == place && r.count == count;
+}
+
+static bool is_order(LedgerOrder r, uint8_t answer, int8_t order) {
+    return r.answer == answer && r.order == order;
+}
+
+static bool is_applied(LedgerApplied r, uint8_t answer, size_t applied) {
+    return r.answer == answer && r.applied == applied;
+}
+
+static bool is_related(LedgerRelated r, uint8_t answer, bool yes) {
+    return r.answer == answer && r.yes == yes;
+}
+
+static bool is_common(LedgerIntersected r, uint8_t answer, int64_t start, int64_t end) {
+    return r.answer == answer && r.start == start && r.end == end;
+}
+
+/* The two kinds are two types, so each helper is written once and made twice. */
+#define HELPERS(MAP, FUNCTION)                                                                    \
+    /* The entries in the first places, and 0 in the others. */                                   \
+    static MAP FUNCTION##_holding(const Entry *entries, size_t count) {                           \
+        MAP m;                                                                                    \
+        memset(&m, 0, sizeof m);                                                                  \
+        m.count = count;                                                                          \
+        for (size_t i = 0; i < count; i++) {                                                      \
+            m.starts[i] = entries[i].start;                                                       \
+            m.ends[i] = entries[i].end;                                                           \
+            m.values[i] = entries[i].value;                                                       \
+        }                                                                                         \
+        return m;                                                                                 \
+    }                                                                                             \
+                                                                                                  \
+    static bool FUNCTION##_same(const MAP *m, const MAP *other) {                                 \
+        return memcmp(m, other, sizeof *m) == 0;                                                  \
+    }                                                                                             \
+                                                                                                  \
+    static bool FUNCTION##_holds(const MAP *m, const Entry *entries, size_t count) {              \
+        MAP expected = FUNCTION##_holding(entries, count);                                        \
+        return FUNCTION##_same(m, &expected) && FUNCTION##_well_formed(m);                        \
+    }                                                                                             \
+                                                                                                  \
+    /* A map that is not well formed: 4 from every function that checks, and no change. */        \
+    static bool FUNCTION##_refused(MAP *m) {                                                      \
+        const MAP before = *m;                                                                    \
+        MAP good = FUNCTION##_new();                                                              \
+        int64_t starts[2] = {7, 7}, ends[2] = {8, 8};                                             \
+        const uint8_t values[2] = {1, 1};                                                         \
+        bool refused = !FUNCTION##_well_formed(m)                                                 \
+            && is_told(FUNCTION##_is_empty(m), 4, false)                                          \
+            && is_count(FUNCTION##_len(m), 4, 0)                                                  \
+            && is_range(FUNCTION##_first_range_value(m), 4, 0, 0, 0)                              \
+            && is_range(FUNCTION##_last_range_value(m), 4, 0, 0, 0)                               \
+            && is_range(FUNCTION##_range_at(m, 0), 4, 0, 0, 0)                                    \
+            && is_range(FUNCTION##_get_key_value(m, 0), 4, 0, 0, 0)                               \
+            && is_told(FUNCTION##_contains_key(m, 0), 4, false)                                   \
+            && FUNCTION##_insert(m, 0, 5, 1) == 4 && FUNCTION##_insert(m, 5, 0, 1) == 4           \
+            && FUNCTION##_remove(m, 0, 5) == 4 && FUNCTION##_remove(m, 5, 0) == 4                 \
+            && is_stretch(FUNCTION##_overlapping(m, 0, 5), 4, 0, 0)                               \
+            && is_told(FUNCTION##_overlaps(m, 0, 5), 4, false)                                    \
+            && is_count(FUNCTION##_gaps(m, 0, 5, starts, 2, ends, 2), 4, 0)                       \
+            && is_told(FUNCTION##_eq(m, &good), 4, false)                                         \
+            && is_told(FUNCTION##_eq(&good, m), 4, false)                                         \
+            && is_order(FUNCTION##_cmp(m, &good), 4, 0)                                           \
+            && is_order(FUNCTION##_cmp(&good, m), 4, 0)                                           \
+            && is_applied(FUNCTION##_extend(m, starts, 2, ends, 2, values, 2), 4, 0);             \
+        bool kept = starts[0] == 7 && starts[1] == 7 && ends[0] == 8 && ends[1] == 8;             \
+        return refused && kept && FUNCTION##_same(m, &before);                                    \
+    }                                                                                             \
+                                                                                                  \
+    /* One damage of each sort, of a map of three ranges at 10, 20 and 30. */                     \
+    static void FUNCTION##_damaged(const MAP *good) {                                             \
+        MAP m = *good;                                                                            \
+        check(#MAP ", not damaged", FUNCTION##_well_formed(&m));                                  \
+        m.count = HOURLEDGER_PLACES + 1;                                                          \
+        check(#MAP ", damaged: count 513", FUNCTION##_refused(&m));                               \
+        m.count = SIZE_MAX;                                                                       \
+        check(#MAP ", damaged: the greatest count", FUNCTION##_refused(&m));                      \
+        m = *good;                                                                                \
+        m.count = 2;                                                                              \
+        check(#MAP ", damaged: count one less", FUNCTION##_refused(&m));                          \
+        m = *good;                                                                                \
+        m.ends[1] = m.starts[1] - 1;                                                              \
+        check(#MAP ", damaged: reversed", FUNCTION##_refused(&m));                                \
+        m = *good;                                                                                \
+        m.starts[1] = m.starts[0];                                                                \
+        check(#MAP ", damaged: overlapping", FUNCTION##_refused(&m));                             \
+        m = *good;                                                                                \
+        m.starts[0] = 100;                                                                        \
+        m.ends[0] = 105;                                                                          \
+        check(#MAP ", damaged: out of order", FUNCTION##_refused(&m));                            \
+        m = *good;                                                                                \
+        m.starts[3] = 1;                                                                          \
+        check(#MAP ", damaged: start of an unused place", FUNCTION##_refused(&m));                \
+        m = *good;                                                                                \
+        m.ends[HOURLEDGER_PLACES - 1] = -1;                                                       \
+        check(#MAP ", damaged: end of the last place", FUNCTION##_refused(&m));                   \
+        m = *good;                                                                                \
+        m.values[HOURLEDGER_PLACES - 1] = 1;                                                      \
+        check(#MAP ", damaged: value of the last place", FUNCTION##_refused(&m));                 \
+        FUNCTION##_clear(&m);                                                                     \
+        check(#MAP ", damaged: clear takes it", FUNCTION##_holds(&m, NOTHING));                   \
+    }
+
+HELPERS(RangeMap, range_map)
+HELPERS(RangeInclusiveMap, range_inclusive_map)
+
+static void relations(void) {
+    check("intersect 0..5 and 0..3: 0..3", is_common(range_intersect(0, 5, 0, 3), 0, 0, 3));
+    check("intersect 0..3 and 0..5: 0..3", is_common(range_intersect(0, 3, 0, 5), 0, 0, 3));
+    check("intersect 0..3 and 3..3: 5", is_common(range_intersect(0, 3, 3, 3), 5, 0, 0));
+    check("0..3 contains 2", is_related(range_contains(0, 3, 2), 0, true));
+    check("0..3 does not contain 3", is_related(range_contains(0, 3, 3), 0, false));
+    check("0..3 does not overlap 3..5", is_related(range_overlaps(0, 3, 3, 5), 0, false));
+    check("0..3 touches 3..5", is_related(range_touches(0, 3, 3, 5), 0, true));
+    check("4..4 touches 3..5: 1", is_related(range_touches(4, 4, 3, 5), 1, false));
+    check("0..=3 contains 3", is_related(range_inclusive_contains(0, 3, 3), 0, true));
+    check("0..=3 overlaps 3..=5", is_related(range_inclusive_overlaps(0, 3, 3, 5), 0, true));
+    check("0..=3 touches 4..=5", is_related(range_inclusive_touches(0, 3, 4, 5), 0, true));
+    check("0..=3 does not touch 5..=5", is_related(range_inclusive_touches(0, 3, 5, 5), 0, false));
+    check("intersect 0..=3 and 3..=3: 3..=3",
+          is_common(range_inclusive_intersect(0, 3, 3, 3), 0, 3, 3));
+}
+
+static void half_open_joins(void) {
+    RangeMap m = range_map_new();
+    check("new: empty", range_map_holds(&m, NOTHING));
+    check("insert 0..5>1", range_map_insert(&m, 0, 5, 1) == 0);
+    check("insert 5..8>1", range_map_insert(&m, 5, 8, 1) == 0);
+    check("0..5>1 and 5..8>1: 0..8>1", range_map_holds(&m, ENTRIES({0, 8, 1})));
+
+    m = range_map_holding(ENTRIES({0, 5, 1}));
+    check("insert 5..8>2", range_map_insert(&m, 5, 8, 2) == 0);
+    check("0..5>1 and 5..8>2: two ranges", range_map_holds(&m, ENTRIES({0, 5, 1}, {5, 8, 2})));
+}
+
+static void half_open_splits(void) {
+    RangeMap m = range_map_holding(ENTRIES({0, 8, 1}));
+    check("insert 2..4>2", range_map_insert(&m, 2, 4, 2) == 0);
+    check("0..8>1 and 2..4>2: three ranges",
+          range_map_holds(&m, ENTRIES({0, 2, 1}, {2, 4, 2}, {4, 8, 1})));
+
+    m = range_map_holding(ENTRIES({0, 8, 1}));
+    check("remove 3..6", range_map_remove(&m, 3, 6) == 0);
+    check("0..8>1 without 3..6: two ranges", range_map_holds(&m, ENTRIES({0, 3, 1}, {6, 8, 1})));
+
+    check("insert 4..4: 1", range_map_insert(&m, 4, 4, 1) == 1);
+    check("insert 9..4: 1", range_map_insert(&m, 9, 4, 1) == 1);
+    check("remove 4..4: 1", range_map_remove(&m, 4, 4) == 1);
+    check("after the refusals", range_map_holds(&m, ENTRIES({0, 3, 1}, {6, 8, 1})));
+}
+
+static void half_open_questions(void) {
+    const RangeMap m = range_map_holding(ENTRIES({0, 2, 1}, {2, 4, 2}, {6, 8, 1}));
+    check("not empty", is_told(range_map_is_empty(&m), 0, false));
+    check("count 3", is_count(range_map_len(&m), 0, 3));
+    check("first 0..2>1", is_range(range_map_first_range_value(&m), 0, 0, 2, 1));
+    check("last 6..8>1", is_range(range_map_last_range_value(&m), 0, 6, 8, 1));
+    check("place 1: 2..4>2", is_range(range_map_range_at(&m, 1), 0, 2, 4, 2));
+    check("place 3: 5", is_range(range_map_range_at(&m, 3), 5, 0, 0, 0));
+    check("get 3: 2..4>2", is_range(range_map_get_key_value(&m, 3), 0, 2, 4, 2));
+    check("get 4: 5", is_range(range_map_get_key_value(&m, 4), 5, 0, 0, 0));
+    check("get 7, inner door", is_range(range_map_get_key_value_unchecked(&m, 7), 0, 6, 8, 1));
+    check("contains 7", is_told(range_map_contains_key(&m, 7), 0, true));
+    check("contains 8: no", is_told(range_map_contains_key(&m, 8), 0, false));
+    check("overlapping 3..7: places 1 and 2", is_stretch(range_map_overlapping(&m, 3, 7), 0, 1, 2));
+    check("overlapping 4..6: none", is_stretch(range_map_overlapping(&m, 4, 6), 0, 0, 0));
+    check("overlapping 1..1: 1", is_stretch(range_map_overlapping(&m, 1, 1), 1, 0, 0));
+    check("overlaps 4..6: no", is_told(range_map_overlaps(&m, 4, 6), 0, false));
+    check("overlaps 4..7", is_told(range_map_overlaps(&m, 4, 7), 0, true));
+}
+
+static void half_open_gaps(void) {
+    const RangeMap m = range_map_holding(ENTRIES({0, 2, 1}, {6, 8, 1}));
+    int64_t starts[4] = {91, 92, 93, 94}, ends[4] = {95, 96, 97, 98};
+    check("gaps of -1..9 into 2 places: 3", is_count(range_map_gaps(&m, -1, 9, starts, 2, ends, 4), 3, 0));
+    check("gaps of 4..4: 1", is_count(range_map_gaps(&m, 4, 4, starts, 4, ends, 4), 1, 0));
+    check("the lists after the refusals",
+          starts[0] == 91 && starts[1] == 92 && starts[2] == 93 && ends[0] == 95 && ends[3] == 98);
+    check("gaps of -1..9: 3 of them", is_count(range_map_gaps(&m, -1, 9, starts, 4, ends, 4), 0, 3));
+    check("gaps of -1..9: -1..0, 2..6, 8..9",
+          starts[0] == -1 && ends[0] == 0 && starts[1] == 2 && ends[1] == 6 && starts[2] == 8 && ends[2] == 9);
+    check("the place past the count", starts[3] == 94 && ends[3] == 98);
+    check("gaps, inner door", is_count(range_map_gaps_unchecked(&m, 0, 8, starts, 1, ends, 1), 0, 1));
+    check("gaps of 0..8: 2..6", starts[0] == 2 && ends[0] == 6);
+}
+
+static void half_open_order(void) {
+    const RangeMap a = range_map_holding(ENTRIES({0, 2, 1}));
+    const RangeMap b = range_map_holding(ENTRIES({0, 2, 1}, {6, 8, 1}));
+    const RangeMap c = range_map_holding(ENTRIES({0, 3, 0}));
+    check("equal to itself", is_told(range_map_eq(&a, &a), 0, true));
+    check("not equal", is_told(range_map_eq(&a, &b), 0, false));
+    check("a prefix comes first", is_order(range_map_cmp(&a, &b), 0, -1));
+    check("the end before the value", is_order(range_map_cmp(&c, &b), 0, 1));
+    check("the order of a map and itself", is_order(range_map_cmp(&b, &b), 0, 0));
+}
+
+static void half_open_bulk(void) {
+    const int64_t starts[4] = {0, 5, 4, 7}, ends[4] = {5, 8, 4, 9};
+    const uint8_t values[4] = {1, 1, 1, 1};
+    RangeMap m = range_map_new();
+    check("bulk insert with a bad third entry: 1, two applied",
+          is_applied(range_map_extend(&m, starts, 4, ends, 4, values, 4), 1, 2));
+    check("the two stay", range_map_holds(&m, ENTRIES({0, 8, 1})));
+    range_map_clear(&m);
+    check("the shortest list decides", is_applied(range_map_extend(&m, starts, 4, ends, 1, values, 3), 0, 1));
+    check("one was applied", range_map_holds(&m, ENTRIES({0, 5, 1})));
+}
+
+/* 512 ranges of one value at 0..1, 2..3, and so on. */
+static void half_open_full(void) {
+    RangeMap m = range_map_new();
+    for (int64_t i = 0; i < HOURLEDGER_PLACES; i++) {
+        m.starts[i] = 2 * i;
+        m.ends[i] = 2 * i + 1;
+        m.values[i] = 7;
+    }
+    m.count = HOURLEDGER_PLACES;
+    const RangeMap full = m;
+    check("full: count 512", is_count(range_map_len(&m), 0, HOURLEDGER_PLACES));
+    check("full: insert 2000..2001: 2", range_map_insert(&m, 2000, 2001, 7) == 2);
+    check("full: unchanged", range_map_same(&m, &full));
+    check("full: insert 2000..2001, inner door: 2", range_map_insert_unchecked(&m, 2000, 2001, 7) == 2);
+    check("full: unchanged again", range_map_same(&m, &full));
+    check("full: insert 1..2", range_map_insert(&m, 1, 2, 7) == 0);
+    check("full: 511 ranges", is_count(range_map_len(&m), 0, HOURLEDGER_PLACES - 1));
+    check("full: 0..3>7 first", is_range(range_map_first_range_value(&m), 0, 0, 3, 7));
+    check("full: 2000..2001 fits now", range_map_insert_unchecked(&m, 2000, 2001, 7) == 0);
+    check("full: remove all", range_map_remove(&m, INT64_MIN, INT64_MAX) == 0);
+    check("full: nothing left", range_map_holds(&m, NOTHING));
+}
+
+static void half_open_ends(void) {
+    RangeMap m = range_map_new();
+    check("insert min..max>3", range_map_insert(&m, INT64_MIN, INT64_MAX, 3) == 0);
+    check("min..max>3", range_map_holds(&m, ENTRIES({INT64_MIN, INT64_MAX, 3})));
+    check("max is not covered", is_range(range_map_get_key_value(&m, INT64_MAX), 5, 0, 0, 0));
+    check("remove, inner door", range_map_remove_unchecked(&m, INT64_MIN + 1, INT64_MAX - 1) == 0);
+    check("both ends stay",
+          range_map_holds(&m, ENTRIES({INT64_MIN, INT64_MIN + 1, 3}, {INT64_MAX - 1, INT64_MAX, 3})));
+}
+
+static void half_open_damaged(void) {
+    const RangeMap good = range_map_holding(ENTRIES({10, 15, 1}, {20, 25, 1}, {30, 35, 1}));
+    range_map_damaged(&good);
+    RangeMap m = good;
+    m.ends[1] = m.starts[1];
+    check("RangeMap, damaged: empty", range_map_refused(&m));
+    m = good;
+    m.ends[0] = m.starts[1];
+    check("RangeMap, damaged: touching equals", range_map_refused(&m));
+    m.values[0] = 2;
+    check("RangeMap, touching with other values: well formed", range_map_well_formed(&m));
+}
+
+static void inclusive_cases(void) {
+    RangeInclusiveMap m = range_inclusive_map_new();
+    check("insert 1..=3>7", range_inclusive_map_insert(&m, 1, 3, 7) == 0);
+    check("insert 4..=6>7", range_inclusive_map_insert(&m, 4, 6, 7) == 0);
+    check("1..=3>7 then 4..=6>7: 1..=6>7", range_inclusive_map_holds(&m, ENTRIES({1, 6, 7})));
+    check("insert 5..=5", range_inclusive_map_insert(&m, 5, 5, 8) == 0);
+    check("1..=4, 5..=5, 6..=6", range_inclusive_map_holds(&m, ENTRIES({1, 4, 7}, {5, 5, 8}, {6, 6, 7})));
+    check("remove 2..=5", range_inclusive_map_remove(&m, 2, 5) == 0);
+    check("1..=1, 6..=6", range_inclusive_map_holds(&m, ENTRIES({1, 1, 7}, {6, 6, 7})));
+    check("insert 9..=4: 1", range_inclusive_map_insert(&m, 9, 4, 7) == 1);
+    check("after the refusal", range_inclusive_map_holds(&m, ENTRIES({1, 1, 7}, {6, 6, 7})));
+}
+
+static void inclusive_ends(void) {
+    RangeInclusiveMap m = range_inclusive_map_holding(ENTRIES({INT64_MAX - 1, INT64_MAX - 1, 4}));
+    check("insert max..=max>4", range_inclusive_map_insert(&m, INT64_MAX, INT64_MAX, 4) == 0);
+    check("the greatest key joins its neighbour",
+          range_inclusive_map_holds(&m, ENTRIES({INT64_MAX - 1, INT64_MAX, 4})));
+    check("get max", is_range(range_inclusive_map_get_key_value(&m, INT64_MAX), 0, INT64_MAX - 1, INT64_MAX, 4));
+    check("insert the full range", range_inclusive_map_insert(&m, INT64_MIN, INT64_MAX, 1) == 0);
+    check("the full range is held", range_inclusive_map_holds(&m, ENTRIES({INT64_MIN, INT64_MAX, 1})));
+    int64_t start = 5, end = 6;
+    check("it has no gap",
+          is_count(range_inclusive_map_gaps(&m, INT64_MIN, INT64_MAX, &start, 1, &end, 1), 0, 0));
+    check("remove max..=max", range_inclusive_map_remove_unchecked(&m, INT64_MAX, INT64_MAX) == 0);
+    check("all keys but the greatest", range_inclusive_map_holds(&m, ENTRIES({INT64_MIN, INT64_MAX - 1, 1})));
+    check("now it has one",
+          is_count(range_inclusive_map_gaps_unchecked(&m, INT64_MIN, INT64_MAX, &start, 1, &end, 1), 0, 1));
+    check("the gap max..=max", start == INT64_MAX && end == INT64_MAX);
+}
+
+static void inclusive_questions(void) {
+    const RangeInclusiveMap m = range_inclusive_map_holding(ENTRIES({0, 1, 1}, {2, 3, 2}, {6, 7, 1}));
+    check("inclusive, not empty", is_told(range_inclusive_map_is_empty(&m), 0, false));
+    check("inclusive, count 3", is_count(range_inclusive_map_len(&m), 0, 3));
+    check("inclusive, first", is_range(range_inclusive_map_first_range_value(&m), 0, 0, 1, 1));
+    check("inclusive, last", is_range(range_inclusive_map_last_range_value(&m), 0, 6, 7, 1));
+    check("inclusive, place 1", is_range(range_inclusive_map_range_at(&m, 1), 0, 2, 3, 2));
+    check("inclusive, get 3, inner door",
+          is_range(range_inclusive_map_get_key_value_unchecked(&m, 3), 0, 2, 3, 2));
+    check("inclusive, contains 4: no", is_told(range_inclusive_map_contains_key(&m, 4), 0, false));
+    check("inclusive, overlapping 3..=6: places 1 and 2",
+          is_stretch(range_inclusive_map_overlapping(&m, 3, 6), 0, 1, 2));
+    check("inclusive, overlaps 4..=5: no", is_told(range_inclusive_map_overlaps(&m, 4, 5), 0, false));
+    check("inclusive, equal to itself", is_told(range_inclusive_map_eq(&m, &m), 0, true));
+    check("inclusive, the order of a map and itself", is_order(range_inclusive_map_cmp(&m, &m), 0, 0));
+}
+
+/* 512 ranges of one value at 0..=0, 2..=2, and so on, by bulk insert. */
+static void inclusive_full(void) {
+    static int64_t keys[HOURLEDGER_PLACES];
+    static uint8_t values[HOURLEDGER_PLACES];
+    for (int64_t i = 0; i < HOURLEDGER_PLACES; i++) {
+        keys[i] = 2 * i;
+        values[i] = 7;
+    }
+    RangeInclusiveMap m = range_inclusive_map_new();
+    const size_t n = HOURLEDGER_PLACES;
+    const LedgerApplied applied = range_inclusive_map_extend(&m, keys, n, keys, n, values, n);
+    check("inclusive, full: bulk insert of 512", is_applied(applied, 0, n));
+    const RangeInclusiveMap full = m;
+    check("inclusive, full: insert 2000..=2000: 2", range_inclusive_map_insert_unchecked(&m, 2000, 2000, 7) == 2);
+    check("inclusive, full: unchanged", range_inclusive_map_same(&m, &full));
+    check("inclusive, full: insert 1..=1", range_inclusive_map_insert(&m, 1, 1, 7) == 0);
+    check("inclusive, full: 511 ranges", is_count(range_inclusive_map_len(&m), 0, n - 1));
+    check("inclusive, full: 0..=2>7 first", is_range(range_inclusive_map_first_range_value(&m), 0, 0, 2, 7));
+}
+
+static void inclusive_damaged(void) {
+    const RangeInclusiveMap good = range_inclusive_map_holding(ENTRIES({10, 15, 1}, {20, 25, 1}, {30, 35, 1}));
+    range_inclusive_map_damaged(&good);
+    RangeInclusiveMap m = good;
+    m.ends[0] = m.starts[1] - 1;
+    check("RangeInclusiveMap, damaged: touching equals", range_inclusive_map_refused(&m));
+    m.values[0] = 2;
+    check("RangeInclusiveMap, touching with other values: well formed", range_inclusive_map_well_formed(&m));
+    m.ends[0] = m.starts[1];
+    check("RangeInclusiveMap, damaged: a common key", range_inclusive_map_refused(&m));
+}
+
+int main(void) {
+    relations();
+    half_open_joins();
+    half_open_splits();
+    half_open_questions();
+    half_open_gaps();
+    half_open_order();
+    half_open_bulk();
+    half_open_full();
+    half_open_ends();
+    half_open_damaged();
+    inclusive_cases();
+    inclusive_ends();
+    inclusive_questions();
+    inclusive_full();
+    inclusive_damaged();
+    if (failures > 0) {
+        printf("%d of %d checks failed\n", failures, checks);
+        return 1;
+    }
+    printf("ok, %d checks\n", checks);
+    return 0;
+}
