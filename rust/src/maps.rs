@@ -14,7 +14,9 @@ use crate::ffi::Map;
 use crate::report::Report;
 use dense::Cells;
 use kind::{Ends, HalfOpen, Inclusive, Kind};
+use rangemap::RangeInclusiveMap;
 use std::cell::Cell;
+use std::cmp::Ordering;
 use std::fmt::{Arguments, Debug};
 use std::ops::Range;
 use std::panic::{catch_unwind, set_hook, take_hook, AssertUnwindSafe};
@@ -186,11 +188,13 @@ fn compare_exhausted(report: &mut Report) {
     report.part("inclusive map, an exhausted range".to_string());
     let mut exhausted = 5..=5;
     exhausted.next();
-    let mut rust = rangemap::RangeInclusiveMap::new();
-    rust.insert(exhausted, 1u8);
+    let rust = RangeInclusiveMap::from([(exhausted, 1u8)]);
+    let plain = RangeInclusiveMap::from([(5..=5, 1u8)]);
     let input = format_args!("an exhausted 5..=5");
     report.same(input, rust.len(), 1);
     report.same(input, rust.get(&5), None);
+    report.same(input, rust == plain, false);
+    report.same(input, rust.cmp(&plain), Ordering::Equal);
 
     // Ours has only the two ends, and so stores 5..=5.
     let mut map = Map::EMPTY;

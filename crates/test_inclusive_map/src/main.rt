@@ -260,9 +260,7 @@ fn print_place(m: Map, place: usize, many: usize) {
     if place > 0 {
         io::write_all(1, b", ");
     }
-    print_entry(numbers::range_at(
-        &m.count, &m.starts, &m.ends, &m.values, place,
-    ));
+    print_entry(numbers::range_at(&m.count, &m.starts, &m.ends, &m.values, place));
 }
 
 // The first places, of which there are eight at most.
@@ -281,9 +279,7 @@ fn print_places(m: Map, many: usize) {
 fn print_long(m: Map, count: usize) {
     print_places(m, 3);
     io::write_all(1, b", .., ");
-    print_entry(numbers::last_range_value(
-        &m.count, &m.starts, &m.ends, &m.values,
-    ));
+    print_entry(numbers::last_range_value(&m.count, &m.starts, &m.ends, &m.values));
     io::write_all(1, b": ");
     print_number(count);
     io::write_all(1, b" ranges");
@@ -472,15 +468,11 @@ fn ask_whole(m: Map, what: u8) {
         }
         b'h' => {
             io::write_all(1, b"first");
-            print_found(numbers::first_range_value(
-                &m.count, &m.starts, &m.ends, &m.values,
-            ));
+            print_found(numbers::first_range_value(&m.count, &m.starts, &m.ends, &m.values));
         }
         b'l' => {
             io::write_all(1, b"last");
-            print_found(numbers::last_range_value(
-                &m.count, &m.starts, &m.ends, &m.values,
-            ));
+            print_found(numbers::last_range_value(&m.count, &m.starts, &m.ends, &m.values));
         }
         _ => {}
     }
@@ -489,42 +481,28 @@ fn ask_whole(m: Map, what: u8) {
 fn ask_place(m: Map, place: u8) {
     io::write_all(1, b"range_at ");
     print_digits(place);
-    print_found(numbers::range_at(
-        &m.count,
-        &m.starts,
-        &m.ends,
-        &m.values,
-        place as usize,
-    ));
+    print_found(numbers::range_at(&m.count, &m.starts, &m.ends, &m.values, place as usize));
 }
 
 fn ask_get(m: Map, key: i64) {
     io::write_all(1, b"get ");
     print_key(key);
-    print_found(numbers::get_key_value(
-        &m.count, &m.starts, &m.ends, &m.values, key,
-    ));
+    print_found(numbers::get_key_value(&m.count, &m.starts, &m.ends, &m.values, key));
 }
 
 fn ask_contains(m: Map, key: i64) {
     io::write_all(1, b"contains ");
     print_key(key);
-    print_told(numbers::contains_key(
-        &m.count, &m.starts, &m.ends, &m.values, key,
-    ));
+    print_told(numbers::contains_key(&m.count, &m.starts, &m.ends, &m.values, key));
 }
 
 fn ask_overlapping(m: Map, r: Ends) {
     io::write_all(1, b"overlapping ");
     print_range(r);
-    print_stretch(numbers::overlapping(
-        &m.count, &m.starts, &m.ends, &m.values, r.start, r.end,
-    ));
+    print_stretch(numbers::overlapping(&m.count, &m.starts, &m.ends, &m.values, r.start, r.end));
     io::write_all(1, b"overlaps ");
     print_range(r);
-    print_told(numbers::overlaps(
-        &m.count, &m.starts, &m.ends, &m.values, r.start, r.end,
-    ));
+    print_told(numbers::overlaps(&m.count, &m.starts, &m.ends, &m.values, r.start, r.end));
 }
 
 // The range at a place of two lists.
@@ -556,7 +534,14 @@ fn ask_gaps(m: Map, r: Ends, out_starts: &mut [i64], out_ends: &mut [i64]) {
     io::write_all(1, b" into ");
     print_number(out_starts.len());
     print_count(numbers::gaps(
-        &m.count, &m.starts, &m.ends, &m.values, r.start, r.end, out_starts, out_ends,
+        &m.count,
+        &m.starts,
+        &m.ends,
+        &m.values,
+        r.start,
+        r.end,
+        out_starts,
+        out_ends,
     ));
     print_list(out_starts, out_ends);
 }
@@ -589,14 +574,28 @@ fn ask(m: Map, s: Step) {
 fn compare(a: Map, b: Map) {
     io::write_all(1, b"eq");
     let told = numbers::eq(
-        &a.count, &a.starts, &a.ends, &a.values, &b.count, &b.starts, &b.ends, &b.values,
+        &a.count,
+        &a.starts,
+        &a.ends,
+        &a.values,
+        &b.count,
+        &b.starts,
+        &b.ends,
+        &b.values,
     );
     io::write_all(1, b": ");
     print_digits(told.answer);
     print_yes(told.yes);
     io::write_all(1, b", cmp: ");
     print_order(numbers::cmp(
-        &a.count, &a.starts, &a.ends, &a.values, &b.count, &b.starts, &b.ends, &b.values,
+        &a.count,
+        &a.starts,
+        &a.ends,
+        &a.values,
+        &b.count,
+        &b.starts,
+        &b.ends,
+        &b.values,
     ));
 }
 
