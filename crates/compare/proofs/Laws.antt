@@ -14,7 +14,9 @@ use Rattle.span.specs.Span.{Span, span}
 use Rattle.span.specs.Operations.{flat, lex, order, flipped}
 use Rattle.span.proofs.Order.{order-refl, order-same, order-flip, order-trans}
 use Rattle.key.specs.Rank.{rank}
-use Rattle.key.specs.Range.{Kind, halfOpen, inclusive, rangeOf}
+use Rattle.key.specs.Range.{Kind, halfOpen, inclusive, rangeOf, kindOf}
+use Rattle.key.specs.declared.RangeKind.{RangeKind}
+use Rattle.key.specs.declared.RangeKind.the-variants as RangeKind
 use Rattle.key.proofs.Laws.{rank-inj}
 use Rattle.key.proofs.Lawful.{Lawful}
 use Rattle.outcomes.specs.Stored.{Stored, stored, spans, ranges, AllFit}
@@ -69,6 +71,10 @@ inclusive-ascends e e′ = rw compare·suc-suc
 -- so one piece of code serves both kinds
 pub one-order : (a b : Stored) → compared inclusive a b ≡ compared halfOpen a b
 one-order = compared-kind inclusive inclusive-ascends
+
+pub either-order : (k : RangeKind) (a b : Stored) → compared (kindOf k) a b ≡ compared halfOpen a b
+either-order RangeKind.HalfOpen a b = refl
+either-order RangeKind.Inclusive a b = one-order a b
 
 -- A TOTAL ORDER
 

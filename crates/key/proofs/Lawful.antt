@@ -6,7 +6,9 @@ use lib.IntN.{ℤ}
 use mir.Syntax.{w64}
 use mir.Val.{SFits, ofZ}
 use Rattle.key.specs.Rank.{rank, keyAt, keys, lesser}
-use Rattle.key.specs.Range.{Kind, halfOpen, inclusive}
+use Rattle.key.specs.Range.{Kind, halfOpen, inclusive, kindOf}
+use Rattle.key.specs.declared.RangeKind.{RangeKind}
+use Rattle.key.specs.declared.RangeKind.the-variants as RangeKind
 use Rattle.key.proofs.Laws.{rank-lesser, rank-below, key-fits, rank-key, key-rank}
 
 pub record Lawful (kind : Kind) : Type 0 where
@@ -52,3 +54,8 @@ inclusive-too = record {
   no-later = λ e e′ h. omega arith;
   least = λ e e′. omega (arith, rank-lesser e e′);
 }
+
+-- each kind that the code names is lawful
+pub lawful : (k : RangeKind) → Lawful (kindOf k)
+lawful RangeKind.HalfOpen = half-open
+lawful RangeKind.Inclusive = inclusive-too

@@ -8,6 +8,12 @@ ghost use Rattle.key.specs.Range.{halfOpen, inclusive, rangeOf, size, le
 // The least key, of rank 0.
 pub const LEAST: i64 = -9223372036854775808;
 
+// The two kinds of range: start..end, and start..=end.
+pub enum RangeKind {
+    HalfOpen,
+    Inclusive,
+}
+
 // The lesser of two keys.
 pub fn min(a: i64, b: i64) -> i64
     ensures { λ r. ⌜ r ≡ lesser a b ⌝ }

@@ -1,5 +1,5 @@
 // Module 2: the half-open map, from map.rs of rangemap. The exported functions, for C and Rust, are here: each lends all the fields of
-// its map to a function of `numbers`, which answers in numbers. Rattle callers use `cores`, over the fields.
+// its map to a function of `numbers`, which answers in numbers. Rattle callers use the crates `listing`, `finding` and `changing`.
 use outcomes::Applied;
 use outcomes::Count;
 use outcomes::Order;
@@ -8,10 +8,7 @@ use outcomes::Range;
 use outcomes::Stretch;
 use outcomes::Told;
 
-mod bulk;
-pub mod cores;
 pub mod numbers;
-pub mod unchecked;
 
 ghost use mathlib.Core.Path.{_≡_};
 ghost use mathlib.Core.Option.{some, none};

@@ -1,4 +1,5 @@
-// The same answers as structs of numbers: what C and Rust see.
+// The answers of this kind of map as structs of numbers: what C and Rust see.
+use key::RangeKind;
 use outcomes::Applied;
 use outcomes::Count;
 use outcomes::Order;
@@ -26,7 +27,7 @@ pub fn is_empty<'a>(
 ) -> Told
     ensures { λ r. ⌜ r ≡ toldOf (isEmpty halfOpen (lent (count .entry) (starts .entry) (ends .entry) (values .entry))) ⌝ }
 {
-    told_of(crate::cores::is_empty(count, starts, ends, values))
+    told_of(listing::is_empty(RangeKind::HalfOpen, count, starts, ends, values))
 }
 
 pub fn len<'a>(
@@ -37,7 +38,7 @@ pub fn len<'a>(
 ) -> Count
     ensures { λ r. ⌜ r ≡ countOf (counting halfOpen (lent (count .entry) (starts .entry) (ends .entry) (values .entry))) ⌝ }
 {
-    count_of(crate::cores::len(count, starts, ends, values))
+    count_of(listing::len(RangeKind::HalfOpen, count, starts, ends, values))
 }
 
 pub fn range_at<'a>(
@@ -49,7 +50,7 @@ pub fn range_at<'a>(
 ) -> Range
     ensures { λ r. ⌜ r ≡ rangeOf (rangeAt halfOpen (lent (count .entry) (starts .entry) (ends .entry) (values .entry)) place) ⌝ }
 {
-    range_of(crate::cores::range_at(count, starts, ends, values, place))
+    range_of(listing::range_at(RangeKind::HalfOpen, count, starts, ends, values, place))
 }
 
 pub fn first_range_value<'a>(
@@ -60,7 +61,7 @@ pub fn first_range_value<'a>(
 ) -> Range
     ensures { λ r. ⌜ r ≡ rangeOf (firstOf halfOpen (lent (count .entry) (starts .entry) (ends .entry) (values .entry))) ⌝ }
 {
-    range_of(crate::cores::first_range_value(count, starts, ends, values))
+    range_of(listing::first_range_value(RangeKind::HalfOpen, count, starts, ends, values))
 }
 
 pub fn last_range_value<'a>(
@@ -71,7 +72,7 @@ pub fn last_range_value<'a>(
 ) -> Range
     ensures { λ r. ⌜ r ≡ rangeOf (lastOf halfOpen (lent (count .entry) (starts .entry) (ends .entry) (values .entry))) ⌝ }
 {
-    range_of(crate::cores::last_range_value(count, starts, ends, values))
+    range_of(listing::last_range_value(RangeKind::HalfOpen, count, starts, ends, values))
 }
 
 pub fn get_key_value<'a>(
@@ -83,7 +84,7 @@ pub fn get_key_value<'a>(
 ) -> Range
     ensures { λ r. ⌜ r ≡ rangeOf (lookup halfOpen (lent (count .entry) (starts .entry) (ends .entry) (values .entry)) key) ⌝ }
 {
-    range_of(crate::cores::get_key_value(count, starts, ends, values, key))
+    range_of(finding::get_key_value(RangeKind::HalfOpen, count, starts, ends, values, key))
 }
 
 pub fn contains_key<'a>(
@@ -95,7 +96,7 @@ pub fn contains_key<'a>(
 ) -> Told
     ensures { λ r. ⌜ r ≡ toldOf (containing halfOpen (lent (count .entry) (starts .entry) (ends .entry) (values .entry)) key) ⌝ }
 {
-    told_of(crate::cores::contains_key(count, starts, ends, values, key))
+    told_of(finding::contains_key(RangeKind::HalfOpen, count, starts, ends, values, key))
 }
 
 pub fn overlaps<'a>(
@@ -108,7 +109,7 @@ pub fn overlaps<'a>(
 ) -> Told
     ensures { λ r. ⌜ r ≡ toldOf (meeting halfOpen (lent (count .entry) (starts .entry) (ends .entry) (values .entry)) start end) ⌝ }
 {
-    told_of(crate::cores::overlaps(count, starts, ends, values, start, end))
+    told_of(finding::overlaps(RangeKind::HalfOpen, count, starts, ends, values, start, end))
 }
 
 pub fn overlapping<'a>(
@@ -121,7 +122,7 @@ pub fn overlapping<'a>(
 ) -> Stretch
     ensures { λ r. ⌜ r ≡ stretchOf (overlapping halfOpen (lent (count .entry) (starts .entry) (ends .entry) (values .entry)) start end) ⌝ }
 {
-    stretch_of(crate::cores::overlapping(count, starts, ends, values, start, end))
+    stretch_of(finding::overlapping(RangeKind::HalfOpen, count, starts, ends, values, start, end))
 }
 
 pub fn gaps<'a>(
@@ -136,7 +137,8 @@ pub fn gaps<'a>(
 ) -> Count
     ensures { λ r. ⌜ Listed r (now («out_starts» .exit)) (now («out_ends» .exit)) (gapsIn halfOpen (lent (count .entry) (starts .entry) (ends .entry) (values .entry)) start end (now («out_starts» .entry)) (now («out_ends» .entry))) ⌝ }
 {
-    count_of(crate::cores::gaps(
+    count_of(finding::gaps(
+        RangeKind::HalfOpen,
         count,
         starts,
         ends,
@@ -160,7 +162,17 @@ pub fn eq<'a, 'b>(
 ) -> Told
     ensures { λ r. ⌜ r ≡ toldOf (equality halfOpen (lent (count .entry) (starts .entry) (ends .entry) (values .entry)) (lent (count2 .entry) (starts2 .entry) (ends2 .entry) (values2 .entry))) ⌝ }
 {
-    told_of(crate::cores::eq(count, starts, ends, values, count2, starts2, ends2, values2))
+    told_of(listing::eq(
+        RangeKind::HalfOpen,
+        count,
+        starts,
+        ends,
+        values,
+        count2,
+        starts2,
+        ends2,
+        values2,
+    ))
 }
 
 pub fn cmp<'a, 'b>(
@@ -175,7 +187,17 @@ pub fn cmp<'a, 'b>(
 ) -> Order
     ensures { λ r. ⌜ r ≡ orderOf (ordering halfOpen (lent (count .entry) (starts .entry) (ends .entry) (values .entry)) (lent (count2 .entry) (starts2 .entry) (ends2 .entry) (values2 .entry))) ⌝ }
 {
-    order_of(crate::cores::cmp(count, starts, ends, values, count2, starts2, ends2, values2))
+    order_of(listing::cmp(
+        RangeKind::HalfOpen,
+        count,
+        starts,
+        ends,
+        values,
+        count2,
+        starts2,
+        ends2,
+        values2,
+    ))
 }
 
 pub fn insert<'a>(
@@ -189,7 +211,16 @@ pub fn insert<'a>(
 ) -> u8
     ensures { λ r. ⌜ leaving r (lent (count .exit) (starts .exit) (ends .exit) (values .exit)) ≡ inserting halfOpen (lent (count .entry) (starts .entry) (ends .entry) (values .entry)) start end value ⌝ }
 {
-    crate::cores::insert(count, starts, ends, values, start, end, value)
+    changing::insert(
+        RangeKind::HalfOpen,
+        count,
+        starts,
+        ends,
+        values,
+        start,
+        end,
+        value,
+    )
 }
 
 pub fn remove<'a>(
@@ -202,7 +233,7 @@ pub fn remove<'a>(
 ) -> u8
     ensures { λ r. ⌜ leaving r (lent (count .exit) (starts .exit) (ends .exit) (values .exit)) ≡ removing halfOpen (lent (count .entry) (starts .entry) (ends .entry) (values .entry)) start end ⌝ }
 {
-    crate::cores::remove(count, starts, ends, values, start, end)
+    changing::remove(RangeKind::HalfOpen, count, starts, ends, values, start, end)
 }
 
 pub fn clear<'a>(
@@ -213,7 +244,7 @@ pub fn clear<'a>(
 )
     ensures { λ _. ⌜ (lent (count .exit) (starts .exit) (ends .exit) (values .exit)) ≡ cleared halfOpen ⌝ }
 {
-    crate::cores::clear(count, starts, ends, values)
+    changing::clear(count, starts, ends, values)
 }
 
 pub fn extend<'a>(
@@ -227,7 +258,8 @@ pub fn extend<'a>(
 ) -> Applied
     ensures { λ r. ⌜ extended r (lent (count .exit) (starts .exit) (ends .exit) (values .exit)) ≡ extending halfOpen (lent (count .entry) (starts .entry) (ends .entry) (values .entry)) (entries (now («new_starts» .entry)) (now («new_ends» .entry)) (now («new_values» .entry))) ⌝ }
 {
-    crate::bulk::extend(
+    changing::bulk::extend(
+        RangeKind::HalfOpen,
         count,
         starts,
         ends,
@@ -246,7 +278,7 @@ pub fn is_formed<'a>(
 ) -> bool
     ensures { λ r. ⌜ r ≡ formed halfOpen (lent (count .entry) (starts .entry) (ends .entry) (values .entry)) ⌝ }
 {
-    crate::cores::is_formed(*count, starts, ends, values)
+    places::formed::is_formed(RangeKind::HalfOpen, *count, starts, ends, values)
 }
 
 // The inner doors.
@@ -300,7 +332,16 @@ pub fn insert_unchecked<'a>(
     requires { ⌜ Sound halfOpen (lent count starts ends values) ⌝ }
     ensures { λ r. ⌜ leaving r (lent (count .exit) (starts .exit) (ends .exit) (values .exit)) ≡ editing halfOpen places (lent (count .entry) (starts .entry) (ends .entry) (values .entry)) start end (some value) ⌝ }
 {
-    crate::unchecked::insert(count, starts, ends, values, start, end, value)
+    changing::unchecked::insert(
+        RangeKind::HalfOpen,
+        count,
+        starts,
+        ends,
+        values,
+        start,
+        end,
+        value,
+    )
 }
 
 pub fn remove_unchecked<'a>(
@@ -314,5 +355,5 @@ pub fn remove_unchecked<'a>(
     requires { ⌜ Sound halfOpen (lent count starts ends values) ⌝ }
     ensures { λ r. ⌜ leaving r (lent (count .exit) (starts .exit) (ends .exit) (values .exit)) ≡ editing halfOpen places (lent (count .entry) (starts .entry) (ends .entry) (values .entry)) start end none ⌝ }
 {
-    crate::unchecked::remove(count, starts, ends, values, start, end)
+    changing::unchecked::remove(RangeKind::HalfOpen, count, starts, ends, values, start, end)
 }

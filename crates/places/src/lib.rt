@@ -1,3 +1,5 @@
-// The places of a map: the check of a lent map (mod check), and the search among its ends (mod search).
+// The places of a map: the check of a lent map (mod check), of a whole map of either kind (mod formed), and the search among its ends
+// (mod search).
 pub mod check;
+pub mod formed;
 pub mod search;
