@@ -47,13 +47,13 @@ unfolding zeros
 all-zeros [] h = refl
 all-zeros (z ∷ zs) h = and-yes (zero-is z (h 0)) (all-zeros zs (λ k. h (suc k)))
 
-noughts-all : (l : List ℕ) → noughts l ≡ true → (k : ℕ) → getD l k 0 ≡ 0
+pub noughts-all : (l : List ℕ) → noughts l ≡ true → (k : ℕ) → getD l k 0 ≡ 0
 unfolding noughts
 noughts-all [] e k = refl
 noughts-all (n ∷ ns) e zero = eqb-true n 0 (both (eqb n 0) (noughts ns) e .0)
 noughts-all (n ∷ ns) e (suc k) = noughts-all ns (both (eqb n 0) (noughts ns) e .1) k
 
-all-noughts : (l : List ℕ) → ((k : ℕ) → getD l k 0 ≡ 0) → noughts l ≡ true
+pub all-noughts : (l : List ℕ) → ((k : ℕ) → getD l k 0 ≡ 0) → noughts l ≡ true
 unfolding noughts
 all-noughts [] h = refl
 all-noughts (n ∷ ns) h = and-yes (eq-eqb n 0 (h 0)) (all-noughts ns (λ k. h (suc k)))

@@ -1,5 +1,6 @@
 -- What a reader must believe of maps: Stored (what a map stores, what it holds, when it is well formed), Outcomes (what each function answers and leaves),
--- Numbers (each answer's number and values).
+-- Sets (the same for sets: intersection, union, total), Numbers (each answer's number and values).
 pub mod Stored
 pub mod Numbers
 pub mod Outcomes
+pub mod Sets

@@ -17,6 +17,9 @@ use Rattle.outcomes.specs.declared.Stretch.{Stretch}
 use Rattle.outcomes.specs.declared.Compared.{Compared}
 use Rattle.outcomes.specs.declared.Compared.the-variants as Compared
 use Rattle.outcomes.specs.declared.Order.{Order}
+use Rattle.outcomes.specs.declared.Totalled.{Totalled}
+use Rattle.outcomes.specs.declared.Totalled.the-variants as Totalled
+use Rattle.outcomes.specs.declared.Total.{Total}
 
 abbrev pub toldOf : Asked → Told
 toldOf Asked.Yes = record { answer = 0; yes = true }
@@ -47,3 +50,7 @@ equalOf Compared.Less = Asked.No
 equalOf Compared.Equal = Asked.Yes
 equalOf Compared.Greater = Asked.No
 equalOf (Compared.Refused n) = Asked.Refused n
+
+abbrev pub totalOf : Totalled → Total
+totalOf (Totalled.Total n) = record { answer = 0; total = n }
+totalOf (Totalled.Refused n) = record { answer = n; total = 0 }

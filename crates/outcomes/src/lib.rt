@@ -2,7 +2,7 @@
 // C and Rust see it as a struct of numbers. Both kinds of map, and the sets, share them.
 ghost use mathlib.Core.Path.{_≡_};
 ghost use Rattle.outcomes.specs.Stored.{places};
-ghost use Rattle.outcomes.specs.Numbers.{toldOf, countOf, rangeOf, stretchOf, orderOf, equalOf};
+ghost use Rattle.outcomes.specs.Numbers.{toldOf, countOf, rangeOf, stretchOf, orderOf, equalOf, totalOf};
 
 // How many places a map has.
 pub const PLACES: usize = 512;
@@ -26,6 +26,8 @@ pub const TOO_SHORT: u8 = 3;
 pub const NOT_FORMED: u8 = 4;
 
 pub const NONE_THERE: u8 = 5;
+
+pub const TOTAL_OVER: u8 = 9;
 
 // Yes or no.
 pub enum Asked {
@@ -91,6 +93,18 @@ pub enum Compared {
 pub struct Order {
     pub answer: u8,
     pub order: i8,
+}
+
+// How many keys a set covers.
+pub enum Totalled {
+    Total(u64),
+    Refused(u8),
+}
+
+#[repr(C)]
+pub struct Total {
+    pub answer: u8,
+    pub total: u64,
 }
 
 // How a list of edits went: the first refusal, or 0, and how many were applied before it.
@@ -189,6 +203,21 @@ pub fn order_of(a: Compared) -> Order
         Compared::Refused(n) => Order {
             answer: n,
             order: 0,
+        },
+    }
+}
+
+pub fn total_of(a: Totalled) -> Total
+    ensures { λ n. ⌜ n ≡ totalOf a ⌝ }
+{
+    match a {
+        Totalled::Total(n) => Total {
+            answer: 0,
+            total: n,
+        },
+        Totalled::Refused(n) => Total {
+            answer: n,
+            total: 0,
         },
     }
 }

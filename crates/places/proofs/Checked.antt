@@ -15,7 +15,7 @@ use Rattle.outcomes.specs.Stored.{Stored, ranges, wellFormed, AllFit}
 use Rattle.outcomes.proofs.Formed.{Formed, Shaped, formed, well-formed, length-ranges, getD-ranges}
 use Rattle.places.specs.Check.{place, Steps, Keys, Unused}
 
-refused : (t : Bool) → (t ≡ true → ⊥) → false ≡ t
+pub refused : (t : Bool) → (t ≡ true → ⊥) → false ≡ t
 refused true h = absurd (h refl)
 refused false h = refl
 

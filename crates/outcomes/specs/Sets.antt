@@ -1,0 +1,72 @@
+-- Document 01, modules 4 and 5: a set is a map whose values are all 0. What is asked of two sets, intersection and union, and of one, its total.
+-- `kind` is `halfOpen` or `inclusive`. First what is answered of well-formed sets (the inner doors of the code promise that), then the same of any:
+-- 4 if a set is not well formed or holds a value but 0, then 9 if a total is over 2^64 - 1, then 3 if the lent output is too short.
+use Prim.Native.Nat.{ℕ}
+use mathlib.Core.Path.{_≡_}
+use mathlib.Core.Bool.{Bool, true, _&&_, cond}
+use mathlib.Core.List.{List}
+use lib.Dec.{ltb}
+use lib.IntN.{ℤ}
+use Rattle.span.specs.Span.{Span}
+use Rattle.span.specs.Operations.{common, united, total}
+use Rattle.key.specs.Rank.{keys}
+use Rattle.key.specs.Range.{Kind}
+use Rattle.outcomes.specs.Stored.{Stored, ranges, noughts, Sound}
+use Rattle.outcomes.specs.Outcomes.{Written, writing, formed}
+use Rattle.outcomes.specs.declared.Counted.the-variants as Counted
+use Rattle.outcomes.specs.declared.Totalled.{Totalled}
+use Rattle.outcomes.specs.declared.Totalled.the-variants as Totalled
+
+-- A SET: the values of all places are 0
+unfoldable pub plain : Stored → Bool
+plain m = noughts (m .values)
+
+-- what an inner door requires of the set that it is lent: a sound map whose values are all 0. The check finds that out
+pub record SoundSet (kind : Kind) (m : Stored) : Type 0 where
+  pub sound : Sound kind m
+  pub plain-too : plain m ≡ true
+
+-- the union of two sets, as document 01 has it: spans that overlap become one, and spans that only touch stay apart
+unfoldable pub unionOf : List Span → List Span → List Span
+unionOf a b = united a b
+
+-- a number of keys, where a u64 holds it, and else 9
+unfoldable pub totalIs : ℕ → Totalled
+totalIs n = cond (ltb n keys) (Totalled.Total n) (Totalled.Refused 9)
+
+-- what a list answers that is not written: the lent lists are as they were
+abbrev pub notWritten : ℕ → List ℤ → List ℤ → Written
+notWritten n starts ends = record { answer = Counted.Refused n; starts = starts; ends = ends }
+
+module _ (kind : Kind) where
+  -- OF WELL-FORMED SETS
+
+  -- the common points as maximal ranges, ascending
+  unfoldable pub intersected : Stored → Stored → List ℤ → List ℤ → Written
+  intersected a b starts ends = writing kind (common (ranges kind a) (ranges kind b)) starts ends
+
+  -- the points of either, ascending and disjoint
+  unfoldable pub joining : Stored → Stored → List ℤ → List ℤ → Written
+  joining a b starts ends = writing kind (unionOf (ranges kind a) (ranges kind b)) starts ends
+
+  -- how many keys are covered
+  unfoldable pub totalled : Stored → Totalled
+  totalled m = totalIs (total (ranges kind m))
+
+  -- OF ANY SETS
+
+  -- is a lent set as it must be
+  abbrev pub formedSet : Stored → Bool
+  formedSet m = formed kind m && plain m
+
+  -- INTERSECTION
+  unfoldable pub intersecting : Stored → Stored → List ℤ → List ℤ → Written
+  intersecting a b starts ends = cond (formedSet a && formedSet b) (intersected a b starts ends) (notWritten 4 starts ends)
+
+  -- UNION
+  unfoldable pub uniting : Stored → Stored → List ℤ → List ℤ → Written
+  uniting a b starts ends = cond (formedSet a && formedSet b) (joining a b starts ends) (notWritten 4 starts ends)
+
+  -- TOTAL
+  unfoldable pub totalling : Stored → Totalled
+  totalling m = cond (formedSet m) (totalled m) (Totalled.Refused 4)

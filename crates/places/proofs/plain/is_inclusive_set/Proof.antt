@@ -1,0 +1,34 @@
+-- `places::plain::is_inclusive_set` meets its contract.
+use mathlib.Core.Path.{sym, _∙_}
+use native.Mathlib.Omega.{arith}
+use borrow.Author.Needs.{needs}
+use borrow.Author.Tests.{not-true, not-false}
+use Rattle.key.specs.Range.{inclusive}
+use Rattle.key.proofs.Answers.{never}
+use Rattle.outcomes.specs.Stored.{stored}
+use Rattle.places.proofs.Sets.{no-set, set-answers}
+use Rattle.places.proofs.plain.is_inclusive_set.Statement.{statement}
+use Rattle.places.proofs.plain.is_inclusive_set.Tie as tie
+
+plain-requires : tie.Need-plain-requires
+plain-requires c κs = search needs
+
+returns : tie.Need-returns
+returns c =
+    let a = c .before .before .before .args in
+    let m = stored (a .count) (a .starts .now) (a .ends .now) (a .values .now) in
+    (no-set inclusive m (sym (c .before .plain .ensures) ∙ not-true _ (c .if1 .taken)), λ e. never e)
+
+well-formed-inclusive-requires : tie.Need-well-formed-inclusive-requires
+well-formed-inclusive-requires c κs = search needs
+
+returns-2 : tie.Need-returns-2
+returns-2 c =
+    let s = c .before .before .before .before .before .before .before in
+    let a = s .args in
+    let m = stored (a .count) (a .starts .now) (a .ends .now) (a .values .now) in
+    let p = c .before .before .before .before .before .plain .ensures in
+    set-answers inclusive m _ (omega arith) (omega arith) (omega arith) (sym p ∙ not-false _ (c .before .before .before .before .if1 .left)) (c .well-formed-inclusive .ensures .0) (c .well-formed-inclusive .ensures .1)
+
+pub is-inclusive-set-spec : {M : Type 1} → statement M
+is-inclusive-set-spec = tie.close (tie.spec plain-requires returns well-formed-inclusive-requires returns-2)
