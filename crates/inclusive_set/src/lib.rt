@@ -1,0 +1,239 @@
+// Module 5: the inclusive set, from inclusive_set.rs of rangemap. The exported functions, for C and Rust, are here: each lends all the fields of its set
+// to a function of `numbers`, which answers in numbers. Rattle callers use the crate `sets`.
+use outcomes::Applied;
+use outcomes::Count;
+use outcomes::Order;
+use outcomes::PLACES;
+use outcomes::Range;
+use outcomes::Stretch;
+use outcomes::Told;
+
+pub mod numbers;
+
+ghost use mathlib.Core.Path.{_≡_};
+ghost use Rattle.key.specs.Range.{inclusive};
+ghost use Rattle.outcomes.specs.Numbers.{toldOf, countOf, rangeOf, stretchOf, orderOf};
+ghost use Rattle.outcomes.specs.Outcomes.{Listed, cleared, extended, leaving};
+ghost use Rattle.outcomes.specs.Sets.{formedSet};
+ghost use Rattle.sets.specs.Answers.{pairs, setContaining, setCounting, setEquality, setExtending, setFirst, setGaps, setInserting, setIsEmpty, setLast, setLookup, setMeeting, setOrdering, setOverlapping, setRangeAt, setRemoving};
+ghost use Rattle.inclusive_set.specs.Set.{held};
+
+// A set of inclusive ranges: the first `count` places hold the ranges, ascending; the others hold 0. All values are 0.
+#[repr(C)]
+pub struct RangeInclusiveSet {
+    pub count: usize,
+    pub starts: [i64; PLACES],
+    pub ends: [i64; PLACES],
+    pub values: [u8; PLACES],
+}
+
+// A new set, which covers nothing.
+#[no_mangle]
+pub extern "C" fn range_inclusive_set_new() -> RangeInclusiveSet
+    ensures { λ r. ⌜ held r ≡ cleared inclusive ⌝ }
+{
+    RangeInclusiveSet {
+        count: 0,
+        starts: [0; PLACES],
+        ends: [0; PLACES],
+        values: [0; PLACES],
+    }
+}
+
+// Whether nothing is held.
+#[no_mangle]
+pub extern "C" fn range_inclusive_set_is_empty(m: &RangeInclusiveSet) -> Told
+    ensures { λ r. ⌜ r ≡ toldOf (setIsEmpty inclusive (held (now (m .entry)))) ⌝ }
+{
+    numbers::is_empty(&m.count, &m.starts, &m.ends, &m.values)
+}
+
+// How many ranges are held.
+#[no_mangle]
+pub extern "C" fn range_inclusive_set_len(m: &RangeInclusiveSet) -> Count
+    ensures { λ r. ⌜ r ≡ countOf (setCounting inclusive (held (now (m .entry)))) ⌝ }
+{
+    numbers::len(&m.count, &m.starts, &m.ends, &m.values)
+}
+
+// The range at a place.
+#[no_mangle]
+pub extern "C" fn range_inclusive_set_range_at(m: &RangeInclusiveSet, place: usize) -> Range
+    ensures { λ r. ⌜ r ≡ rangeOf (setRangeAt inclusive (held (now (m .entry))) place) ⌝ }
+{
+    numbers::range_at(&m.count, &m.starts, &m.ends, &m.values, place)
+}
+
+// The first range.
+#[no_mangle]
+pub extern "C" fn range_inclusive_set_first(m: &RangeInclusiveSet) -> Range
+    ensures { λ r. ⌜ r ≡ rangeOf (setFirst inclusive (held (now (m .entry)))) ⌝ }
+{
+    numbers::first(&m.count, &m.starts, &m.ends, &m.values)
+}
+
+// The last range.
+#[no_mangle]
+pub extern "C" fn range_inclusive_set_last(m: &RangeInclusiveSet) -> Range
+    ensures { λ r. ⌜ r ≡ rangeOf (setLast inclusive (held (now (m .entry)))) ⌝ }
+{
+    numbers::last(&m.count, &m.starts, &m.ends, &m.values)
+}
+
+// The range that holds the key.
+#[no_mangle]
+pub extern "C" fn range_inclusive_set_get(m: &RangeInclusiveSet, key: i64) -> Range
+    ensures { λ r. ⌜ r ≡ rangeOf (setLookup inclusive (held (now (m .entry))) key) ⌝ }
+{
+    numbers::get(&m.count, &m.starts, &m.ends, &m.values, key)
+}
+
+// Whether some range holds the key.
+#[no_mangle]
+pub extern "C" fn range_inclusive_set_contains(m: &RangeInclusiveSet, key: i64) -> Told
+    ensures { λ r. ⌜ r ≡ toldOf (setContaining inclusive (held (now (m .entry))) key) ⌝ }
+{
+    numbers::contains(&m.count, &m.starts, &m.ends, &m.values, key)
+}
+
+// Whether some range has a key of the query.
+#[no_mangle]
+pub extern "C" fn range_inclusive_set_overlaps(m: &RangeInclusiveSet, start: i64, end: i64) -> Told
+    ensures { λ r. ⌜ r ≡ toldOf (setMeeting inclusive (held (now (m .entry))) start end) ⌝ }
+{
+    numbers::overlaps(&m.count, &m.starts, &m.ends, &m.values, start, end)
+}
+
+// Which consecutive stored part meets the query.
+#[no_mangle]
+pub extern "C" fn range_inclusive_set_overlapping(
+    m: &RangeInclusiveSet,
+    start: i64,
+    end: i64,
+) -> Stretch
+    ensures { λ r. ⌜ r ≡ stretchOf (setOverlapping inclusive (held (now (m .entry))) start end) ⌝ }
+{
+    numbers::overlapping(&m.count, &m.starts, &m.ends, &m.values, start, end)
+}
+
+// The maximal uncovered ranges inside start..=end, into the first places of two lent lists.
+#[no_mangle]
+pub extern "C" fn range_inclusive_set_gaps(
+    m: &RangeInclusiveSet,
+    start: i64,
+    end: i64,
+    out_starts: &mut [i64],
+    out_ends: &mut [i64],
+) -> Count
+    ensures { λ r. ⌜ Listed r (now («out_starts» .exit)) (now («out_ends» .exit)) (setGaps inclusive (held (now (m .entry))) start end (now («out_starts» .entry)) (now («out_ends» .entry))) ⌝ }
+{
+    numbers::gaps(
+        &m.count,
+        &m.starts,
+        &m.ends,
+        &m.values,
+        start,
+        end,
+        out_starts,
+        out_ends,
+    )
+}
+
+// Whether two sets hold the same ranges.
+#[no_mangle]
+pub extern "C" fn range_inclusive_set_eq(a: &RangeInclusiveSet, b: &RangeInclusiveSet) -> Told
+    ensures { λ r. ⌜ r ≡ toldOf (setEquality inclusive (held (now (a .entry))) (held (now (b .entry)))) ⌝ }
+{
+    numbers::eq(
+        &a.count,
+        &a.starts,
+        &a.ends,
+        &a.values,
+        &b.count,
+        &b.starts,
+        &b.ends,
+        &b.values,
+    )
+}
+
+// Which of two maps comes first: -1, 0 or 1.
+#[no_mangle]
+pub extern "C" fn range_inclusive_set_cmp(a: &RangeInclusiveSet, b: &RangeInclusiveSet) -> Order
+    ensures { λ r. ⌜ r ≡ orderOf (setOrdering inclusive (held (now (a .entry))) (held (now (b .entry)))) ⌝ }
+{
+    numbers::cmp(
+        &a.count,
+        &a.starts,
+        &a.ends,
+        &a.values,
+        &b.count,
+        &b.starts,
+        &b.ends,
+        &b.values,
+    )
+}
+
+// Covers each instant of start..=end, and no other.
+#[no_mangle]
+pub extern "C" fn range_inclusive_set_insert(m: &mut RangeInclusiveSet, start: i64, end: i64) -> u8
+    ensures { λ r. ⌜ leaving r (held (now (m .exit))) ≡ setInserting inclusive (held (now (m .entry))) start end ⌝ }
+{
+    numbers::insert(
+        &mut m.count,
+        &mut m.starts,
+        &mut m.ends,
+        &mut m.values,
+        start,
+        end,
+    )
+}
+
+// Uncovers exactly the instants of start..=end.
+#[no_mangle]
+pub extern "C" fn range_inclusive_set_remove(m: &mut RangeInclusiveSet, start: i64, end: i64) -> u8
+    ensures { λ r. ⌜ leaving r (held (now (m .exit))) ≡ setRemoving inclusive (held (now (m .entry))) start end ⌝ }
+{
+    numbers::remove(
+        &mut m.count,
+        &mut m.starts,
+        &mut m.ends,
+        &mut m.values,
+        start,
+        end,
+    )
+}
+
+// Inserts the ranges of two lent lists in order, up to the first refusal.
+#[no_mangle]
+pub extern "C" fn range_inclusive_set_extend(
+    m: &mut RangeInclusiveSet,
+    starts: &[i64],
+    ends: &[i64],
+) -> Applied
+    ensures { λ r. ⌜ extended r (held (now (m .exit))) ≡ setExtending inclusive (held (now (m .entry))) (pairs (now (starts .entry)) (now (ends .entry))) ⌝ }
+{
+    numbers::extend(
+        &mut m.count,
+        &mut m.starts,
+        &mut m.ends,
+        &mut m.values,
+        starts,
+        ends,
+    )
+}
+
+// Leaves nothing covered, whatever the set was.
+#[no_mangle]
+pub extern "C" fn range_inclusive_set_clear(m: &mut RangeInclusiveSet)
+    ensures { λ _. ⌜ (held (now (m .exit))) ≡ cleared inclusive ⌝ }
+{
+    numbers::clear(&mut m.count, &mut m.starts, &mut m.ends, &mut m.values)
+}
+
+// Whether a map is well formed.
+#[no_mangle]
+pub extern "C" fn range_inclusive_set_well_formed(m: &RangeInclusiveSet) -> bool
+    ensures { λ r. ⌜ r ≡ formedSet inclusive (held (now (m .entry))) ⌝ }
+{
+    numbers::is_formed(&m.count, &m.starts, &m.ends, &m.values)
+}

@@ -1,0 +1,3 @@
+-- Held: a struct is what it stores. Sets: the set as the thin functions lend it.
+pub mod Held
+pub mod Sets

@@ -1,0 +1,25 @@
+-- `set::range_set_eq` meets its contract: it lends all the fields of each set to `numbers::eq`, and passes the rest on (`thin`, Thin.antt).
+use mathlib.Core.Path.{refl}
+use mathlib.Core.List.{[], _∷_}
+use base.Logic.{id⊢}
+use Rattle.thin.proofs.Thin.{lend, proves}
+use Rattle.thin.proofs.Numbers.{a-struct}
+use Rattle.set.proofs.Sets.{range-set}
+use Rattle.outcomes.proofs.Told as Told
+use Rattle.outcomes.proofs.Told.Laws as Told′
+use Rattle.set.proofs.numbers.eq as g
+use Rattle.set.proofs.numbers.eq.Symbol as g-def
+use Rattle.set.proofs.numbers.eq.Met as g-thm
+use Rattle.set.proofs.range_set_eq as f
+use Rattle.set.proofs.range_set_eq.Key as f-key
+use Rattle.set.proofs.range_set_eq.Statement as stated
+use Rattle.set.proofs.range_set_eq.Code as code
+
+pub range-set-eq-spec : {M : Type 1} → stated.statement M
+unfolding code.routine
+range-set-eq-spec 𝓤 H 𝓜 𝓖 𝓡 =
+    proves 𝓤 H 𝓜 𝓖 𝓡 (lend range-set ∷ lend range-set ∷ []) (a-struct Told.the-type Told′.the-laws Told′.mir refl)
+    (λ κs a. f.clauses 𝓤 H (𝓖 .A) (𝓜 .mem) (𝓡 .run) κs a .requires tt) (λ κs a. f.clauses 𝓤 H (𝓖 .A) (𝓜 .mem) (𝓡 .run) κs a .ensures tt)
+    (λ κs a. g.clauses 𝓤 H (𝓖 .A) (𝓜 .mem) (𝓡 .run) κs a .requires tt) (λ κs a. g.clauses 𝓤 H (𝓖 .A) (𝓜 .mem) (𝓡 .run) κs a .ensures tt)
+    (λ κs a k. id⊢ 𝓤 _) (λ κs a k r zs. id⊢ 𝓤 _)
+    code.env f-key.name code.function (code.unfolded 𝓤 H 𝓜 𝓡) g-def.name g-def.routine code.calls-set·numbers·eq (g-thm.met 𝓤 H 𝓜 𝓖 𝓡) (λ κs a. refl) refl (λ κs a. refl)

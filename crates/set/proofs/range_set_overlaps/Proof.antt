@@ -1,0 +1,26 @@
+-- `set::range_set_overlaps` meets its contract: it lends all the fields of each set to `numbers::overlaps`, and passes the rest on (`thin`, Thin.antt).
+use mathlib.Core.Path.{refl}
+use mathlib.Core.List.{[], _∷_}
+use mir.Syntax.{w64}
+use base.Logic.{id⊢}
+use Rattle.thin.proofs.Thin.{lend, value, proves}
+use Rattle.thin.proofs.Numbers.{a-struct, sint}
+use Rattle.set.proofs.Sets.{range-set}
+use Rattle.outcomes.proofs.Told as Told
+use Rattle.outcomes.proofs.Told.Laws as Told′
+use Rattle.set.proofs.numbers.overlaps as g
+use Rattle.set.proofs.numbers.overlaps.Symbol as g-def
+use Rattle.set.proofs.numbers.overlaps.Met as g-thm
+use Rattle.set.proofs.range_set_overlaps as f
+use Rattle.set.proofs.range_set_overlaps.Key as f-key
+use Rattle.set.proofs.range_set_overlaps.Statement as stated
+use Rattle.set.proofs.range_set_overlaps.Code as code
+
+pub range-set-overlaps-spec : {M : Type 1} → stated.statement M
+unfolding code.routine
+range-set-overlaps-spec 𝓤 H 𝓜 𝓖 𝓡 =
+    proves 𝓤 H 𝓜 𝓖 𝓡 (lend range-set ∷ value (sint w64) ∷ value (sint w64) ∷ []) (a-struct Told.the-type Told′.the-laws Told′.mir refl)
+    (λ κs a. f.clauses 𝓤 H (𝓖 .A) (𝓜 .mem) (𝓡 .run) κs a .requires tt) (λ κs a. f.clauses 𝓤 H (𝓖 .A) (𝓜 .mem) (𝓡 .run) κs a .ensures tt)
+    (λ κs a. g.clauses 𝓤 H (𝓖 .A) (𝓜 .mem) (𝓡 .run) κs a .requires tt) (λ κs a. g.clauses 𝓤 H (𝓖 .A) (𝓜 .mem) (𝓡 .run) κs a .ensures tt)
+    (λ κs a k. id⊢ 𝓤 _) (λ κs a k r zs. id⊢ 𝓤 _)
+    code.env f-key.name code.function (code.unfolded 𝓤 H 𝓜 𝓡) g-def.name g-def.routine code.calls-set·numbers·overlaps (g-thm.met 𝓤 H 𝓜 𝓖 𝓡) (λ κs a. refl) refl (λ κs a. refl)

@@ -1,0 +1,2 @@
+-- Pairs: the entries of two lists.
+pub mod Pairs

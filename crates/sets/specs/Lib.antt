@@ -1,0 +1,2 @@
+-- What a reader must believe of sets: what each function of a set answers.
+pub mod Answers
