@@ -1,0 +1,3 @@
+-- Keys (the key of a midnight as a plain number).
+pub mod Keys
+pub mod Accepted
