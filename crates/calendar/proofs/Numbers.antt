@@ -1,16 +1,16 @@
 -- Day numbers: a date's as the code adds it up, the next date's one more, and one date for each number.
 use Prim.Native.Nat.{ℕ, zero, suc, _+_, _-_, _≤_, _<_}
 use native.Mathlib.Omega.{arith}
-use native.Mathlib.Decide.{decLt, ℕ-discrete}
-use mathlib.Core.Path.{_≡_, refl, sym, ap, ap₂, subst, _∙_}
-use mathlib.Core.Bool.{Bool, true, false, _&&_, cond}
-use lib.Dec.{eqb, ltb, leb}
-use borrow.Author.Tests.{ltb-true, ltb-false, leb-true, le-leb, lt-ltb, le-ltb}
+use native.Mathlib.Decide.{decLt}
+use mathlib.Core.Path.{_≡_, refl, ap, ap₂, subst, _∙_}
+use mathlib.Core.Bool.{true, false}
+use lib.Dec.{leb}
+use borrow.Author.Tests.{leb-true, le-leb, lt-ltb, le-ltb}
 use Rattle.calendar.specs.declared.Date.{Date}
 use Rattle.calendar.specs.Calendar.{date, leap, yearLength, monthLength, total, yearsBefore, monthsBefore, dayNumber, isDate, nextDate}
 use Rattle.calendar.specs.Years.{Known}
 use Rattle.calendar.proofs.Every.{cases, both}
-use Rattle.calendar.proofs.Lengths.{month-short, month-there, month-long, year-of-months, years-before-is}
+use Rattle.calendar.proofs.Lengths.{month-there, month-long, year-of-months, years-before-is}
 
 pub day-number-of : (d : Date) {a b : ℕ} → a ≡ yearsBefore (d .year) → b ≡ monthsBefore (d .year) (d .month) → a + b + (d .day - 1) ≡ dayNumber d
 unfolding dayNumber
@@ -212,3 +212,25 @@ year-short y = cases (leap y) (λ (n : ℕ). n ≤ 366) (λ _. omega arith) (λ 
 
 pub number-below : (d : Date) → There d → Known (d .year) → dayNumber d < 65536
 number-below d t k = omega (arith, number-of d, in-year d t, year-short (d .year), years-before-is (d .year) k)
+
+-- A LATER DATE has a greater number: in a later year, in a later month of the year, on a later day of the month
+module _ (d e : Date) (t : There d) (u : There e) where
+  pub later-year : 1970 ≤ d .year → d .year < e .year → dayNumber d < dayNumber e
+  later-year k h = omega (arith, number-of d, number-of e, in-year d t, years-suc (d .year) k, years-mono (suc (d .year)) (e .year) (omega arith))
+
+  pub later-month : d .year ≡ e .year → d .month < e .month → dayNumber d < dayNumber e
+  later-month y h =
+      omega (
+        arith,
+        number-of d,
+        number-of e,
+        ap yearsBefore y,
+        year-day d t .1,
+        year-day e u .0,
+        months-mono (d .year) (suc (d .month)) (e .month) (omega arith),
+        ap (λ (x : ℕ). monthsBefore x (e .month)) y,
+      )
+
+  pub later-day : d .year ≡ e .year → d .month ≡ e .month → d .day < e .day → dayNumber d < dayNumber e
+  unfolding dayNumber
+  later-day y m h = omega (arith, t, ap yearsBefore y, ap₂ monthsBefore y m)

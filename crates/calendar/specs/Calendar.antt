@@ -1,7 +1,7 @@
 -- Document 01, Log days: the Gregorian calendar, days counted from 1970-01-01, and the two Sundays on which clocks change (15 U.S.C. 260a).
 use Prim.Native.Nat.{ℕ, zero, suc, _+_, _-_, _%_}
-use mathlib.Core.Bool.{Bool, true, false, _&&_, _||_, not, cond}
-use mathlib.Core.List.{List, [], _∷_}
+use mathlib.Core.Bool.{Bool, _&&_, _||_, not, cond}
+use mathlib.Core.List.{[], _∷_}
 use lib.Dec.{eqb, ltb, leb}
 use lib.ListN.{getD}
 use Rattle.calendar.specs.declared.Date.{Date}

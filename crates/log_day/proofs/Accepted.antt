@@ -1,17 +1,15 @@
 -- Which zones and dates are accepted, and what is known of those and of the next date.
-use Prim.Native.Nat.{ℕ, zero, suc, _+_, _≤_, _<_}
+use Prim.Native.Nat.{ℕ, _≤_, _<_}
 use native.Mathlib.Omega.{arith}
-use native.Mathlib.Decide.{decLt}
-use mathlib.Core.Path.{_≡_, refl, sym, ap, subst, _∙_}
-use mathlib.Core.Bool.{Bool, true, false, _&&_, cond}
+use mathlib.Core.Path.{_≡_, sym, ap, _∙_}
+use mathlib.Core.Bool.{true, false, _&&_}
 use lib.Dec.{ltb, leb}
 use borrow.Author.Tests.{ltb-true, leb-true, lt-ltb, le-ltb, le-leb, lt-leb}
 use Rattle.calendar.specs.declared.Date.{Date}
-use Rattle.calendar.specs.Calendar.{date, dayNumber, isDate, nextDate}
+use Rattle.calendar.specs.Calendar.{date, isDate, nextDate}
 use Rattle.calendar.specs.Years.{Known}
 use Rattle.calendar.proofs.Every.{both}
 use Rattle.calendar.proofs.Numbers.{There, there, Follows, Onward, same-year, new-year, follows}
-use Rattle.log_day.specs.declared.Day.{Day}
 use Rattle.log_day.specs.declared.Day.the-variants.{Span, Refused}
 use Rattle.log_day.specs.Days.{zones, midnight, accepted, dayOf}
 
