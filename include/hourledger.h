@@ -1,6 +1,6 @@
 /*
- * Hourledger for C: relations of ranges, maps of half-open ranges and maps of inclusive ranges.
- * Keys are int64_t, values are uint8_t. Link the static libraries relations, map and inclusive_map.
+ * Hourledger for C: relations of ranges, maps of half-open ranges, maps of inclusive ranges, and log days.
+ * Keys are int64_t, values are uint8_t. Link the static libraries relations, map, inclusive_map and log_day.
  *
  * ANSWERS
  *   0  done
@@ -9,7 +9,8 @@
  *   3  lent output too short
  *   4  lent map not well formed
  *   5  not covered, or no such place: an answer, not a fault
- * Where several apply, the first of 4, 1, 5, 2, 3 is given. The first lent map is checked before the second.
+ *   8  bad zone or date
+ * Where several apply, the first of 4, 1, 8, 5, 2, 3 is given. The first lent map is checked before the second.
  * On any number but 0, every other result field is 0 and all lent memory is unchanged. Bulk insert alone differs: see there.
  *
  * RANGES
@@ -296,6 +297,24 @@ uint8_t range_inclusive_map_remove_unchecked(RangeInclusiveMap *m, int64_t start
 LedgerCount range_inclusive_map_gaps_unchecked(const RangeInclusiveMap *m, int64_t start, int64_t end,
                                                int64_t *out_starts, size_t out_starts_length,
                                                int64_t *out_ends, size_t out_ends_length);
+
+/* ---- LOG DAYS ---- */
+
+/*
+ * A day of the log, from its local midnight to the next date's, as keys: UTC seconds since 1970-01-01,
+ * without leap seconds. Start and end are 0 unless the answer is 0.
+ */
+typedef struct LogDay {
+    uint8_t answer;
+    int64_t start;
+    int64_t end;
+} LogDay;
+
+/*
+ * The day of a date in a zone: 0 Eastern, 1 Central, 2 Mountain, 3 Pacific, 4 Alaska, 5 Hawaii,
+ * 6 Mountain without clock changes. 8 if there is no such zone, or no such date in the years 2007 to 2099.
+ */
+LogDay log_day(uint8_t zone, uint16_t year, uint8_t month, uint8_t day);
 
 #ifdef __cplusplus
 }
