@@ -1,7 +1,7 @@
 // The Gregorian calendar for the years 1970 to 2100: lengths of months, day numbers since 1970-01-01, and the Sundays on which clocks change.
 ghost use mathlib.Core.Path.{_≡_};
 ghost use mathlib.Core.Bool.{true};
-ghost use Prim.Native.Nat.{_+_, _*_, _^_, _≤_, _<_};
+ghost use Prim.Native.Nat.{_*_, _≤_, _<_};
 ghost use Rattle.calendar.specs.Calendar.{leap, monthLength, yearsBefore, monthsBefore, dayNumber, isDate, nextDate, sundayFrom, marchSunday, novemberSunday};
 ghost use Rattle.calendar.specs.Years.{Known};
 
@@ -40,7 +40,7 @@ fn february(year: u16) -> u8
 }
 
 // The length of a month, 0 for a month that is not there.
-pub fn month_length(year: u16, month: u8) -> u8
+fn month_length(year: u16, month: u8) -> u8
     ensures { λ r. ⌜ (r ≡ monthLength year month) × (r ≤ 31) ⌝ }
 {
     if 12 < month {
@@ -52,7 +52,7 @@ pub fn month_length(year: u16, month: u8) -> u8
     LENGTHS[month as usize]
 }
 
-// The days of the months before a month: those before the last of them, and the last.
+// The days of the months before a month: those before the last of them, and the last. The month falls with each call.
 fn months_before(year: u16, month: u8) -> u32
     ensures { λ r. ⌜ (r ≡ monthsBefore year month) × (r ≤ 31 * month) ⌝ }
 {
@@ -62,7 +62,7 @@ fn months_before(year: u16, month: u8) -> u32
     months_before(year, month - 1) + month_length(year, month - 1) as u32
 }
 
-// The days of the years before a year: one more for every fourth, since of the hundreds only 2000 lies between, which is a leap year.
+// The days of the years before a year: one more for every fourth. Of the hundreds only 2000 comes before one of these years, and it is a leap year.
 fn years_before(year: u16) -> u32
     requires { ⌜ Known year ⌝ }
     ensures { λ r. ⌜ (r ≡ yearsBefore year) × (r < 50000) ⌝ }
@@ -71,6 +71,7 @@ fn years_before(year: u16) -> u32
     365 * n + (n + 1) / 4
 }
 
+// A date's day number.
 pub fn day_number(date: Date) -> DayNumber
     requires { ⌜ Known (date .year) × (1 ≤ date .day) ⌝ }
     ensures { λ r. ⌜ (r .0 ≡ dayNumber date) × (r .0 < 65536) ⌝ }
@@ -120,7 +121,7 @@ pub fn next(date: Date) -> Date
 }
 
 // The first Sunday on or after a day.
-pub fn sunday_from(n: DayNumber) -> DayNumber
+fn sunday_from(n: DayNumber) -> DayNumber
     requires { ⌜ n .0 < 65536 ⌝ }
     ensures { λ r. ⌜ (r .0 ≡ sundayFrom (n .0)) × (r .0 < 65544) ⌝ }
 {
@@ -132,14 +133,12 @@ pub fn march_sunday(year: u16) -> DayNumber
     requires { ⌜ Known year ⌝ }
     ensures { λ r. ⌜ r .0 ≡ marchSunday year ⌝ }
 {
-    DayNumber(
-        sunday_from(day_number(Date {
-            year: year,
-            month: 3,
-            day: 1,
-        })).0
-            + 7,
-    )
+    let first = sunday_from(day_number(Date {
+        year: year,
+        month: 3,
+        day: 1,
+    }));
+    DayNumber(first.0 + 7)
 }
 
 // The first Sunday of November.

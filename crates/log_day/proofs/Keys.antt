@@ -1,14 +1,14 @@
 -- The key of a midnight as a plain number: the zones lie west, so UTC midnight less the offset adds 4 to 10 hours.
 use Prim.Native.Nat.{ℕ, suc, _+_, _-_, _*_, _^_, _≤_, _<_}
 use native.Mathlib.Omega.{arith}
-use mathlib.Core.Path.{_≡_, refl, ap, ap₂, _∙_}
+use mathlib.Core.Path.{_≡_, refl, sym, ap, ap₂, _∙_}
 use mathlib.Core.Bool.{Bool, true, false, _&&_, cond}
-use lib.Dec.{T, leb, leb→le}
+use lib.Dec.{T, ltb, leb, leb→le}
 use lib.IntN.{ℤ, pos, negsuc, natAbs, _+ℤ_, _-ℤ_}
 use mir.Syntax.{w64}
 use mir.Val.{SFits, toZ, ofZ}
 use mir.Facts.{and-yes, toZ-ofZ}
-use borrow.Author.Tests.{lt-ltb, le-ltb}
+use borrow.Author.Tests.{lt-ltb, le-ltb, le-leb, lt-leb}
 use Rattle.calendar.specs.declared.Date.{Date}
 use Rattle.calendar.specs.Calendar.{dayNumber, marchSunday, novemberSunday}
 use Rattle.calendar.proofs.Every.{every, at, cases}
@@ -80,14 +80,22 @@ seconds-below z d h n = let w = standard-west z h in omega (arith, ap natAbs (w 
 pub midnight-fits : (z : ℕ) (d : Date) → z < zones → dayNumber d < 65536 → SFits w64 (midnight z d)
 midnight-fits z d h n = rw (midnight-seconds z d h) (record { sfits = omega (arith, seconds-below z d h n) })
 
--- a midnight's clock, as the code finds it: up to March's second Sunday, and after it
+and-false : (t : Bool) → (t && false) ≡ false
+and-false true = refl
+and-false false = refl
+
+-- a midnight's clock, as the code finds it
 pub early : (d : Date) → dayNumber d ≤ marchSunday (d .year) → false ≡ daylight d
 unfolding daylight
 early d h = rw (le-ltb (marchSunday (d .year)) (dayNumber d) h)
 
-pub past-march : (d : Date) → marchSunday (d .year) < dayNumber d → leb (dayNumber d) (novemberSunday (d .year)) ≡ daylight d
+pub summer-gone : (d : Date) → novemberSunday (d .year) < dayNumber d → false ≡ daylight d
 unfolding daylight
-past-march d h = rw (lt-ltb (marchSunday (d .year)) (dayNumber d) h)
+summer-gone d h = rw (lt-leb (dayNumber d) (novemberSunday (d .year)) h) (sym (and-false (ltb (marchSunday (d .year)) (dayNumber d))))
+
+pub in-summer : (d : Date) → marchSunday (d .year) < dayNumber d → dayNumber d ≤ novemberSunday (d .year) → true ≡ daylight d
+unfolding daylight
+in-summer d h i = rw (lt-ltb (marchSunday (d .year)) (dayNumber d) h, le-leb (dayNumber d) (novemberSunday (d .year)) i)
 
 -- the offset of a midnight, by its clock
 pub offset-later : (z : ℕ) (d : Date) → (changes z && daylight d) ≡ true → standard z +ℤ pos 3600 ≡ offset z d

@@ -6,7 +6,6 @@ use mathlib.Core.Path.{_≡_, refl, sym, ap, ap₂, subst, _∙_}
 use mathlib.Core.Bool.{Bool, true, false, _&&_}
 use lib.Dec.{T}
 use lib.IntN.{ℤ, pos, natAbs}
-use borrow.Author.Tests.{le-leb, lt-leb}
 use Rattle.calendar.specs.declared.Date.{Date}
 use Rattle.calendar.specs.Calendar.{date, dayNumber, nextDate, marchSunday, novemberSunday}
 use Rattle.calendar.proofs.Numbers.{There, Follows, Onward, same-year, new-year, number-below, date-yes}
@@ -16,22 +15,22 @@ use Rattle.log_day.specs.declared.Day.{Day}
 use Rattle.log_day.specs.declared.Day.the-variants.{Span, Refused}
 use Rattle.log_day.specs.declared.LogDay.{LogDay}
 use Rattle.log_day.specs.Days.{zones, standard, changes, daylight, accepted, dayOf, logDayOf}
-use Rattle.log_day.proofs.Keys.{seconds, midnight-seconds, seconds-below, standard-west, early, past-march}
+use Rattle.log_day.proofs.Keys.{seconds, midnight-seconds, seconds-below, standard-west, early, summer-gone, in-summer}
 use Rattle.log_day.proofs.Accepted.{Good, good, good-accepted, next-follows, next-known, accepts, refuses}
 
 -- a midnight's clock: before the summer, in it, after it
 data Clock (d : Date) : Type 0 where
   spring-comes : daylight d ≡ false → dayNumber d ≤ marchSunday (d .year) → Clock d
   summer : daylight d ≡ true → marchSunday (d .year) < dayNumber d → dayNumber d ≤ novemberSunday (d .year) → Clock d
-  summer-gone : daylight d ≡ false → novemberSunday (d .year) < dayNumber d → Clock d
+  gone : daylight d ≡ false → novemberSunday (d .year) < dayNumber d → Clock d
 
 clock : (d : Date) → Clock d
 clock d =
     elim (decLt (marchSunday (d .year)) (dayNumber d)) [
       | yes p ↦
           elim (decLt (novemberSunday (d .year)) (dayNumber d)) [
-            | yes q ↦ summer-gone (sym (past-march d p) ∙ lt-leb (dayNumber d) (novemberSunday (d .year)) q) q
-            | no q ↦ summer (sym (past-march d p) ∙ le-leb (dayNumber d) (novemberSunday (d .year)) (omega arith)) p (omega arith)
+            | yes q ↦ gone (sym (summer-gone d q)) q
+            | no q ↦ summer (sym (in-summer d p (omega arith))) p (omega arith)
           ]
       | no p ↦ spring-comes (sym (early d (omega arith))) (omega arith)
     ]
@@ -46,20 +45,20 @@ module _ (d e : Date) (n : dayNumber e ≡ suc (dayNumber d)) (y : e .year ≡ d
   in-year : Clock d → Clock e → Turn d e
   in-year (spring-comes p q) (spring-comes r s) = stays (p ∙ sym r) (λ h. omega arith) (λ h. omega arith)
   in-year (spring-comes p q) (summer r s t) = goes-on p r (omega arith)
-  in-year (spring-comes p q) (summer-gone r s) = absurd (omega arith)
+  in-year (spring-comes p q) (gone r s) = absurd (omega arith)
   in-year (summer p q u) (spring-comes r s) = absurd (omega arith)
   in-year (summer p q u) (summer r s t) = stays (p ∙ sym r) (λ h. omega arith) (λ h. omega arith)
-  in-year (summer p q u) (summer-gone r s) = goes-back p r (omega arith)
-  in-year (summer-gone p q) (spring-comes r s) = absurd (omega arith)
-  in-year (summer-gone p q) (summer r s t) = absurd (omega arith)
-  in-year (summer-gone p q) (summer-gone r s) = stays (p ∙ sym r) (λ h. omega arith) (λ h. omega arith)
+  in-year (summer p q u) (gone r s) = goes-back p r (omega arith)
+  in-year (gone p q) (spring-comes r s) = absurd (omega arith)
+  in-year (gone p q) (summer r s t) = absurd (omega arith)
+  in-year (gone p q) (gone r s) = stays (p ∙ sym r) (λ h. omega arith) (λ h. omega arith)
 
 -- over the turn of the year it stays
 over-year : (d e : Date) → There d → e ≡ date (d .year + 1) 1 1 → d .month ≡ 12 → Turn d e
 over-year d e t p q =
     let after = december-after d t q in
     let k = changes-of (d .year) in
-    let winter : daylight d ≡ false = sym (past-march d (omega arith)) ∙ lt-leb (dayNumber d) (novemberSunday (d .year)) after in
+    let winter : daylight d ≡ false = sym (summer-gone d after) in
     let new : daylight e ≡ false = ap daylight p ∙ sym (early (date (d .year + 1) 1 1) (year-starts (d .year + 1))) in
     stays (winter ∙ sym new) (λ h. omega arith) (λ h. omega arith)
 
@@ -71,13 +70,13 @@ turn d e t f = go (f .onward)
     go (new-year p q) = over-year d e t p q
 
 -- the key of a midnight, by its clock
-in-summer : (z : ℕ) (d : Date) → changes z ≡ true → daylight d ≡ true → seconds z d ≡ 86400 * dayNumber d + (natAbs (standard z) - 3600)
+on-daylight : (z : ℕ) (d : Date) → changes z ≡ true → daylight d ≡ true → seconds z d ≡ 86400 * dayNumber d + (natAbs (standard z) - 3600)
 unfolding seconds
-in-summer z d c e = rw (c, e)
+on-daylight z d c e = rw (c, e)
 
-in-winter : (z : ℕ) (d : Date) → changes z ≡ true → daylight d ≡ false → seconds z d ≡ 86400 * dayNumber d + natAbs (standard z)
+on-standard : (z : ℕ) (d : Date) → changes z ≡ true → daylight d ≡ false → seconds z d ≡ 86400 * dayNumber d + natAbs (standard z)
 unfolding seconds
-in-winter z d c e = rw (c, e) (omega arith)
+on-standard z d c e = rw (c, e) (omega arith)
 
 unchanged : (z : ℕ) (d : Date) → changes z ≡ false → seconds z d ≡ 86400 * dayNumber d + natAbs (standard z)
 unfolding seconds
@@ -94,13 +93,13 @@ pub data Length (z : ℕ) (d : Date) (n : ℕ) : Type 0 where
 
 module _ (z : ℕ) (d e : Date) (h : z < zones) (n : dayNumber e ≡ suc (dayNumber d)) where
   lengthy : changes z ≡ true → Turn d e → Length z d (seconds z e - seconds z d)
-  lengthy c (goes-on p q i) = short (omega (arith, west z h, in-winter z d c p, in-summer z e c q)) c i
-  lengthy c (goes-back p q i) = long (omega (arith, west z h, in-summer z d c p, in-winter z e c q)) c i
+  lengthy c (goes-on p q i) = short (omega (arith, west z h, on-standard z d c p, on-daylight z e c q)) c i
+  lengthy c (goes-back p q i) = long (omega (arith, west z h, on-daylight z d c p, on-standard z e c q)) c i
   lengthy c (stays p i j) = plain (same (daylight d) refl) (λ _. i) (λ _. j)
     where
       same : (b : Bool) → daylight d ≡ b → seconds z e - seconds z d ≡ 86400
-      same true q = omega (arith, west z h, in-summer z d c q, in-summer z e c (sym p ∙ q))
-      same false q = omega (arith, west z h, in-winter z d c q, in-winter z e c (sym p ∙ q))
+      same true q = omega (arith, west z h, on-daylight z d c q, on-daylight z e c (sym p ∙ q))
+      same false q = omega (arith, west z h, on-standard z d c q, on-standard z e c (sym p ∙ q))
 
   never : (b : Bool) {X : Type 0} → b ≡ false → b ≡ true → X
   never b p q = absurd (subst T (sym q ∙ p) tt)

@@ -5,7 +5,6 @@ ghost use mathlib.Core.Path.{_≡_};
 ghost use mathlib.Core.Bool.{_&&_};
 ghost use Prim.Native.Nat.{_*_, _<_, _≤_};
 ghost use lib.IntN.{pos};
-ghost use Rattle.calendar.specs.Calendar.{date};
 ghost use Rattle.calendar.specs.Years.{Known};
 ghost use Rattle.log_day.specs.Days.{zones, standard, changes, daylight, offset, midnight, accepted, dayOf, logDayOf};
 
@@ -24,12 +23,12 @@ pub struct LogDay {
 }
 
 // How many zones there are: 0 Eastern, 1 Central, 2 Mountain, 3 Pacific, 4 Alaska, 5 Hawaii, 6 Mountain, fixed.
-pub const ZONES: u8 = 7;
+pub const ZONES: usize = 7;
 
 // The zones' standard offsets, in seconds, and whether they change their clocks.
-const STANDARD: [i64; 7] = [-18000, -21600, -25200, -28800, -32400, -36000, -25200];
+const STANDARD: [i64; ZONES] = [-18000, -21600, -25200, -28800, -32400, -36000, -25200];
 
-const CHANGES: [bool; 7] = [true, true, true, true, true, false, false];
+const CHANGES: [bool; ZONES] = [true, true, true, true, true, false, false];
 
 // Whether a date's midnight has daylight offset in a zone that changes its clock.
 fn is_daylight(date: Date) -> bool
@@ -41,7 +40,10 @@ fn is_daylight(date: Date) -> bool
     if today <= calendar::march_sunday(year).0 {
         return false;
     }
-    today <= calendar::november_sunday(year).0
+    if calendar::november_sunday(year).0 < today {
+        return false;
+    }
+    true
 }
 
 fn standard_of(zone: u8) -> i64
@@ -96,10 +98,11 @@ fn midnight_of(zone: u8, date: Date) -> i64
     utc_midnight(calendar::day_number(date)) - offset_of(zone, date)
 }
 
+// Whether a zone and a date are there, in the years of the ledger.
 fn is_accepted(zone: u8, date: Date) -> bool
     ensures { λ r. ⌜ r ≡ accepted zone date ⌝ }
 {
-    if ZONES <= zone {
+    if ZONES <= zone as usize {
         return false;
     }
     if date.year < 2007 {

@@ -2,7 +2,7 @@
 use Prim.Native.Nat.{ℕ, _+_, _<_, _≤_}
 use native.Mathlib.Omega.{arith}
 use native.Mathlib.Decide.{decLt}
-use mathlib.Core.Path.{_≡_, ap₂, _∙_}
+use mathlib.Core.Path.{_≡_}
 use Rattle.calendar.proofs.Lengths.{no-months, more-months}
 use borrow.Fn.Kinds.{In}
 use borrow.Fn.PlainCycle.{Measures, is, falls, and}
@@ -97,7 +97,7 @@ months-before-returns-2 t c =
     let y = c .before .before .before .args .year in
     let m = c .before .before .before .args .month in
     let h = nonzero m (c .before .before .if1 .left) in
-    (ap₂ _+_ (c .before .months-before .ensures .0) (c .month-length .ensures .0) ∙ more-months y m h, omega (arith, c .month-length .ensures .1, c .before .months-before .ensures .1))
+    (omega (arith, c .before .months-before .ensures .0, c .month-length .ensures .0, more-months y m h), omega (arith, c .month-length .ensures .1, c .before .months-before .ensures .1))
 
 pub +months-before-spec : {M : Type 1} → statement M
 +months-before-spec = close μ-months-before λ t. months-before-lts.spec (

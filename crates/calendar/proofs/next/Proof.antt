@@ -18,13 +18,13 @@ add-t8 : tie.Need-add-t8
 add-t8 c = search needs
 
 returns-2 : tie.Need-returns-2
-returns-2 c = next-month (c .before .before .before .args .date) (omega (arith, c .before .before .month-length .ensures .0)) (c .if2 .taken)
+returns-2 c = next-month (c .before .before .before .args .date) (omega (arith, c .before .before .month-length .ensures .0)) (omega arith)
 
 add-t9 : tie.Need-add-t9
 add-t9 c = search needs
 
 returns-3 : tie.Need-returns-3
-returns-3 c = next-year (c .before .before .before .args .date) (omega (arith, c .before .before .month-length .ensures .0)) (c .if2 .left)
+returns-3 c = next-year (c .before .before .before .args .date) (omega (arith, c .before .before .month-length .ensures .0)) (omega arith)
 
 pub next-spec : {M : Type 1} → statement M
 next-spec =

@@ -1,6 +1,5 @@
 -- `calendar::sunday_from` meets its contract.
 use native.Mathlib.Omega.{arith}
-use mathlib.Core.Path.{sym}
 use Rattle.calendar.proofs.Sundays.{sunday-from-is}
 use borrow.Author.Needs.{needs}
 use Rattle.calendar.proofs.sunday_from.Statement.{statement}
@@ -16,7 +15,7 @@ add-t5 : tie.Need-add-t5
 add-t5 c = search needs
 
 returns : tie.Need-returns
-returns c = (sym (sunday-from-is (c .before .before .args .n .0)), omega arith)
+returns c = (omega (arith, sunday-from-is (c .before .before .args .n .0)), omega arith)
 
 pub sunday-from-spec : {M : Type 1} → statement M
 sunday-from-spec = tie.close (tie.spec add-t2 sub-t4 add-t5 returns)

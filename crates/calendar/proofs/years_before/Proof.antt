@@ -1,6 +1,5 @@
 -- `calendar::years_before` meets its contract.
 use native.Mathlib.Omega.{arith}
-use mathlib.Core.Path.{sym}
 use borrow.Author.Needs.{needs}
 use Rattle.calendar.proofs.Lengths.{years-before-is}
 use Rattle.calendar.proofs.years_before.Statement.{statement}
@@ -22,7 +21,7 @@ add-result-2 : tie.Need-add-result-2
 add-result-2 c = search needs
 
 returns : tie.Need-returns
-returns c = (sym (years-before-is (c .args .year) (c .pre)), omega arith)
+returns c = (omega (arith, years-before-is (c .args .year) (c .pre)), omega arith)
 
 pub years-before-spec : {M : Type 1} → statement M
 years-before-spec = tie.close (tie.spec sub-n cast-n mul-result add-result add-result-2 returns)

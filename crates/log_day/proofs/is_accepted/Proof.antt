@@ -7,13 +7,13 @@ use Rattle.log_day.proofs.is_accepted.Statement.{statement}
 use Rattle.log_day.proofs.is_accepted.Tie as tie
 
 returns : tie.Need-returns
-returns c = let a = c .before .args in no-zone (a .zone) (a .date) (c .if1 .taken)
+returns c = let a = c .before .args in no-zone (a .zone) (a .date) (omega arith)
 
 returns-2 : tie.Need-returns-2
-returns-2 c = let a = c .before .before .before .args in too-early (a .zone) (a .date) (omega arith) (c .if2 .taken)
+returns-2 c = let a = c .before .before .before .args in too-early (a .zone) (a .date) (omega arith) (omega arith)
 
 returns-3 : tie.Need-returns-3
-returns-3 c = let a = c .before .before .before .before .before .args in too-late (a .zone) (a .date) (omega arith) (omega arith) (c .if3 .taken)
+returns-3 c = let a = c .before .before .before .before .before .args in too-late (a .zone) (a .date) (omega arith) (omega arith) (omega arith)
 
 is-date-requires : tie.Need-is-date-requires
 is-date-requires c κs = search needs

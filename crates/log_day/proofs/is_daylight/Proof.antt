@@ -1,8 +1,6 @@
 -- `log_day::is_daylight` meets its contract.
 use native.Mathlib.Omega.{arith}
-use Rattle.log_day.proofs.Keys.{early, past-march}
-use mathlib.Core.Path.{ap₂, _∙_}
-use lib.Dec.{leb}
+use Rattle.log_day.proofs.Keys.{early, summer-gone, in-summer}
 use borrow.Author.Needs.{needs}
 use Rattle.log_day.proofs.is_daylight.Statement.{statement}
 use Rattle.log_day.proofs.is_daylight.Tie as tie
@@ -14,17 +12,32 @@ march-sunday-requires : tie.Need-march-sunday-requires
 march-sunday-requires c κs = search needs
 
 returns : tie.Need-returns
-returns c = let s = c .before .before .before .before in let d = s .args .date in early d (omega (arith, c .before .before .before .day-number .ensures .0, c .before .before .march-sunday .ensures))
+returns c =
+    let b = c .before .before .before in
+    early (b .before .args .date) (omega (arith, b .day-number .ensures .0, c .before .before .march-sunday .ensures))
 
 november-sunday-requires : tie.Need-november-sunday-requires
 november-sunday-requires c κs = search needs
 
 returns-2 : tie.Need-returns-2
-returns-2 c = let d = c .before .before .before .before .before .before .args .date in
-    let n = c .before .before .before .before .before .day-number .ensures .0 in
-    ap₂ leb n (c .before .november-sunday .ensures) ∙ past-march d (omega (arith, n, c .before .before .before .before .march-sunday .ensures))
+returns-2 c =
+    let b = c .before .before .before .before .before .before in
+    summer-gone (b .before .args .date) (omega (arith, b .day-number .ensures .0, c .before .before .november-sunday .ensures))
+
+returns-3 : tie.Need-returns-3
+returns-3 c =
+    let b = c .before .before .before .before .before .before in
+    let m = c .before .before .before .before .before .march-sunday .ensures in
+    let n = b .day-number .ensures .0 in
+    in-summer (b .before .args .date) (omega (arith, n, m)) (omega (arith, n, c .before .before .november-sunday .ensures))
 
 pub is-daylight-spec : {M : Type 1} → statement M
 is-daylight-spec =
     tie.close
-    (tie.spec day-number-requires march-sunday-requires returns november-sunday-requires returns-2)
+    (tie.spec
+    day-number-requires
+    march-sunday-requires
+    returns
+    november-sunday-requires
+    returns-2
+    returns-3)
