@@ -83,9 +83,9 @@ after-2099 : dayOf 0 2100 1 1 ≡ Refused 8
 unfolding all
 after-2099 = refl
 
-last-day : dayOf 0 2099 12 31 ≡ Span (pos 4102376400) (pos 4102462800)
+last-eastern-day : dayOf 0 2099 12 31 ≡ Span (pos 4102376400) (pos 4102462800)
 unfolding all
-last-day = refl
+last-eastern-day = refl
 
 past-last-day : nextDate (date 2099 12 31) ≡ date 2100 1 1
 unfolding all

@@ -112,6 +112,19 @@ some-day z t h i j =
     let d = dates (b .place) in
     (d, record { from = seconds z d; to = seconds z (nextDate d); day = day-is z (d .year) (d .month) (d .day) (dates-good z (b .place) h (b .below)); after = b .after; before = b .before })
 
+-- THE LAST DAY ends with that midnight, though no date of 2100 is accepted
+last-date : nextDate (date 2099 12 31) ≡ past
+unfolding nextDate monthLength
+last-date = refl
+
+pub last-day : (z : ℕ) → z < zones → dayOf z 2099 12 31 ≡ Span (pos (seconds z (date 2099 12 31))) (pos (seconds z past))
+unfolding monthLength
+last-day z h =
+    let last = date 2099 12 31 in
+    let t : There last = record { day-from = omega arith; day-to = omega arith; month-from = omega arith; month-to = omega arith } in
+    let g : Good z last = record { zone = h; from = omega arith; to = omega arith; is-date = date-yes last (omega arith) (omega arith); is-there = t } in
+    day-is z 2099 12 31 g ∙ ap (λ (d : Date). Span (pos (seconds z last)) (pos (seconds z d))) last-date
+
 -- ONE DAY only
 record Bounds (z t : ℕ) (d : Date) : Type 0 where
   is-good : Good z d
