@@ -22,16 +22,8 @@ pub fn insert(
     ensures { λ r. ⌜ leaving r (lent (count .exit) (starts .exit) (ends .exit) (values .exit)) ≡ editing (kindOf kind) places (lent (count .entry) (starts .entry) (ends .entry) (values .entry)) start end (some value) ⌝ }
 {
     match kind {
-        RangeKind::HalfOpen => edit::half_open::insert(
-            count,
-            starts,
-            ends,
-            values,
-            start,
-            end,
-            value,
-        ),
-        RangeKind::Inclusive => edit::inclusive::insert(
+        RangeKind::HalfOpen => edit::insert(count, starts, ends, values, start, end, value),
+        RangeKind::Inclusive => inclusive_edit::insert(
             count,
             starts,
             ends,
@@ -57,7 +49,7 @@ pub fn remove(
     ensures { λ r. ⌜ leaving r (lent (count .exit) (starts .exit) (ends .exit) (values .exit)) ≡ editing (kindOf kind) places (lent (count .entry) (starts .entry) (ends .entry) (values .entry)) start end none ⌝ }
 {
     match kind {
-        RangeKind::HalfOpen => edit::half_open::remove(count, starts, ends, values, start, end),
-        RangeKind::Inclusive => edit::inclusive::remove(count, starts, ends, values, start, end),
+        RangeKind::HalfOpen => edit::remove(count, starts, ends, values, start, end),
+        RangeKind::Inclusive => inclusive_edit::remove(count, starts, ends, values, start, end),
     }
 }

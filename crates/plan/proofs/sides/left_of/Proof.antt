@@ -1,0 +1,19 @@
+-- `plan::sides::left_of` meets its contract.
+use native.Mathlib.Omega.{arith}
+use mir.Facts.{toZ-ofZ}
+use Rattle.key.proofs.Laws.{tests}
+use Rattle.plan.specs.Plan.{l-clear, l-joined, l-kept}
+use Rattle.plan.proofs.sides.left_of.Statement.{statement}
+use Rattle.plan.proofs.sides.left_of.Tie as tie
+
+returns : tie.Need-returns
+returns c = rw (toZ-ofZ (c .before .fits .start)) (l-clear (omega (arith, tests)))
+
+returns-2 : tie.Need-returns-2
+returns-2 c = rw (toZ-ofZ (c .before .before .fits .first)) (l-joined (omega (arith, tests)) (omega arith))
+
+returns-3 : tie.Need-returns-3
+returns-3 c = rw (toZ-ofZ (c .before .before .fits .start)) (l-kept (omega (arith, tests)) (omega arith))
+
+pub left-of-spec : {M : Type 1} → statement M
+left-of-spec = tie.close (tie.spec returns returns-2 returns-3)
