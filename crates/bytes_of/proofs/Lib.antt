@@ -1,0 +1,3 @@
+-- Laws: numbers and ranges as bytes, there and back. Stores: one run of stores after another.
+pub mod Laws
+pub mod Stores

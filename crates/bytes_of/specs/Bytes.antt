@@ -1,0 +1,38 @@
+-- Document 01, Byte form: numbers and one range as bytes, all little-endian, and back.
+use Prim.Native.Nat.{ℕ, zero, suc, _+_, _*_, _/_, _%_, _<_}
+use mathlib.Core.List.{List, [], _∷_, _++_}
+use lib.ListN.{getD, take, drop}
+use lib.IntN.{ℤ}
+use mir.Syntax.{w64}
+use mir.Val.{toZ, ofZ}
+use Rattle.outcomes.specs.Outcomes.{Entry}
+
+-- a number as k bytes, the lowest first
+unfoldable pub bytesOf : ℕ → ℕ → List ℕ
+bytesOf zero n = []
+bytesOf (suc k) n = n % 256 ∷ bytesOf k (n / 256)
+
+-- the number of some bytes
+unfoldable pub numberOf : List ℕ → ℕ
+numberOf [] = 0
+numberOf (b ∷ bs) = b + 256 * numberOf bs
+
+-- an i64 as 8 bytes: those of the 64 bits that hold it
+abbrev pub keyBytes : ℤ → List ℕ
+keyBytes z = bytesOf 8 (ofZ w64 z)
+
+-- the i64 of 8 bytes
+abbrev pub keyOf : List ℕ → ℤ
+keyOf bs = toZ w64 (numberOf bs)
+
+-- ONE RANGE: start i64, end i64, value u8
+unfoldable pub rangeBytes : Entry → List ℕ
+rangeBytes x = keyBytes (x .start) ++ (keyBytes (x .end) ++ (x .value ∷ []))
+
+-- the range of the first 17 bytes
+unfoldable pub rangeIn : List ℕ → Entry
+rangeIn bs = record { start = keyOf (take 8 bs); end = keyOf (take 8 (drop 8 bs)); value = getD bs 16 0 }
+
+-- each is a byte, as all that a slice of u8 holds
+abbrev pub Bytes : List ℕ → Type 0
+Bytes bs = (k : ℕ) → getD bs k 0 < 256
