@@ -1,0 +1,4 @@
+-- Ranges: a list of ranges as bytes. Forms: a map and its form, there and back, and no two maps with one form. Writing: the steps of the writer.
+pub mod Ranges
+pub mod Forms
+pub mod Writing
