@@ -152,7 +152,7 @@ same-is [] (c ∷ cs) e = never e
 same-is (b ∷ bs) [] e = never e
 same-is (b ∷ bs) (c ∷ cs) e = let (h, t) = both (eqb b c) (same bs cs) e in rw (eqb-true b c h, same-is bs cs t)
 
-is-same : (bs : List ℕ) → same bs bs ≡ true
+pub is-same : (bs : List ℕ) → same bs bs ≡ true
 unfolding same
 is-same [] = refl
 is-same (b ∷ bs) = and-yes (eq-eqb b b refl) (is-same bs)
