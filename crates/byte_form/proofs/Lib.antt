@@ -1,5 +1,5 @@
--- Ranges: a list of ranges as bytes. Forms: a map and its form, there and back, and no two maps with one form. Writing and Reading: the steps of the writer and of the reader.
+-- Ranges: a list of ranges as bytes. Forms: a map and its form, there and back, what the reader accepts, and no two maps with one form.
 pub mod Ranges
 pub mod Forms
-pub mod Writing
-pub mod Reading
+pub mod Unique
+pub mod Cases

@@ -1,0 +1,2 @@
+-- Reading: what stands in bytes at a place, the check, and the stores.
+pub mod Reading

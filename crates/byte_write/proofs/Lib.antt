@@ -1,0 +1,2 @@
+-- Writing: the steps of the writer.
+pub mod Writing
