@@ -1,0 +1,26 @@
+-- `byte_map::range_map_write` meets its contract: it lends all the fields of each map to `byte_write::write_number`, and passes the rest on (`thin`, Thin.antt).
+use mathlib.Core.Path.{refl}
+use mathlib.Core.List.{[], _∷_}
+use base.Logic.{id⊢}
+use denote.Builtin.{u8}
+use Rattle.thin.proofs.Thin.{lend, slice-mut, proves}
+use Rattle.thin.proofs.Numbers.{a-struct}
+use Rattle.map.proofs.Maps.{range-map}
+use Rattle.outcomes.proofs.Count as Count
+use Rattle.outcomes.proofs.Count.Laws as Count′
+use Rattle.byte_write.proofs.write_number as g
+use Rattle.byte_write.proofs.write_number.Symbol as g-def
+use Rattle.byte_write.proofs.write_number.Met as g-thm
+use Rattle.byte_map.proofs.range_map_write as f
+use Rattle.byte_map.proofs.range_map_write.Key as f-key
+use Rattle.byte_map.proofs.range_map_write.Statement as stated
+use Rattle.byte_map.proofs.range_map_write.Code as code
+
+pub range-map-write-spec : {M : Type 1} → stated.statement M
+unfolding code.routine
+range-map-write-spec 𝓤 H 𝓜 𝓖 𝓡 =
+    proves 𝓤 H 𝓜 𝓖 𝓡 (lend range-map ∷ slice-mut u8 ∷ []) (a-struct Count.the-type Count′.the-laws Count′.mir refl)
+    (λ κs a. f.clauses 𝓤 H (𝓖 .A) (𝓜 .mem) (𝓡 .run) κs a .requires tt) (λ κs a. f.clauses 𝓤 H (𝓖 .A) (𝓜 .mem) (𝓡 .run) κs a .ensures tt)
+    (λ κs a. g.clauses 𝓤 H (𝓖 .A) (𝓜 .mem) (𝓡 .run) κs a .requires tt) (λ κs a. g.clauses 𝓤 H (𝓖 .A) (𝓜 .mem) (𝓡 .run) κs a .ensures tt)
+    (λ κs a k. id⊢ 𝓤 _) (λ κs a k r zs. id⊢ 𝓤 _)
+    code.env f-key.name code.function (code.unfolded 𝓤 H 𝓜 𝓡) g-def.name g-def.routine code.calls-byte-write·write-number (g-thm.met 𝓤 H 𝓜 𝓖 𝓡) (λ κs a. refl) refl (λ κs a. refl)
