@@ -1,15 +1,14 @@
 -- A list of ranges as bytes, there and back, and place by place.
-use Prim.Native.Nat.{ℕ, zero, suc, _+_, _-_, _*_, _≤_, _<_}
+use Prim.Native.Nat.{ℕ, zero, suc, _*_}
 use native.Mathlib.Omega.{arith}
-use mathlib.Core.Path.{_≡_, refl, sym, ap, _∙_}
-use mathlib.Core.List.{List, [], _∷_, _++_, append-assoc, append-nil, map}
-use lib.ListN.{length, getD, take, drop, length-append, length-drop, length-map, take-append-drop}
-use lib.Seq.{drop-at, drop-drop, take-add, getD-take}
-use lib.IntN.{ℤ, pos}
+use mathlib.Core.Path.{_≡_, refl, ap, _∙_}
+use mathlib.Core.List.{List, [], _∷_}
+use lib.ListN.{length, drop, length-append, length-drop, take-append-drop}
+use lib.Seq.{drop-at}
 use mir.Syntax.{w64}
 use mir.Val.{SFits}
-use Rattle.outcomes.specs.Outcomes.{Entry, entries}
-use Rattle.bytes_of.specs.Bytes.{rangeBytes, rangeIn, Bytes}
+use Rattle.outcomes.specs.Outcomes.{Entry}
+use Rattle.bytes_of.specs.Bytes.{rangeBytes, Bytes}
 use Rattle.bytes_of.proofs.Laws.{length-range, range-back, range-bytes, bytes-drop}
 use Rattle.byte_form.specs.Form.{rangesBytes, rangesIn}
 

@@ -1,9 +1,8 @@
 -- ONE OUTCOME: two outcomes that meet the writer's promise are equal, the answer and the lent output. The reader's is an edit's, `edit-one` of the crate `outcomes`.
 -- And what the writer left is read back.
 use Prim.Native.Nat.{ℕ, _≤_}
-use native.Mathlib.Omega.{arith}
-use mathlib.Core.Path.{_≡_, refl, ap, _∙_}
-use mathlib.Core.List.{List, _++_}
+use mathlib.Core.Path.{_≡_, ap, _∙_}
+use mathlib.Core.List.{List}
 use borrow.Author.Tests.{le-ltb}
 use lib.ListN.{length, take, drop}
 use lib.Seq.{take-append-seam}

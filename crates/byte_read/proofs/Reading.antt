@@ -5,23 +5,23 @@ use native.Mathlib.Numerals.{add-one}
 use mathlib.Core.Path.{_≡_, refl, sym, ap, _∙_}
 use mathlib.Core.Bool.{Bool, true, false, _&&_}
 use mathlib.Core.List.{List, [], _∷_, _++_, map, append-nil, map-append}
-use lib.ListN.{length, getD, set, take, drop, replicate, length-append, length-drop, length-map, length-replicate, List·getD-append, List·getD-map, drop-of-length-le}
+use lib.ListN.{length, getD, set, take, drop, replicate, length-append, length-map, length-replicate, List·getD-append, List·getD-map, drop-of-length-le}
 use lib.Seq.{sets, sets-eq, drop-drop, getD-drop, getD-take, ext-getD, length-take-le, getD-append-add}
 use lib.IntN.{ℤ, pos}
 use Rattle.key.specs.Decides.{Decides}
 use Rattle.key.specs.Range.{halfOpen}
-use Rattle.outcomes.specs.Stored.{places, Stored, stored, filled, wellFormed}
+use Rattle.outcomes.specs.Stored.{places, Stored, stored, filled}
 use Rattle.outcomes.specs.Outcomes.{Entry, formed, leaving}
-use Rattle.outcomes.proofs.Formed.{Shaped, Spare}
+use Rattle.outcomes.proofs.Formed.{Spare}
 use Rattle.outcomes.proofs.Formed as Formed
 use Rattle.places.specs.Check.{Steps, Unused}
 use Rattle.places.proofs.Checked.{answers}
-use Rattle.bytes_of.specs.Bytes.{keyOf, numberOf, rangeIn, Bytes}
+use Rattle.bytes_of.specs.Bytes.{keyOf, rangeIn, Bytes}
 use Rattle.bytes_of.proofs.Stores.{sets-append}
 use Rattle.byte_form.specs.Form.{mark, formOf, rangesIn, countIn, mapOf, mapIn, isForm, reading}
 use Rattle.byte_read.specs.Walk.{Sized, told, Columns, Filled, Cleared}
 use Rattle.byte_form.proofs.Ranges.{length-ranges-in}
-use Rattle.byte_form.proofs.Forms.{length-form, form-map, Form, form-yes, yes-form, is-same, count-in-map, entries-of-map, map-in-memory}
+use Rattle.byte_form.proofs.Forms.{length-form, form-map, Form, form-yes, is-same, count-in-map, entries-of-map, map-in-memory}
 
 -- WHAT STANDS AT A PLACE
 

@@ -1,17 +1,16 @@
 -- The steps of the writer.
-use Prim.Native.Nat.{ℕ, suc, _+_, _-_, _*_, _≤_, _<_}
+use Prim.Native.Nat.{ℕ, _+_, _-_, _*_, _≤_, _<_}
 use native.Mathlib.Omega.{arith}
 use native.Mathlib.Numerals.{add-one}
 use mathlib.Core.Path.{_≡_, refl, sym, ap, _∙_}
-use mathlib.Core.Bool.{Bool, true, false}
 use mathlib.Core.List.{List, [], _∷_, _++_, append-assoc, append-nil}
 use borrow.Author.Tests.{lt-ltb, le-ltb}
 use borrow.Rule.Slice.PartMut.{midOf, putMid}
-use lib.ListN.{length, getD, take, drop, length-append}
+use lib.ListN.{length, getD, take, drop}
 use lib.Seq.{sets, sets-eq, length-sets, take-suc, length-take-le}
 use lib.IntN.{ℤ, pos}
 use Rattle.key.specs.Range.{halfOpen}
-use Rattle.outcomes.specs.Stored.{places, Stored, stored, Sound}
+use Rattle.outcomes.specs.Stored.{Stored, Sound}
 use Rattle.outcomes.specs.Outcomes.{Entry, entries}
 use Rattle.outcomes.specs.declared.Counted.the-variants as Counted
 use Rattle.outcomes.proofs.Formed.{sound-held}
@@ -19,7 +18,7 @@ use Rattle.outcomes.proofs.Bulk.{length-entries, entry-at, getD-entries}
 use Rattle.bytes_of.specs.Bytes.{bytesOf, rangeBytes}
 use Rattle.bytes_of.proofs.Laws.{length-bytes, length-range}
 use Rattle.bytes_of.proofs.Stores.{sets-append, put-mid}
-use Rattle.byte_form.specs.Form.{mark, entriesOf, rangesBytes, formOf, output, put, Output}
+use Rattle.byte_form.specs.Form.{mark, entriesOf, rangesBytes, formOf, output, put}
 use Rattle.byte_form.proofs.Ranges.{length-ranges-bytes}
 use Rattle.byte_form.proofs.Forms.{length-entries-of, length-form}
 

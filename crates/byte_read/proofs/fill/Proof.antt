@@ -72,12 +72,13 @@ unfolding rangeIn
 loop-again c =
     let l = c .before .before .before .before .loop in
     let a = c .before .before .before .before .before .before .before .args in
+    let more : l .i + 1 ≤ a .count = omega arith in
     let f = l .inv .2 in
     let s = fill-more (λ (x : Entry). x .start) (a .starts .now) (a .bytes .now) (l .i) (f .starts) (toZ-ofZ (sfits-of (c .before .before .key-at .ok)) ∙ c .before .before .key-at .ensures) in
     let e = fill-more (λ (x : Entry). x .end) (a .ends .now) (a .bytes .now) (l .i) (f .ends)
     (toZ-ofZ (sfits-of (c .before .key-at2 .ok)) ∙ c .before .key-at2 .ensures ∙ sym (ap (λ (t : List ℕ). keyOf (take 8 t)) (drop-drop 8 (8 + 17 * l .i) (a .bytes .now)))) in
     let v = fill-more (λ (x : Entry). x .value) (a .values .now) (a .bytes .now) (l .i) (f .values) (sym (getD-drop (8 + 17 * l .i) (a .bytes .now) 16 0)) in
-    (omega arith, record { starts = simp length-set (l .inv .1 .starts); ends = simp length-set (l .inv .1 .ends); values = simp length-set (l .inv .1 .values) }, record { starts = s; ends = e; values = v })
+    (more, record { starts = simp length-set (l .inv .1 .starts); ends = simp length-set (l .inv .1 .ends); values = simp length-set (l .inv .1 .values) }, record { starts = s; ends = e; values = v })
 
 same-length : tie.Need-same-length Inv-loop μ-loop
 same-length c = let s = c .before .before .before .before .pre in omega arith

@@ -6,7 +6,7 @@ use mathlib.Core.Logic.{⊎-elim}
 use borrow.Author.Tests.{eqb-true, eqb-false}
 use lib.ListN.{getD}
 use lib.IntN.{pos}
-use borrow.Author.Needs.{needs, sfits-of}
+use borrow.Author.Needs.{sfits-of}
 use Rattle.key.specs.Rank.{bitRank, rank}
 use Rattle.key.proofs.Laws.{tests, rank-ne}
 use Rattle.key.proofs.Answers.{holds, fails}

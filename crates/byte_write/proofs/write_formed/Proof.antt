@@ -1,7 +1,5 @@
 -- `byte_write::write_formed` meets its contract.
-use Prim.Native.Nat.{_≤_}
 use native.Mathlib.Omega.{arith}
-use lib.ListN.{length}
 use borrow.Author.Needs.{needs}
 use Rattle.key.specs.Range.{halfOpen}
 use Rattle.outcomes.specs.Stored.{Stored, stored}

@@ -48,8 +48,10 @@ done c =
     let w = c .before .before .before .before .before .before .before in
     let s = w .before .before .before .before in
     let a = s .args in
-    let first = rw (w .before .bits-of .ensures, toZ-ofZ (s .fits .start)) at (w .put-u64 .ensures) in
-    let second = rw (c .before .before .before .bits-of2 .ensures, toZ-ofZ (s .fits .end)) at (c .before .before .put-u642 .ensures) in
+    let start : w .before .bits-of .result ≡ ofZ w64 (a .start) = w .before .bits-of .ensures ∙ ap (ofZ w64) (toZ-ofZ (s .fits .start)) in
+    let end : c .before .before .before .bits-of2 .result ≡ ofZ w64 (a .end) = c .before .before .before .bits-of2 .ensures ∙ ap (ofZ w64) (toZ-ofZ (s .fits .end)) in
+    let first = rw start at (w .put-u64 .ensures) in
+    let second = rw end at (c .before .before .put-u642 .ensures) in
     three-runs (a .out .now) (keyBytes (a .start)) (keyBytes (a .end)) (a .value) 8 16 first second (length-bytes 8 (ofZ w64 (a .start))) (omega (arith, length-bytes 8 (ofZ w64 (a .end))))
     (omega (arith, s .pre))
 
