@@ -1,16 +1,20 @@
 /*
- * Hourledger for C: relations of ranges, maps of half-open ranges, maps of inclusive ranges, and log days.
- * Keys are int64_t, values are uint8_t. Link the static libraries relations, map, inclusive_map and log_day.
+ * Hourledger for C: relations of ranges, maps of half-open ranges with their byte form, maps of inclusive ranges, sets of both kinds,
+ * log days and the day's report. Keys are int64_t, values are uint8_t.
+ * Each part has a static library of its own: link those that are used.
  *
  * ANSWERS
  *   0  done
  *   1  range empty or reversed
  *   2  result would need over 512 ranges
  *   3  lent output too short
- *   4  lent map not well formed
+ *   4  lent map or set not well formed
  *   5  not covered, or no such place: an answer, not a fault
+ *   6  bytes not a written map
  *   8  bad zone or date
- * Where several apply, the first of 4, 1, 8, 5, 2, 3 is given. The first lent map is checked before the second.
+ *   9  total over 2^64 - 1
+ *  10  status outside 1 to 4 in the day
+ * Where several apply, the first of 4, 1, 8, 6, 10, 9, 5, 2, 3 is given. The first lent map is checked before the second.
  * On any number but 0, every other result field is 0 and all lent memory is unchanged. Bulk insert alone differs: see there.
  *
  * RANGES
@@ -36,6 +40,9 @@ extern "C" {
 
 /* How many places a map has. */
 #define HOURLEDGER_PLACES 512
+
+/* The longest byte form: 52 4D 30 31, the count as u32, and 17 bytes for each range. */
+#define HOURLEDGER_BYTES (8 + 17 * HOURLEDGER_PLACES)
 
 /* The longest list of gaps: one before each range, and one behind the last. */
 #define HOURLEDGER_GAPS (HOURLEDGER_PLACES + 1)
@@ -209,6 +216,18 @@ LedgerOrder range_map_cmp(const RangeMap *m, const RangeMap *other);
 LedgerApplied range_map_extend(RangeMap *m, const int64_t *starts, size_t starts_length,
                                const int64_t *ends, size_t ends_length,
                                const uint8_t *values, size_t values_length);
+
+/*
+ * Writes the byte form of the map into the first places of `out`: 52 4D 30 31, the count as u32, then per
+ * range start i64, end i64, value u8, all little-endian. The count is the number of bytes.
+ */
+LedgerCount range_map_write(const RangeMap *m, uint8_t *out, size_t out_length);
+
+/*
+ * Reads the map whose byte form the bytes are, and overwrites *m, which may hold anything. Bytes that no
+ * well-formed map is written as are answered with 6, and *m is then as it was.
+ */
+uint8_t range_map_read(RangeMap *m, const uint8_t *bytes, size_t bytes_length);
 
 /*
  * The inner doors: the same without the check, for a caller that owns its map and knows that it is well

@@ -1,4 +1,4 @@
-//! Times the exported functions beside rangemap: lookups, edits and gaps, through both doors, and the check alone.
+//! Times the exported functions beside rangemap: lookups, edits and gaps, through both doors, the check alone, and the byte form beside the same in Rust.
 //!
 //! Method. Both sides work on the same entries, the same keys and the same edits, which are random and the same in every run.
 //! A batch is some thousand calls. The batches of the two doors and of rangemap take turns, so that a slow moment of the
@@ -10,6 +10,9 @@ mod ffi;
 #[allow(dead_code)]
 #[path = "maps/kind.rs"]
 mod kind;
+#[allow(dead_code)]
+#[path = "bytes/model.rs"]
+mod model;
 #[allow(dead_code)]
 #[path = "maps/random.rs"]
 mod random;
@@ -305,6 +308,82 @@ fn check<K: Kind>(wanted: &mut Vec<Wanted>) {
     }
 }
 
+/// The byte form of a full map, beside the model in Rust. Both check what they are lent.
+fn bytes(wanted: &mut Vec<Wanted>) {
+    const CALLS: usize = 200;
+    let full = Map::of(&entries::<HalfOpen>(PLACES));
+    let (mut map, lent) = (full.clone(), full.clone());
+    let (mut one, mut other) = (vec![0; model::MOST], vec![0; model::MOST]);
+    let times = race(
+        CALLS,
+        [
+            &mut || {
+                for _ in 0..CALLS {
+                    let out = black_box(&mut one);
+                    // SAFETY: the output is there.
+                    let count = unsafe {
+                        ffi::range_map_write(black_box(&mut map), out.as_mut_ptr(), out.len())
+                    };
+                    assert_eq!(count.count, model::MOST);
+                }
+            },
+            &mut || {
+                for _ in 0..CALLS {
+                    let written = model::write(black_box(&lent), black_box(&mut other));
+                    assert_eq!(written, Ok(model::MOST));
+                }
+            },
+        ],
+    );
+    assert_eq!(one, other);
+    tell_bytes(
+        &format!("byte form, writing {PLACES} ranges"),
+        times,
+        wanted,
+    );
+
+    let (mut read, mut read_by_rust) = (Map::EMPTY, Map::EMPTY);
+    let times = race(
+        CALLS,
+        [
+            &mut || {
+                for _ in 0..CALLS {
+                    let bytes = black_box(&one);
+                    // SAFETY: the bytes are there.
+                    let answer = unsafe {
+                        ffi::range_map_read(black_box(&mut read), bytes.as_ptr(), bytes.len())
+                    };
+                    assert_eq!(answer, 0);
+                }
+            },
+            &mut || {
+                for _ in 0..CALLS {
+                    assert_eq!(
+                        model::read(black_box(&mut read_by_rust), black_box(&other)),
+                        0
+                    );
+                }
+            },
+        ],
+    );
+    assert!(read == full && read_by_rust == full);
+    tell_bytes(
+        &format!("byte form, reading {PLACES} ranges"),
+        times,
+        wanted,
+    );
+}
+
+fn tell_bytes(what: &str, [ours, rust]: [f64; 2], wanted: &mut Vec<Wanted>) {
+    let ratio = ours / rust;
+    println!("{what}: {ours:.1} ns, ratio {ratio:.2}; the same in Rust {rust:.1} ns");
+    wanted.push(Wanted {
+        what: format!("{what}, ratio"),
+        most: 1.5,
+        got: ratio,
+    });
+}
+
 fn race_kind<K: Kind>(wanted: &mut Vec<Wanted>) {
     lookups::<K>();
     race_edits::<K>(wanted);
@@ -316,6 +395,7 @@ fn main() {
     let mut wanted = Vec::new();
     race_kind::<HalfOpen>(&mut wanted);
     race_kind::<Inclusive>(&mut wanted);
+    bytes(&mut wanted);
     for Wanted { what, most, got } in wanted {
         let met = if got <= most { "met" } else { "NOT MET" };
         println!("wanted at most {most}: {met}, {got:.2} ({what})");

@@ -118,6 +118,12 @@ pub struct Applied {
     pub applied: usize,
 }
 
+// The byte form of a half-open map. Each takes a list, and so is unsafe here.
+unsafe extern "C" {
+    pub fn range_map_write(m: &mut Map, out: *mut u8, out_length: usize) -> Count;
+    pub fn range_map_read(m: &mut Map, bytes: *const u8, bytes_length: usize) -> u8;
+}
+
 pub type Gaps = unsafe extern "C" fn(&mut Map, i64, i64, *mut i64, usize, *mut i64, usize) -> Count;
 
 /// The functions of one kind of map. Each lent map is a `&mut` here, also where it is only read:

@@ -1,4 +1,5 @@
-//! Compares the exported functions with rangemap. Each module of the port has a file of its own here.
+//! Compares the exported functions with rangemap, and the byte form with a model of its own. Each module of the port has a file of its own here.
+mod bytes;
 mod ffi;
 mod inside;
 mod maps;
@@ -14,10 +15,11 @@ fn known() -> Vec<&'static str> {
     [&relations::KNOWN[..], &maps::KNOWN[..]].concat()
 }
 
-fn compare(size: &maps::Size) -> bool {
+fn compare(size: &maps::Size, inputs: usize) -> bool {
     let mut report = Report::new(&known());
     relations::compare(&mut report);
     maps::compare(&mut report, size);
+    bytes::compare(&mut report, inputs);
     report.finish()
 }
 
@@ -39,8 +41,8 @@ fn main() -> ExitCode {
     let words: Vec<String> = std::env::args().skip(1).collect();
     let words: Vec<&str> = words.iter().map(String::as_str).collect();
     let good = match words[..] {
-        [] => compare(&maps::SHORT),
-        ["full"] => compare(&maps::FULL),
+        [] => compare(&maps::SHORT, bytes::SHORT),
+        ["full"] => compare(&maps::FULL, bytes::FULL),
         ["replay", module] => replay(module),
         _ => {
             eprintln!("usage: compare [full | replay MODULE]");

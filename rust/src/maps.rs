@@ -5,7 +5,7 @@ mod dense;
 mod histories;
 mod kind;
 mod pairs;
-mod random;
+pub mod random;
 mod replay;
 mod states;
 mod stored;

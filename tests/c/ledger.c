@@ -303,6 +303,29 @@ static void half_open_damaged(void) {
     check("RangeMap, touching with other values: well formed", range_map_well_formed(&m));
 }
 
+/* The byte form: there and back, an output that is too short, and bytes that are no form. */
+static void half_open_bytes(void) {
+    static const uint8_t written[25] = {0x52, 0x4D, 0x30, 0x31, 1,    0,    0,    0,    0xFE, 0xFF, 0xFF, 0xFF, 0xFF,
+                                        0xFF, 0xFF, 0xFF, 5,    0,    0,    0,    0,    0,    0,    0,    7};
+    RangeMap m = range_map_holding(ENTRIES({-2, 5, 7}));
+    uint8_t out[27], before[27];
+    memset(out, 0xAA, sizeof out);
+    memcpy(before, out, sizeof out);
+    check("-2..5>7 needs 25 bytes", is_count(range_map_write(&m, out, 24), 3, 0) && memcmp(out, before, sizeof out) == 0);
+    check("-2..5>7 written", is_count(range_map_write(&m, out, 27), 0, 25) && memcmp(out, written, 25) == 0 && out[25] == 0xAA && out[26] == 0xAA);
+
+    RangeMap other;
+    memset(&other, 0x55, sizeof other);
+    const RangeMap littered = other;
+    check("a spare byte is 6", range_map_read(&other, out, 26) == 6 && range_map_same(&other, &littered));
+    check("a missing byte is 6", range_map_read(&other, out, 24) == 6 && range_map_same(&other, &littered));
+    check("25 bytes read back", range_map_read(&other, out, 25) == 0 && range_map_same(&other, &m));
+
+    m.values[HOURLEDGER_PLACES - 1] = 1;
+    memcpy(before, out, sizeof out);
+    check("a damaged map is not written", is_count(range_map_write(&m, out, 27), 4, 0) && memcmp(out, before, sizeof out) == 0);
+}
+
 static void inclusive_cases(void) {
     RangeInclusiveMap m = range_inclusive_map_new();
     check("insert 1..=3>7", range_inclusive_map_insert(&m, 1, 3, 7) == 0);
@@ -394,6 +417,7 @@ int main(void) {
     half_open_full();
     half_open_ends();
     half_open_damaged();
+    half_open_bytes();
     inclusive_cases();
     inclusive_ends();
     inclusive_questions();

@@ -34,7 +34,7 @@ unfolding countIn
 returns-4 c = let bs = c .before .before .before .before .before .before .before .args .bytes .now in refused bs (λ f. c .if4 .taken (omega (arith, form-sized bs f)))
 
 tidy-requires : tie.Need-tidy-requires
-tidy-requires c κs = search needs
+tidy-requires c κs = record { few = omega arith; long = omega arith }
 
 returns-5 : tie.Need-returns-5
 unfolding countIn
