@@ -1,0 +1,77 @@
+-- Document 01's November report, and three refusals, as theorems about the definitions that the contracts cite: by computation.
+use Prim.Native.Nat.{ℕ}
+use mathlib.Core.Path.{_≡_, refl}
+use mathlib.Core.Bool.{false}
+use mathlib.Core.List.{[], _∷_}
+use mathlib.Core.Option.{some}
+use lib.IntN.{ℤ, pos}
+use lib.Ieee.{fin}
+use Rattle.span.specs.Span.{inside, keep, before, after, joins, tidy, push, joined, given, history}
+use Rattle.span.specs.Operations.{cuts, gaps, within, total, any}
+use Rattle.key.specs.Rank.{place, bitRank, keyAt}
+use Rattle.key.specs.Range.{halfOpen}
+use Rattle.outcomes.specs.Stored.{Stored, spans, ranges, filled, storing, zeros, noughts, unused, wellFormed}
+use Rattle.outcomes.specs.Outcomes.{editing, edited, inserting, cleared}
+use Rattle.hours.specs.Hours.{hoursOf}
+use Rattle.duty.specs.Duty.{dutyOf, those, secondsOf, unrecordedOf, strange, totalsOf, tallying}
+use Rattle.calendar.specs.Calendar.{leap, yearLength, monthLength, yearsBefore, monthsBefore, dayNumber, isDate, nextDate, weekday, sundayWithin, sundayFrom, marchSunday, novemberSunday}
+use Rattle.calendar.specs.Calendar as Calendar
+use Rattle.log_day.specs.Days.{standard, changes, daylight, offset, midnight, accepted, dayOf}
+use Rattle.report.specs.Report.{reporting, reportOf, noHours}
+use Rattle.report.specs.declared.Reported.{Reported}
+use Rattle.report.specs.declared.Reported.the-variants as Reported
+
+-- status 1 over 2024-11-03, Eastern, then 3 on 1730628000..1730653200
+abbrev november : Stored
+november = inserting halfOpen (inserting halfOpen (cleared halfOpen) (pos 1730606400) (pos 1730696400) 1 .left) (pos 1730628000) (pos 1730653200) 3 .left
+
+unfoldable all : Unit {0}
+unfolding leap yearLength monthLength Calendar.total yearsBefore monthsBefore dayNumber isDate nextDate weekday sundayWithin sundayFrom marchSunday novemberSunday standard changes daylight offset midnight accepted dayOf inside keep before after joins tidy push joined given history cuts gaps within total any place bitRank keyAt spans ranges filled storing zeros noughts unused wellFormed editing edited cleared hoursOf dutyOf those secondsOf unrecordedOf strange totalsOf tallying reporting
+all = tt
+
+pub november-report : reportOf (reporting november 0 2024 11 3) ≡ record {
+  answer = 0;
+  start = pos 1730606400;
+  end = pos 1730696400;
+  «off_duty» = 64800;
+  «sleeper_berth» = 0;
+  driving = 25200;
+  «on_duty» = 0;
+  unrecorded = 0;
+  «off_duty_hours» = fin false 9 (pos 1);
+  «sleeper_berth_hours» = noHours;
+  «driving_hours» = fin false 7 (pos 0);
+  «on_duty_hours» = noHours;
+  «unrecorded_hours» = noHours;
+}
+unfolding all
+november-report = refl
+
+-- its seconds
+abbrev as-november : Reported
+as-november = Reported.Totals (pos 1730606400) (pos 1730696400) (record { «off_duty» = 64800; «sleeper_berth» = 0; driving = 25200; «on_duty» = 0; unrecorded = 0 })
+
+-- a bad date, and a bad zone
+pub no-date : reporting november 0 2023 2 29 ≡ Reported.Refused 8
+unfolding all
+no-date = refl
+
+pub no-zone : reporting november 7 2024 11 3 ≡ Reported.Refused 8
+unfolding all
+no-zone = refl
+
+-- status 0 in the day, and right before it and behind it
+abbrev marked : ℤ → ℤ → Stored
+marked s e = inserting halfOpen november s e 0 .left
+
+pub status-0 : reporting (marked (pos 1730696399) (pos 1730696400)) 0 2024 11 3 ≡ Reported.Refused 10
+unfolding all
+status-0 = refl
+
+pub status-0-before : reporting (marked (pos 1730606399) (pos 1730606400)) 0 2024 11 3 ≡ as-november
+unfolding all
+status-0-before = refl
+
+pub status-0-behind : reporting (marked (pos 1730696400) (pos 1730696401)) 0 2024 11 3 ≡ as-november
+unfolding all
+status-0-behind = refl

@@ -1,0 +1,173 @@
+// A day's report of a half-open map: the day's start and end, the seconds of each duty and the unrecorded ones, and those five as hours.
+use duty::Tallied;
+use duty::Totals;
+use hours::hours;
+use log_day::Day;
+use outcomes::NOT_FORMED;
+use outcomes::PLACES;
+ghost use mathlib.Core.Path.{_≡_};
+ghost use mathlib.Core.Bool.{true};
+ghost use Rattle.key.specs.Range.{halfOpen};
+ghost use Rattle.outcomes.specs.Stored.{stored, lent, Sound};
+ghost use Rattle.outcomes.specs.Outcomes.{formed};
+ghost use Rattle.log_day.specs.Days.{dayOf};
+ghost use Rattle.report.specs.Report.{between, inDay, reporting, reportOf};
+
+// The day's start and end, and its seconds; or the number of a refusal.
+pub enum Reported {
+    Totals(i64, i64, Totals),
+    Refused(u8),
+}
+
+// A report as C and Rust see it: answer 0 with all that it says, or 4, 8 or 10.
+#[repr(C)]
+pub struct DayReport {
+    pub answer: u8,
+    pub start: i64,
+    pub end: i64,
+    pub off_duty: u32,
+    pub sleeper_berth: u32,
+    pub driving: u32,
+    pub on_duty: u32,
+    pub unrecorded: u32,
+    pub off_duty_hours: f64,
+    pub sleeper_berth_hours: f64,
+    pub driving_hours: f64,
+    pub on_duty_hours: f64,
+    pub unrecorded_hours: f64,
+}
+
+// The report of a day, with its hours.
+fn filled(start: i64, end: i64, t: Totals) -> DayReport
+    ensures { λ r. ⌜ r ≡ reportOf (Reported.Totals start end t) ⌝ }
+{
+    DayReport {
+        answer: 0,
+        start: start,
+        end: end,
+        off_duty: t.off_duty,
+        sleeper_berth: t.sleeper_berth,
+        driving: t.driving,
+        on_duty: t.on_duty,
+        unrecorded: t.unrecorded,
+        off_duty_hours: hours(t.off_duty),
+        sleeper_berth_hours: hours(t.sleeper_berth),
+        driving_hours: hours(t.driving),
+        on_duty_hours: hours(t.on_duty),
+        unrecorded_hours: hours(t.unrecorded),
+    }
+}
+
+// A refusal: all but the number is 0.
+fn refused(n: u8) -> DayReport
+    ensures { λ r. ⌜ r ≡ reportOf (Reported.Refused n) ⌝ }
+{
+    DayReport {
+        answer: n,
+        start: 0,
+        end: 0,
+        off_duty: 0,
+        sleeper_berth: 0,
+        driving: 0,
+        on_duty: 0,
+        unrecorded: 0,
+        off_duty_hours: 0.0,
+        sleeper_berth_hours: 0.0,
+        driving_hours: 0.0,
+        on_duty_hours: 0.0,
+        unrecorded_hours: 0.0,
+    }
+}
+
+// A report as C and Rust see it.
+pub fn report_of(r: Reported) -> DayReport
+    ensures { λ n. ⌜ n ≡ reportOf r ⌝ }
+{
+    match r {
+        Reported::Totals(start, end, t) => filled(start, end, t),
+        Reported::Refused(n) => refused(n),
+    }
+}
+
+// The seconds between two keys, with the keys.
+fn with_keys(start: i64, end: i64, t: Tallied) -> Reported
+    ensures { λ r. ⌜ r ≡ between start end t ⌝ }
+{
+    match t {
+        Tallied::Seconds(totals) => Reported::Totals(start, end, totals),
+        Tallied::Refused(n) => Reported::Refused(n),
+    }
+}
+
+// The report of a well-formed map. The caller answers for the check.
+pub fn unchecked(
+    count: usize,
+    starts: &[i64],
+    ends: &[i64],
+    values: &[u8],
+    zone: u8,
+    year: u16,
+    month: u8,
+    day: u8,
+) -> Reported
+    requires { ⌜ Sound halfOpen (stored count (now starts) (now ends) (now values)) ⌝ }
+    ensures { λ r. ⌜ r ≡ inDay (stored count (now (starts .entry)) (now (ends .entry)) (now (values .entry))) (dayOf zone year month day) ⌝ }
+{
+    let d = log_day::day_of(zone, year, month, day);
+    match d {
+        Day::Span(start, end) => with_keys(
+            start,
+            end,
+            duty::between(count, starts, ends, values, start, end),
+        ),
+        Day::Refused(n) => Reported::Refused(n),
+    }
+}
+
+// Whether a lent map is well formed.
+fn is_formed(
+    count: usize,
+    starts: &[i64; PLACES],
+    ends: &[i64; PLACES],
+    values: &[u8; PLACES],
+) -> bool
+    ensures { λ r. ⌜ r ≡ formed halfOpen (stored count (now (starts .entry)) (now (ends .entry)) (now (values .entry))) ⌝ }
+    ensures { λ r. ⌜ (r ≡ true → Sound halfOpen (stored count (now (starts .entry)) (now (ends .entry)) (now (values .entry)))) ⌝ }
+{
+    places::check::well_formed(starts, ends, values, count)
+}
+
+// The report of any map, over all its fields.
+pub fn checked<'a>(
+    count: &'a usize,
+    starts: &'a [i64; PLACES],
+    ends: &'a [i64; PLACES],
+    values: &'a [u8; PLACES],
+    zone: u8,
+    year: u16,
+    month: u8,
+    day: u8,
+) -> Reported
+    ensures { λ r. ⌜ r ≡ reporting (lent (count .entry) (starts .entry) (ends .entry) (values .entry)) zone year month day ⌝ }
+{
+    if !is_formed(*count, starts, ends, values) {
+        return Reported::Refused(NOT_FORMED);
+    }
+    unchecked(*count, starts, ends, values, zone, year, month, day)
+}
+
+// The same as C and Rust see it.
+pub fn day_report<'a>(
+    count: &'a usize,
+    starts: &'a [i64; PLACES],
+    ends: &'a [i64; PLACES],
+    values: &'a [u8; PLACES],
+    zone: u8,
+    year: u16,
+    month: u8,
+    day: u8,
+) -> DayReport
+    ensures { λ r. ⌜ r ≡ reportOf (reporting (lent (count .entry) (starts .entry) (ends .entry) (values .entry)) zone year month day) ⌝ }
+{
+    report_of(checked(count, starts, ends, values, zone, year, month, day))
+}
