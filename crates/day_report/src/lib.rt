@@ -1,0 +1,29 @@
+// A day's report of a map, for C and Rust.
+use map::RangeMap;
+use report::DayReport;
+ghost use mathlib.Core.Path.{_≡_};
+ghost use Rattle.map.specs.Map.{held};
+ghost use Rattle.report.specs.Report.{reporting, reportOf};
+
+// The report of a date's day in a zone: 4, 8 or 10, or all that document 01 says.
+#[no_mangle]
+pub extern "C" fn range_map_day_report(
+    m: &RangeMap,
+    zone: u8,
+    year: u16,
+    month: u8,
+    day: u8,
+) -> DayReport
+    ensures { λ r. ⌜ r ≡ reportOf (reporting (held (now (m .entry))) zone year month day) ⌝ }
+{
+    report::day_report(
+        &m.count,
+        &m.starts,
+        &m.ends,
+        &m.values,
+        zone,
+        year,
+        month,
+        day,
+    )
+}
