@@ -171,3 +171,20 @@ pub fn day_report<'a>(
 {
     report_of(checked(count, starts, ends, values, zone, year, month, day))
 }
+
+// The same of a well-formed map. The caller answers for the check.
+pub fn day_report_unchecked<'a>(
+    count: &'a usize,
+    starts: &'a [i64; PLACES],
+    ends: &'a [i64; PLACES],
+    values: &'a [u8; PLACES],
+    zone: u8,
+    year: u16,
+    month: u8,
+    day: u8,
+) -> DayReport
+    requires { ⌜ Sound halfOpen (lent count starts ends values) ⌝ }
+    ensures { λ r. ⌜ r ≡ reportOf (inDay (lent (count .entry) (starts .entry) (ends .entry) (values .entry)) (dayOf zone year month day)) ⌝ }
+{
+    report_of(unchecked(*count, starts, ends, values, zone, year, month, day))
+}
