@@ -1,10 +1,13 @@
 //! Times the exported functions beside rangemap: lookups, edits and gaps, through both doors, the check alone, and the byte form beside the same in Rust.
+//! Times the exported functions beside rangemap: lookups, edits, gaps and a day's report, through both doors, and the check alone.
 //!
 //! Method. Both sides work on the same entries, the same keys and the same edits, which are random and the same in every run.
 //! A batch is some thousand calls. The batches of the two doors and of rangemap take turns, so that a slow moment of the
 //! machine hits all three; each figure is the median of all its batches, divided by the calls. A ratio is ours by rangemap's.
 //! rangemap is optimised for the processor that rustc takes by default; the static libraries are as they are handed out.
 //! Where the two sides do not give the same results, the run stops.
+mod day_bench;
+mod day_ffi;
 #[allow(dead_code)]
 mod ffi;
 #[allow(dead_code)]
@@ -396,6 +399,7 @@ fn main() {
     race_kind::<HalfOpen>(&mut wanted);
     race_kind::<Inclusive>(&mut wanted);
     bytes(&mut wanted);
+    day_bench::race_reports(&mut wanted);
     for Wanted { what, most, got } in wanted {
         let met = if got <= most { "met" } else { "NOT MET" };
         println!("wanted at most {most}: {met}, {got:.2} ({what})");

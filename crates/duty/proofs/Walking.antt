@@ -4,13 +4,14 @@ use native.Mathlib.Omega.{arith}
 use mathlib.Core.Path.{_≡_, refl, sym, ap, _∙_, subst}
 use mathlib.Core.Bool.{Bool, true, false, _||_, cond}
 use mathlib.Core.List.{List, [], _∷_}
-use borrow.Author.Tests.{le-leb, lt-leb, eq-eqb, ne-eqb}
-use lib.Dec.{eqb}
-use lib.ListN.{length, getD, take, drop, take-append-drop, drop-of-length-le}
-use lib.Seq.{drop-cons}
+use borrow.Author.Tests.{le-leb, lt-leb, leb-true, eq-eqb, ne-eqb, eqb-true, eqb-false}
+use lib.Dec.{leb, eqb}
+use lib.ListN.{length, getD, set, take, drop, replicate, length-set, take-append-drop, drop-of-length-le}
+use lib.Seq.{drop-cons, getD-set-same, getD-set-other}
 use lib.IntN.{ℤ, pos}
 use Rattle.span.specs.Span.{Span, span, Ordered, Upto}
 use Rattle.span.specs.Operations.{within, total}
+use Rattle.span.proofs.Tests.{cases}
 use Rattle.span.proofs.Holding.{ordered-right}
 use Rattle.key.specs.Rank.{rank}
 use Rattle.key.specs.Range.{halfOpen}
@@ -22,7 +23,7 @@ use Rattle.places.proofs.Seeking.{Passed, passed-facts, passed-after, ends-asce
 use Rattle.duty.specs.Duty.{dutyOf, counts, those, secondsOf, unrecordedOf, strange, totalsOf, tallying}
 use Rattle.duty.specs.declared.Tallied.{Tallied}
 use Rattle.duty.specs.declared.Tallied.the-variants as Tallied
-use Rattle.duty.specs.Walk.{limit, share, adding, Room, sumOf, completing, tallyOf, walked}
+use Rattle.duty.specs.Walk.{limit, gathering, sumOf, completing, tallyOf, walked}
 use Rattle.duty.specs.declared.Tally.{Tally}
 use Rattle.duty.specs.declared.Walked.{Walked}
 use Rattle.duty.specs.declared.Walked.the-variants as Walked
@@ -38,10 +39,13 @@ pub duty-none : (v : ℕ) → 4 < v → 0 ≡ dutyOf v
 unfolding dutyOf
 duty-none v h = rw (lt-leb v 4 h)
 
-pub adding-is : (t : Tally) (duty n a b c d : ℕ) → a ≡ share duty 1 n → b ≡ share duty 2 n → c ≡ share duty 3 n → d ≡ share duty 4 n
-    → record { «off_duty» = t .«off_duty» + a; «sleeper_berth» = t .«sleeper_berth» + b; driving = t .driving + c; «on_duty» = t .«on_duty» + d } ≡ adding t duty n
-unfolding adding
-adding-is t duty n a b c d e f g h = rw (e, f, g, h)
+pub duty-few : (v : ℕ) → dutyOf v < 5
+unfolding dutyOf
+duty-few v = cases (leb v 4) (λ (n : ℕ). n < 5) (λ e. omega (arith, leb-true v 4 e)) (λ e. omega arith)
+
+pub gathering-is : (t : List ℕ) → record { «off_duty» = getD t 1 0; «sleeper_berth» = getD t 2 0; driving = getD t 3 0; «on_duty» = getD t 4 0 } ≡ gathering t
+unfolding gathering
+gathering-is t = refl
 
 pub completing-is : (t : Tally) (n : ℕ)
     → record {
@@ -68,10 +72,6 @@ seconds-most : (d lo hi : ℕ) (m : List Span) → lo < hi → Ordered 0 m → s
 unfolding secondsOf
 seconds-most d lo hi m h o = omega (arith, those-most (counts d) (within lo hi m), within-sum lo hi m h o)
 
--- no seconds yet
-abbrev pub nothing : Tally
-nothing = record { «off_duty» = 0; «sleeper_berth» = 0; driving = 0; «on_duty» = 0 }
-
 upto-take : (c p : ℕ) (d : Span) (xs : List Span) → ((j : ℕ) → j < p → j < length xs → getD xs j d .hi ≤ c) → Upto c (take p xs)
 upto-take c zero d xs f = tt
 upto-take c (suc p) d [] f = tt
@@ -84,15 +84,32 @@ module _ {m : Stored} (sound : Sound halfOpen m) where
   pub well : Formed halfOpen (length (m .starts)) m
   well = formed halfOpen (length (m .starts)) m (sound .well)
 
--- what is counted up to place k, and what is still to be counted
-pub record Going (m : Stored) (from lo hi : ℕ) (t : Tally) (k : ℕ) : Type 0 where
+-- what is counted up to place k, by duty, and what is still to be counted
+pub record Going (m : Stored) (from lo hi : ℕ) (t : List ℕ) (k : ℕ) : Type 0 where
   pub within : k ≤ m .count
   pub past : from ≤ k
-  pub off : t .«off_duty» + secondsOf 1 lo hi (drop k (ranges halfOpen m)) ≡ secondsOf 1 lo hi (ranges halfOpen m)
-  pub berth : t .«sleeper_berth» + secondsOf 2 lo hi (drop k (ranges halfOpen m)) ≡ secondsOf 2 lo hi (ranges halfOpen m)
-  pub drove : t .driving + secondsOf 3 lo hi (drop k (ranges halfOpen m)) ≡ secondsOf 3 lo hi (ranges halfOpen m)
-  pub on : t .«on_duty» + secondsOf 4 lo hi (drop k (ranges halfOpen m)) ≡ secondsOf 4 lo hi (ranges halfOpen m)
+  pub long : length t ≡ 5
+  pub sums : (d : ℕ) → getD t d 0 + secondsOf d lo hi (drop k (ranges halfOpen m)) ≡ secondsOf d lo hi (ranges halfOpen m)
   pub same : strange lo hi (drop k (ranges halfOpen m)) ≡ strange lo hi (ranges halfOpen m)
+
+-- a table of no seconds
+nothing : (n d : ℕ) → _≡_ {A = ℕ} (getD (replicate n 0) d 0) 0
+nothing zero d = refl
+nothing (suc n) zero = refl
+nothing (suc n) (suc d) = nothing n d
+
+-- a store in the table
+stored-in : (t : List ℕ) (u d n r : ℕ) → u < length t → getD (set t u (getD t u 0 + n)) d 0 + r ≡ getD t d 0 + (cond (eqb u d) n 0 + r)
+stored-in t u d n r h = go (eqb u d) refl
+  where
+    go : (b : Bool) → eqb u d ≡ b → getD (set t u (getD t u 0 + n)) d 0 + r ≡ getD t d 0 + (cond b n 0 + r)
+    go true e =
+        let same : u ≡ d = eqb-true u d e in
+        let is : getD (set t u (getD t u 0 + n)) d 0 ≡ getD t d 0 + n = rw (← same) (getD-set-same t u (getD t u 0 + n) 0 h) in
+        omega arith
+    go false e =
+        let other : getD (set t u (getD t u 0 + n)) d 0 ≡ getD t d 0 = getD-set-other t u d (getD t u 0 + n) 0 (λ z. eqb-false u d e (sym z)) in
+        omega arith
 
 -- of a sound map, in the window from lo up to hi
 module _ {m : Stored} (sound : Sound halfOpen m) {from lo hi : ℕ} (is-from : from ≡ passed lo (take (m .count) (m .ends))) (real : lo < hi) (short : hi - lo < limit) where
@@ -128,39 +145,31 @@ module _ {m : Stored} (sound : Sound halfOpen m) {from lo hi : ℕ} (is-from : f
       let e = ap (λ (x : Span). x .hi) (getD-ranges halfOpen (length (m .starts)) m (shape sound) (well sound .held) j (span 0 0 0) (omega (arith, size))) in
       omega (arith, e, first .below j i))
 
-  from-first : (d : ℕ) → 0 + secondsOf d lo hi (drop from xs) ≡ secondsOf d lo hi xs
-  from-first d = let e = seconds-ended lo hi d (take from xs) (drop from xs) ended in omega (arith, rw (take-append-drop from xs) at e)
-
-  pub going-first : Going m from lo hi nothing from
+  pub going-first : Going m from lo hi (replicate 5 0) from
   going-first = record {
     within = first .within;
     past = omega arith;
-    off = from-first 1;
-    berth = from-first 2;
-    drove = from-first 3;
-    on = from-first 4;
+    long = refl;
+    sums = λ d. let e = seconds-ended lo hi d (take from xs) (drop from xs) ended in omega (arith, rw (take-append-drop from xs) at e, nothing 5 d);
     same = sym (rw (take-append-drop from xs) at (strange-ended lo hi (take from xs) (drop from xs) ended));
   }
 
-  module _ {t : Tally} {k : ℕ} (g : Going m from lo hi t k) where
+  module _ {t : List ℕ} {k : ℕ} (g : Going m from lo hi t k) where
     -- nothing more is there
-    finish : ((d : ℕ) → secondsOf d lo hi (drop k xs) ≡ 0) → strange lo hi (drop k xs) ≡ false → Walked.Counted t ≡ walked lo hi xs
-    unfolding walked tallyOf
+    finish : ((d : ℕ) → secondsOf d lo hi (drop k xs) ≡ 0) → strange lo hi (drop k xs) ≡ false → Walked.Counted (gathering t) ≡ walked lo hi xs
+    unfolding walked tallyOf gathering
     finish z e =
-        let a : t .«off_duty» ≡ secondsOf 1 lo hi xs = omega (arith, g .off, z 1) in
-        let b : t .«sleeper_berth» ≡ secondsOf 2 lo hi xs = omega (arith, g .berth, z 2) in
-        let c : t .driving ≡ secondsOf 3 lo hi xs = omega (arith, g .drove, z 3) in
-        let d : t .«on_duty» ≡ secondsOf 4 lo hi xs = omega (arith, g .on, z 4) in
+        let is : (d : ℕ) → getD t d 0 ≡ secondsOf d lo hi xs = λ d. omega (arith, g .sums d, z d) in
         let s : strange lo hi xs ≡ false = sym (g .same) ∙ e in
-        rw (s, ← a, ← b, ← c, ← d)
+        rw (s, is 1, is 2, is 3, is 4)
 
-    pub going-end : m .count ≤ k → Walked.Counted t ≡ walked lo hi xs
+    pub going-end : m .count ≤ k → Walked.Counted (gathering t) ≡ walked lo hi xs
     going-end b =
         let e : drop k xs ≡ [] = drop-of-length-le xs {i = k} (omega (arith, size)) in
         finish (λ d. rw e (seconds-past lo hi d hi [] (omega arith) tt)) (rw e (strange-past lo hi hi [] (omega arith) tt))
 
     module _ (b : k < m .count) where
-      pub going-stop : hi ≤ rank (getD (m .starts) k (pos 0)) → Walked.Counted t ≡ walked lo hi xs
+      pub going-stop : hi ≤ rank (getD (m .starts) k (pos 0)) → Walked.Counted (gathering t) ≡ walked lo hi xs
       going-stop h =
           let o = ordered-place k b in
           let p : Ordered hi (at-place k ∷ drop (k + 1) xs) = (h, o .1, o .2) in
@@ -190,29 +199,24 @@ module _ {m : Stored} (sound : Sound halfOpen m) {from lo hi : ℕ} (is-from : f
         abbrev duty : ℕ
         duty = dutyOf (getD (m .values) k 0)
 
-        step : (d : ℕ) → secondsOf d lo hi (drop k xs) ≡ share duty d secs + secondsOf d lo hi (drop (k + 1) xs)
+        step : (d : ℕ) → secondsOf d lo hi (drop k xs) ≡ cond (eqb duty d) secs 0 + secondsOf d lo hi (drop (k + 1) xs)
         step d = ap (secondsOf d lo hi) (unrolled k b) ∙ seconds-cons d lo hi (at-place k) (drop (k + 1) xs)
 
-        most : (d : ℕ) → secondsOf d lo hi xs < limit
-        most d = omega (arith, seconds-most d lo hi xs real (well sound .tidy .ordered))
+        pub going-duty : duty < length t
+        going-duty = omega (arith, g .long, duty-few (getD (m .values) k 0))
 
-        pub going-room : Room t duty secs
-        going-room = record {
-          off-room = omega (arith, g .off, step 1, most 1);
-          berth-room = omega (arith, g .berth, step 2, most 2);
-          driving-room = omega (arith, g .drove, step 3, most 3);
-          on-room = omega (arith, g .on, step 4, most 4);
-        }
+        pub going-room : getD t duty 0 + secs < limit
+        going-room =
+            let own = step duty in
+            let own′ = rw (eq-eqb duty duty refl) at own in
+            omega (arith, g .sums duty, own′, seconds-most duty lo hi xs real (well sound .tidy .ordered))
 
-        pub going-on : (duty ≡ 0 → ⊥) → Going m from lo hi (adding t duty secs) (k + 1)
-        unfolding adding
+        pub going-on : (duty ≡ 0 → ⊥) → Going m from lo hi (set t duty (getD t duty 0 + secs)) (k + 1)
         going-on n = record {
           within = omega arith;
           past = omega (arith, g .past);
-          off = omega (arith, g .off, step 1);
-          berth = omega (arith, g .berth, step 2);
-          drove = omega (arith, g .drove, step 3);
-          on = omega (arith, g .on, step 4);
+          long = length-set t duty (getD t duty 0 + secs) ∙ g .long;
+          sums = λ d. stored-in t duty d secs (secondsOf d lo hi (drop (k + 1) xs)) going-duty ∙ ap (λ (i : ℕ). getD t d 0 + i) (sym (step d)) ∙ g .sums d;
           same = sym (ap (strange lo hi) (unrolled k b) ∙ strange-cons lo hi (at-place k) (drop (k + 1) xs) (meets h) ∙ rw (ne-eqb duty 0 n)) ∙ g .same;
         }
 

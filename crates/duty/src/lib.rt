@@ -8,7 +8,7 @@ ghost use Rattle.key.specs.Range.{halfOpen};
 ghost use Rattle.outcomes.specs.Stored.{Sound, stored, ranges};
 ghost use Rattle.places.specs.Search.{passed};
 ghost use Rattle.duty.specs.Duty.{dutyOf, tallying};
-ghost use Rattle.duty.specs.Walk.{limit, share, adding, Room, sumOf, completing, walked};
+ghost use Rattle.duty.specs.Walk.{limit, gathering, sumOf, completing, walked};
 
 // The number of document 01's table for a status outside 1 to 4.
 pub const STRANGE: u8 = 10;
@@ -27,7 +27,10 @@ pub enum Tallied {
     Refused(u8),
 }
 
-// The seconds of the four duties that were counted so far.
+// The duties have the numbers from 0, which is none, up to this.
+const DUTIES: usize = 5;
+
+// The seconds of the four duties.
 struct Tally {
     off_duty: u32,
     sleeper_berth: u32,
@@ -80,26 +83,15 @@ fn shared(first: u64, last: u64, lo: u64, hi: u64) -> u32
     (to - from) as u32
 }
 
-// What the seconds of one duty add to those of another: all or nothing.
-fn share_of(seconds: u32, duty: u8, counted: u8) -> u32
-    ensures { λ r. ⌜ r ≡ share duty counted seconds ⌝ }
-{
-    if duty == counted {
-        return seconds;
-    }
-    0
-}
-
-// A tally with the seconds of a duty added.
-fn added(t: Tally, duty: u8, seconds: u32) -> Tally
-    requires { ⌜ Room t duty seconds ⌝ }
-    ensures { λ r. ⌜ r ≡ adding t duty seconds ⌝ }
+// The tally of a table of seconds by duty.
+fn gathered(t: [u32; DUTIES]) -> Tally
+    ensures { λ r. ⌜ r ≡ gathering t ⌝ }
 {
     Tally {
-        off_duty: t.off_duty + share_of(seconds, duty, 1),
-        sleeper_berth: t.sleeper_berth + share_of(seconds, duty, 2),
-        driving: t.driving + share_of(seconds, duty, 3),
-        on_duty: t.on_duty + share_of(seconds, duty, 4),
+        off_duty: t[1],
+        sleeper_berth: t[2],
+        driving: t[3],
+        on_duty: t[4],
     }
 }
 
@@ -131,27 +123,24 @@ fn walk(
     requires { ⌜ Sound halfOpen (stored count (now starts) (now ends) (now values)) × (from ≡ passed lo (take count (now ends))) × (lo < hi) × (hi - lo < limit) ⌝ }
     ensures { λ r. ⌜ r ≡ walked lo hi (ranges halfOpen (stored count (now (starts .entry)) (now (ends .entry)) (now (values .entry)))) ⌝ }
 {
-    let mut t = Tally {
-        off_duty: 0,
-        sleeper_berth: 0,
-        driving: 0,
-        on_duty: 0,
-    };
+    let mut t = [0; DUTIES];
     let mut k = from;
     while k < count {
         let first = key::rank_of(starts[k]);
         if hi <= first {
-            return Walked::Counted(t);
+            return Walked::Counted(gathered(t));
         }
         let duty = duty_of(values[k]);
         if duty == 0 {
             return Walked::Strange;
         }
+        let d = duty as usize;
         let last = key::rank_of(ends[k]);
-        t = added(t, duty, shared(first, last, lo, hi));
+        let seconds = shared(first, last, lo, hi);
+        t[d] += seconds;
         k += 1;
     }
-    Walked::Counted(t)
+    Walked::Counted(gathered(t))
 }
 
 // THE SECONDS of each duty from the key `start` up to the key `end`, and those that are unrecorded: 10 if a status outside 1 to 4 is there.
