@@ -334,6 +334,39 @@ typedef struct LogDay {
  * 6 Mountain without clock changes. 8 if there is no such zone, or no such date in the years 2007 to 2099.
  */
 LogDay log_day(uint8_t zone, uint16_t year, uint8_t month, uint8_t day);
+/* ---- A DAY'S REPORT ---- */
+
+/*
+ * The report of a day of the log: its start and end as keys, the seconds of each duty in it and those that are
+ * unrecorded, and the same five as hours. Each hour is the double nearest seconds / 3600, exact where 225 divides
+ * the seconds. The four duties and the unrecorded seconds sum to end - start. Link the static library day_report.
+ *   4  lent map not well formed    8  bad zone or date    10  status outside 1 to 4 in the day
+ * Where several apply, the first of 4, 8, 10 is given. Unless the answer is 0, all else is 0 and the hours are +0.0.
+ */
+typedef struct DayReport {
+    uint8_t answer;
+    int64_t start;
+    int64_t end;
+    uint32_t off_duty;
+    uint32_t sleeper_berth;
+    uint32_t driving;
+    uint32_t on_duty;
+    uint32_t unrecorded;
+    double off_duty_hours;
+    double sleeper_berth_hours;
+    double driving_hours;
+    double on_duty_hours;
+    double unrecorded_hours;
+} DayReport;
+
+/*
+ * The report of a date in a zone. The map's values are statuses: 1 off duty, 2 sleeper berth, 3 driving,
+ * 4 on duty not driving. Only ranges that meet the day are looked at.
+ */
+DayReport range_map_day_report(const RangeMap *m, uint8_t zone, uint16_t year, uint8_t month, uint8_t day);
+
+/* The inner door: a map that is not well formed must not be lent to it. */
+DayReport range_map_day_report_unchecked(const RangeMap *m, uint8_t zone, uint16_t year, uint8_t month, uint8_t day);
 
 #ifdef __cplusplus
 }

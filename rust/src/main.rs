@@ -1,10 +1,13 @@
 //! Compares the exported functions with rangemap, and the byte form with a model of its own. Each module of the port has a file of its own here.
 mod bytes;
+//! Compares the exported functions with rangemap. Each module of the port has a file of its own here.
+mod day_ffi;
 mod ffi;
 mod inside;
 mod maps;
 mod relations;
 mod report;
+mod report_days;
 mod shown;
 
 use report::Report;
@@ -20,6 +23,11 @@ fn compare(size: &maps::Size, inputs: usize) -> bool {
     relations::compare(&mut report);
     maps::compare(&mut report, size);
     bytes::compare(&mut report, inputs);
+fn compare(size: &maps::Size, full: bool) -> bool {
+    let mut report = Report::new(&known());
+    relations::compare(&mut report);
+    maps::compare(&mut report, size);
+    report_days::compare(&mut report, full);
     report.finish()
 }
 
@@ -43,6 +51,8 @@ fn main() -> ExitCode {
     let good = match words[..] {
         [] => compare(&maps::SHORT, bytes::SHORT),
         ["full"] => compare(&maps::FULL, bytes::FULL),
+        [] => compare(&maps::SHORT, false),
+        ["full"] => compare(&maps::FULL, true),
         ["replay", module] => replay(module),
         _ => {
             eprintln!("usage: compare [full | replay MODULE]");
