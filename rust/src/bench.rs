@@ -1,5 +1,5 @@
-//! Times the exported functions beside rangemap: lookups, edits and gaps, through both doors, the check alone, and the byte form beside the same in Rust.
-//! Times the exported functions beside rangemap: lookups, edits, gaps and a day's report, through both doors, and the check alone.
+//! Times the exported functions beside rangemap: lookups, edits, gaps and a day's report, through both doors, the check alone, and the byte
+//! form beside the same in Rust.
 //!
 //! Method. Both sides work on the same entries, the same keys and the same edits, which are random and the same in every run.
 //! A batch is some thousand calls. The batches of the two doors and of rangemap take turns, so that a slow moment of the

@@ -1,6 +1,6 @@
-//! Compares the exported functions with rangemap, and the byte form with a model of its own. Each module of the port has a file of its own here.
+//! Compares the exported functions with rangemap, and what is new, the byte form and the day's report, with models of their own. Each
+//! module of the port has a file of its own here.
 mod bytes;
-//! Compares the exported functions with rangemap. Each module of the port has a file of its own here.
 mod day_ffi;
 mod ffi;
 mod inside;
@@ -18,15 +18,11 @@ fn known() -> Vec<&'static str> {
     [&relations::KNOWN[..], &maps::KNOWN[..]].concat()
 }
 
-fn compare(size: &maps::Size, inputs: usize) -> bool {
+fn compare(size: &maps::Size, inputs: usize, full: bool) -> bool {
     let mut report = Report::new(&known());
     relations::compare(&mut report);
     maps::compare(&mut report, size);
     bytes::compare(&mut report, inputs);
-fn compare(size: &maps::Size, full: bool) -> bool {
-    let mut report = Report::new(&known());
-    relations::compare(&mut report);
-    maps::compare(&mut report, size);
     report_days::compare(&mut report, full);
     report.finish()
 }
@@ -49,10 +45,8 @@ fn main() -> ExitCode {
     let words: Vec<String> = std::env::args().skip(1).collect();
     let words: Vec<&str> = words.iter().map(String::as_str).collect();
     let good = match words[..] {
-        [] => compare(&maps::SHORT, bytes::SHORT),
-        ["full"] => compare(&maps::FULL, bytes::FULL),
-        [] => compare(&maps::SHORT, false),
-        ["full"] => compare(&maps::FULL, true),
+        [] => compare(&maps::SHORT, bytes::SHORT, false),
+        ["full"] => compare(&maps::FULL, bytes::FULL, true),
         ["replay", module] => replay(module),
         _ => {
             eprintln!("usage: compare [full | replay MODULE]");

@@ -1,12 +1,13 @@
 // The writer of the byte form. Nothing is written before it is known that the map is well formed and that the lent output is long enough.
+use key::RangeKind;
 use outcomes::Count;
 use outcomes::Counted;
 use outcomes::NOT_FORMED;
 use outcomes::PLACES;
 use outcomes::TOO_SHORT;
 use outcomes::count_of;
+use places::formed::is_formed;
 ghost use mathlib.Core.Path.{_≡_};
-ghost use mathlib.Core.Bool.{true};
 ghost use mathlib.Core.List.{_++_};
 ghost use Prim.Native.Nat.{_≤_};
 ghost use lib.ListN.{length};
@@ -63,19 +64,6 @@ fn write_formed(
     Counted::Count(n)
 }
 
-// Whether a lent map is well formed.
-fn is_formed(
-    count: usize,
-    starts: &[i64; PLACES],
-    ends: &[i64; PLACES],
-    values: &[u8; PLACES],
-) -> bool
-    ensures { λ r. ⌜ r ≡ formed halfOpen (stored count (now (starts .entry)) (now (ends .entry)) (now (values .entry))) ⌝ }
-    ensures { λ r. ⌜ (r ≡ true → Sound halfOpen (stored count (now (starts .entry)) (now (ends .entry)) (now (values .entry)))) ⌝ }
-{
-    places::check::well_formed(starts, ends, values, count)
-}
-
 // The form of any map.
 pub fn write<'a>(
     count: &'a usize,
@@ -86,7 +74,7 @@ pub fn write<'a>(
 ) -> Counted
     ensures { λ r. ⌜ output r (now (out .exit)) ≡ writing (lent (count .entry) (starts .entry) (ends .entry) (values .entry)) (now (out .entry)) ⌝ }
 {
-    if !is_formed(*count, starts, ends, values) {
+    if !is_formed(RangeKind::HalfOpen, *count, starts, ends, values) {
         return Counted::Refused(NOT_FORMED);
     }
     write_formed(*count, starts, ends, values, out)

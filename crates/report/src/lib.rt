@@ -2,11 +2,12 @@
 use duty::Tallied;
 use duty::Totals;
 use hours::hours;
+use key::RangeKind;
 use log_day::Day;
 use outcomes::NOT_FORMED;
 use outcomes::PLACES;
+use places::formed::is_formed;
 ghost use mathlib.Core.Path.{_≡_};
-ghost use mathlib.Core.Bool.{true};
 ghost use Rattle.key.specs.Range.{halfOpen};
 ghost use Rattle.outcomes.specs.Stored.{stored, lent, Sound};
 ghost use Rattle.outcomes.specs.Outcomes.{formed};
@@ -124,19 +125,6 @@ pub fn unchecked(
     }
 }
 
-// Whether a lent map is well formed.
-fn is_formed(
-    count: usize,
-    starts: &[i64; PLACES],
-    ends: &[i64; PLACES],
-    values: &[u8; PLACES],
-) -> bool
-    ensures { λ r. ⌜ r ≡ formed halfOpen (stored count (now (starts .entry)) (now (ends .entry)) (now (values .entry))) ⌝ }
-    ensures { λ r. ⌜ (r ≡ true → Sound halfOpen (stored count (now (starts .entry)) (now (ends .entry)) (now (values .entry)))) ⌝ }
-{
-    places::check::well_formed(starts, ends, values, count)
-}
-
 // The report of any map, over all its fields.
 pub fn checked<'a>(
     count: &'a usize,
@@ -150,7 +138,7 @@ pub fn checked<'a>(
 ) -> Reported
     ensures { λ r. ⌜ r ≡ reporting (lent (count .entry) (starts .entry) (ends .entry) (values .entry)) zone year month day ⌝ }
 {
-    if !is_formed(*count, starts, ends, values) {
+    if !is_formed(RangeKind::HalfOpen, *count, starts, ends, values) {
         return Reported::Refused(NOT_FORMED);
     }
     unchecked(*count, starts, ends, values, zone, year, month, day)
