@@ -12,6 +12,8 @@ _Static_assert(sizeof(RangeMap) == 8 + HOURLEDGER_PLACES * 17, "the layout of Ra
 _Static_assert(sizeof(RangeInclusiveMap) == sizeof(RangeMap), "the layout of RangeInclusiveMap");
 _Static_assert(sizeof(LedgerRange) == 32 && sizeof(LedgerStretch) == 24, "the layout of the answers");
 
+_Static_assert(sizeof(DayReport) == 88, "the layout of DayReport");
+
 static int checks;
 static int failures;
 
@@ -406,6 +408,29 @@ static void inclusive_damaged(void) {
     check("RangeInclusiveMap, damaged: a common key", range_inclusive_map_refused(&m));
 }
 
+/* Document 01's November report, and the refusals in their order. */
+static void day_reports(void) {
+    RangeMap m = range_map_new();
+    check("November is off duty", range_map_insert(&m, 1730606400, 1730696400, 1) == 0);
+    check("and driving for a while", range_map_insert(&m, 1730628000, 1730653200, 3) == 0);
+    DayReport r = range_map_day_report(&m, 0, 2024, 11, 3);
+    check("the November report: the day", r.answer == 0 && r.start == 1730606400 && r.end == 1730696400);
+    check("the November report: seconds", r.off_duty == 64800 && r.sleeper_berth == 0 && r.driving == 25200
+                                              && r.on_duty == 0 && r.unrecorded == 0);
+    check("the November report: hours", r.off_duty_hours == 18.0 && r.sleeper_berth_hours == 0.0 && r.driving_hours == 7.0
+                                            && r.on_duty_hours == 0.0 && r.unrecorded_hours == 0.0);
+    DayReport inner = range_map_day_report_unchecked(&m, 0, 2024, 11, 4);
+    check("the day after is unrecorded", inner.answer == 0 && inner.unrecorded == 86400 && inner.unrecorded_hours == 24.0);
+    check("a bad date", range_map_day_report(&m, 0, 2023, 2, 29).answer == 8);
+    check("a bad zone", range_map_day_report(&m, 7, 2024, 11, 3).answer == 8);
+    m.values[1] = 0;
+    r = range_map_day_report(&m, 0, 2024, 11, 3);
+    check("status 0 in the day", r.answer == 10 && r.start == 0 && r.off_duty == 0 && r.off_duty_hours == 0.0);
+    check("status 0 on another day", range_map_day_report(&m, 0, 2024, 11, 4).answer == 0);
+    m.ends[511] = 1;
+    check("a damaged map", range_map_day_report(&m, 7, 2024, 11, 3).answer == 4);
+}
+
 int main(void) {
     relations();
     half_open_joins();
@@ -423,6 +448,7 @@ int main(void) {
     inclusive_questions();
     inclusive_full();
     inclusive_damaged();
+    day_reports();
     if (failures > 0) {
         printf("%d of %d checks failed\n", failures, checks);
         return 1;
