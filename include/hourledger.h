@@ -38,7 +38,7 @@
 extern "C" {
 #endif
 
-/* How many places a map has. */
+/* How many places a map or a set has. */
 #define HOURLEDGER_PLACES 512
 
 /* The longest byte form: 52 4D 30 31, the count as u32, and 17 bytes for each range. */
@@ -71,6 +71,25 @@ typedef struct RangeInclusiveMap {
     uint8_t values[HOURLEDGER_PLACES];
 } RangeInclusiveMap;
 
+/*
+ * A set of half-open ranges: a map whose values are all 0. Another value in any place, used or not, is not
+ * well formed. Two stored ranges never touch. All bytes 0 is the empty set.
+ */
+typedef struct RangeSet {
+    size_t count;
+    int64_t starts[HOURLEDGER_PLACES];
+    int64_t ends[HOURLEDGER_PLACES];
+    uint8_t values[HOURLEDGER_PLACES];
+} RangeSet;
+
+/* A set of inclusive ranges, in the same way. */
+typedef struct RangeInclusiveSet {
+    size_t count;
+    int64_t starts[HOURLEDGER_PLACES];
+    int64_t ends[HOURLEDGER_PLACES];
+    uint8_t values[HOURLEDGER_PLACES];
+} RangeInclusiveSet;
+
 /* Whether two ranges are related, or a range has a key. */
 typedef struct LedgerRelated {
     uint8_t answer;
@@ -84,7 +103,7 @@ typedef struct LedgerIntersected {
     int64_t end;
 } LedgerIntersected;
 
-/* Yes or no, about a map. */
+/* Yes or no, about a map or a set. */
 typedef struct LedgerTold {
     uint8_t answer;
     bool yes;
@@ -96,7 +115,7 @@ typedef struct LedgerCount {
     size_t count;
 } LedgerCount;
 
-/* A stored range and its value. */
+/* A stored range and its value. The value is 0 in a set. */
 typedef struct LedgerRange {
     uint8_t answer;
     int64_t start;
@@ -111,7 +130,7 @@ typedef struct LedgerStretch {
     size_t count;
 } LedgerStretch;
 
-/* How two maps compare: -1, 0 or 1. */
+/* How two maps or sets compare: -1, 0 or 1. */
 typedef struct LedgerOrder {
     uint8_t answer;
     int8_t order;
@@ -316,6 +335,136 @@ uint8_t range_inclusive_map_remove_unchecked(RangeInclusiveMap *m, int64_t start
 LedgerCount range_inclusive_map_gaps_unchecked(const RangeInclusiveMap *m, int64_t start, int64_t end,
                                                int64_t *out_starts, size_t out_starts_length,
                                                int64_t *out_ends, size_t out_ends_length);
+
+/* ---- SETS OF HALF-OPEN RANGES ---- */
+
+/* A new empty set. */
+RangeSet range_set_new(void);
+
+/* Empties the set. It overwrites the set, so it does not check it. */
+void range_set_clear(RangeSet *m);
+
+/* The check alone: whether the set is well formed. */
+bool range_set_well_formed(const RangeSet *m);
+
+/* Whether nothing is held. */
+LedgerTold range_set_is_empty(const RangeSet *m);
+
+/* How many ranges are held. */
+LedgerCount range_set_len(const RangeSet *m);
+
+/* The first range. 5 if the set is empty. */
+LedgerRange range_set_first(const RangeSet *m);
+
+/* The last range. 5 if the set is empty. */
+LedgerRange range_set_last(const RangeSet *m);
+
+/* The range at a place, counted from 0. 5 if there is no such place. */
+LedgerRange range_set_range_at(const RangeSet *m, size_t place);
+
+/* The range that has the key. 5 if the key is not covered. */
+LedgerRange range_set_get(const RangeSet *m, int64_t key);
+
+/* Whether some range has the key. */
+LedgerTold range_set_contains(const RangeSet *m, int64_t key);
+
+/*
+ * Covers each key of the range and no other, and leaves the one well-formed set of that.
+ * 2 if that set would need over 512 ranges: fullness is judged on the final set.
+ */
+uint8_t range_set_insert(RangeSet *m, int64_t start, int64_t end);
+
+/* Uncovers exactly the range. 2 as for insert: a cut inside one range of a full set needs one more. */
+uint8_t range_set_remove(RangeSet *m, int64_t start, int64_t end);
+
+/* Which consecutive stored part meets the query. Place 0 and count 0 if none does. */
+LedgerStretch range_set_overlapping(const RangeSet *m, int64_t start, int64_t end);
+
+/* Whether some range meets the query. */
+LedgerTold range_set_overlaps(const RangeSet *m, int64_t start, int64_t end);
+
+/* Writes the maximal uncovered ranges inside the outer range, ascending. 3 if they do not fit into the lists. */
+LedgerCount range_set_gaps(const RangeSet *m, int64_t start, int64_t end,
+                           int64_t *out_starts, size_t out_starts_length,
+                           int64_t *out_ends, size_t out_ends_length);
+
+/* Whether the two sets hold the same. */
+LedgerTold range_set_eq(const RangeSet *m, const RangeSet *other);
+
+/* Compares (start, end) place by place, a prefix coming first. */
+LedgerOrder range_set_cmp(const RangeSet *m, const RangeSet *other);
+
+/*
+ * Bulk insert: works in list order and stops at the first refusal. Earlier ranges stay, and the count
+ * applied is returned, also with an answer other than 0.
+ */
+LedgerApplied range_set_extend(RangeSet *m, const int64_t *starts, size_t starts_length,
+                               const int64_t *ends, size_t ends_length);
+
+/* ---- SETS OF INCLUSIVE RANGES ---- */
+
+/* A new empty set. */
+RangeInclusiveSet range_inclusive_set_new(void);
+
+/* Empties the set. It overwrites the set, so it does not check it. */
+void range_inclusive_set_clear(RangeInclusiveSet *m);
+
+/* The check alone: whether the set is well formed. */
+bool range_inclusive_set_well_formed(const RangeInclusiveSet *m);
+
+/* Whether nothing is held. */
+LedgerTold range_inclusive_set_is_empty(const RangeInclusiveSet *m);
+
+/* How many ranges are held. */
+LedgerCount range_inclusive_set_len(const RangeInclusiveSet *m);
+
+/* The first range. 5 if the set is empty. */
+LedgerRange range_inclusive_set_first(const RangeInclusiveSet *m);
+
+/* The last range. 5 if the set is empty. */
+LedgerRange range_inclusive_set_last(const RangeInclusiveSet *m);
+
+/* The range at a place, counted from 0. 5 if there is no such place. */
+LedgerRange range_inclusive_set_range_at(const RangeInclusiveSet *m, size_t place);
+
+/* The range that has the key. 5 if the key is not covered. */
+LedgerRange range_inclusive_set_get(const RangeInclusiveSet *m, int64_t key);
+
+/* Whether some range has the key. */
+LedgerTold range_inclusive_set_contains(const RangeInclusiveSet *m, int64_t key);
+
+/*
+ * Covers each key of the range and no other, and leaves the one well-formed set of that.
+ * 2 if that set would need over 512 ranges: fullness is judged on the final set.
+ */
+uint8_t range_inclusive_set_insert(RangeInclusiveSet *m, int64_t start, int64_t end);
+
+/* Uncovers exactly the range. 2 as for insert: a cut inside one range of a full set needs one more. */
+uint8_t range_inclusive_set_remove(RangeInclusiveSet *m, int64_t start, int64_t end);
+
+/* Which consecutive stored part meets the query. Place 0 and count 0 if none does. */
+LedgerStretch range_inclusive_set_overlapping(const RangeInclusiveSet *m, int64_t start, int64_t end);
+
+/* Whether some range meets the query. */
+LedgerTold range_inclusive_set_overlaps(const RangeInclusiveSet *m, int64_t start, int64_t end);
+
+/* Writes the maximal uncovered ranges inside the outer range, ascending. 3 if they do not fit into the lists. */
+LedgerCount range_inclusive_set_gaps(const RangeInclusiveSet *m, int64_t start, int64_t end,
+                                     int64_t *out_starts, size_t out_starts_length,
+                                     int64_t *out_ends, size_t out_ends_length);
+
+/* Whether the two sets hold the same. */
+LedgerTold range_inclusive_set_eq(const RangeInclusiveSet *m, const RangeInclusiveSet *other);
+
+/* Compares (start, end) place by place, a prefix coming first. */
+LedgerOrder range_inclusive_set_cmp(const RangeInclusiveSet *m, const RangeInclusiveSet *other);
+
+/*
+ * Bulk insert: works in list order and stops at the first refusal. Earlier ranges stay, and the count
+ * applied is returned, also with an answer other than 0.
+ */
+LedgerApplied range_inclusive_set_extend(RangeInclusiveSet *m, const int64_t *starts, size_t starts_length,
+                                         const int64_t *ends, size_t ends_length);
 
 /* ---- LOG DAYS ---- */
 

@@ -19,15 +19,17 @@ mod model;
 #[allow(dead_code)]
 #[path = "maps/random.rs"]
 mod random;
+mod maps {
+    pub mod kind;
+    pub mod random;
+    pub mod stored;
+}
 #[allow(dead_code)]
 mod shown;
-#[allow(dead_code)]
-#[path = "maps/stored.rs"]
-mod stored;
 
-use ffi::{Gaps, Map, Range, PLACES};
-use kind::{Ends, Entry, HalfOpen, Inclusive, Kind};
-use random::Random;
+use ffi::{Gaps, Inner, Map, Range, PLACES};
+use maps::kind::{Ends, Entry, HalfOpen, Inclusive, Kind};
+use maps::random::Random;
 use std::hint::black_box;
 use std::time::Instant;
 
@@ -106,14 +108,18 @@ fn entry_of(found: Range) -> Option<Entry> {
     (found.answer == 0).then_some(((found.start, found.end), found.value))
 }
 
+fn inner_doors<K: Kind>() -> Inner {
+    K::OURS.inner.expect("a map has inner doors")
+}
+
 fn lookups<K: Kind>() {
     let entries = entries::<K>(RANGES);
     let keys = random_keys(RANGES, 11);
     let rust = K::rust_of(&entries);
     let (mut map, mut lent) = (Map::of(&entries), Map::of(&entries));
     // SAFETY: the map is well formed.
-    let inner = |m: &mut Map, key| unsafe { (K::OURS.get_key_value_unchecked)(m, key) };
-    let checked = |m: &mut Map, key| (K::OURS.get_key_value)(m, key);
+    let inner = |m: &mut Map, key| unsafe { (inner_doors::<K>().get)(m, key) };
+    let checked = |m: &mut Map, key| (K::OURS.get)(m, key);
 
     let sum = sum_of(&keys, |key| K::rust_get(&rust, key));
     assert_eq!(sum, sum_of(&keys, |key| entry_of(inner(&mut map, key))));
@@ -134,7 +140,7 @@ fn lookups<K: Kind>() {
         ],
     );
     let name = K::NAME;
-    tell(&format!("{name} map, lookup at {RANGES} ranges"), times);
+    tell(&format!("{name}, lookup at {RANGES} ranges"), times);
 }
 
 /// One key gets a value that no entry has, and then what it had before: a split and a join, or a range more and one less.
@@ -162,11 +168,12 @@ fn edit_all<M>(m: &mut M, edits: &[Edit], mut edit: impl FnMut(&mut M, Ends, Opt
 }
 
 fn edit_inner<K: Kind>(m: &mut Map, r: Ends, new: Option<u8>) {
+    let inner = inner_doors::<K>();
     // SAFETY: the map is well formed, and each edit leaves it so.
     let answer = unsafe {
         match new {
-            Some(value) => (K::OURS.insert_unchecked)(m, r.0, r.1, value),
-            None => (K::OURS.remove_unchecked)(m, r.0, r.1),
+            Some(value) => (inner.insert)(m, r.0, r.1, value),
+            None => (inner.remove)(m, r.0, r.1),
         }
     };
     assert_eq!(answer, 0);
@@ -197,7 +204,7 @@ fn race_edits<K: Kind>(wanted: &mut Vec<Wanted>) {
     let before = Map::of(&entries);
     assert!(map == before && lent == before && K::rust_entries(&rust) == entries);
 
-    let what = format!("{} map, edit at {RANGES} ranges", K::NAME);
+    let what = format!("{}, edit at {RANGES} ranges", K::NAME);
     tell(&what, times);
     wanted.push(Wanted {
         what: format!("{what}, inner door, ratio"),
@@ -263,7 +270,7 @@ fn gaps<K: Kind>(wanted: &mut Vec<Wanted>) {
         [
             &mut || {
                 for _ in 0..CALLS {
-                    one.fill_by(K::OURS.gaps_unchecked, &mut map, r);
+                    one.fill_by(inner_doors::<K>().gaps, &mut map, r);
                 }
             },
             &mut || {
@@ -282,7 +289,7 @@ fn gaps<K: Kind>(wanted: &mut Vec<Wanted>) {
     assert!(one.starts == rusts.starts && one.ends == rusts.ends);
     assert!(other.starts == rusts.starts && other.ends == rusts.ends);
 
-    let what = format!("{} map, gaps of {GAPS_RANGES} ranges", K::NAME);
+    let what = format!("{}, gaps of {GAPS_RANGES} ranges", K::NAME);
     tell(&what, times);
     wanted.push(Wanted {
         what: format!("{what}, inner door, ratio"),
@@ -301,7 +308,7 @@ fn check<K: Kind>(wanted: &mut Vec<Wanted>) {
             }
         };
         let [time] = race(CALLS * PLACES, [check_all]);
-        let what = format!("{} map, the check at {count} ranges", K::NAME);
+        let what = format!("{}, the check at {count} ranges", K::NAME);
         println!("{what}: {time:.2} ns a place");
         wanted.push(Wanted {
             what: format!("{what}, ns a place"),

@@ -55,10 +55,10 @@ unsafe extern "C" {
     ) -> Intersected;
 }
 
-/// How many places a map has.
+/// How many places a map or a set has.
 pub const PLACES: usize = 512;
 
-/// A map of either kind, as it is lent. It has no padding, so two are equal when all their bytes are.
+/// A map or a set of either kind, as it is lent. It has no padding, so two are equal when all their bytes are.
 #[repr(C)]
 #[derive(Clone, PartialEq, Eq)]
 pub struct Map {
@@ -125,8 +125,18 @@ unsafe extern "C" {
 }
 
 pub type Gaps = unsafe extern "C" fn(&mut Map, i64, i64, *mut i64, usize, *mut i64, usize) -> Count;
+pub type Insert = extern "C" fn(&mut Map, i64, i64, u8) -> u8;
+pub type Extend = unsafe extern "C" fn(
+    &mut Map,
+    *const i64,
+    usize,
+    *const i64,
+    usize,
+    *const u8,
+    usize,
+) -> Applied;
 
-/// The functions of one kind of map. Each lent map is a `&mut` here, also where it is only read:
+/// The functions of one kind of map or set. Each lent map is a `&mut` here, also where it is only read:
 /// else the compiler would take for granted that it stays as it was.
 /// A function is unsafe here where it takes a list, or a map that it does not check.
 pub struct Functions {
@@ -134,135 +144,204 @@ pub struct Functions {
     pub clear: extern "C" fn(&mut Map),
     pub is_empty: extern "C" fn(&mut Map) -> Told,
     pub len: extern "C" fn(&mut Map) -> Count,
-    pub first_range_value: extern "C" fn(&mut Map) -> Range,
-    pub last_range_value: extern "C" fn(&mut Map) -> Range,
+    pub first: extern "C" fn(&mut Map) -> Range,
+    pub last: extern "C" fn(&mut Map) -> Range,
     pub range_at: extern "C" fn(&mut Map, usize) -> Range,
-    pub get_key_value: extern "C" fn(&mut Map, i64) -> Range,
-    pub contains_key: extern "C" fn(&mut Map, i64) -> Told,
-    pub insert: extern "C" fn(&mut Map, i64, i64, u8) -> u8,
+    pub get: extern "C" fn(&mut Map, i64) -> Range,
+    pub contains: extern "C" fn(&mut Map, i64) -> Told,
+    pub insert: Insert,
     pub remove: extern "C" fn(&mut Map, i64, i64) -> u8,
     pub overlapping: extern "C" fn(&mut Map, i64, i64) -> Stretch,
     pub overlaps: extern "C" fn(&mut Map, i64, i64) -> Told,
     pub gaps: Gaps,
     pub eq: extern "C" fn(&mut Map, &mut Map) -> Told,
     pub cmp: extern "C" fn(&mut Map, &mut Map) -> Order,
-    pub extend: unsafe extern "C" fn(
-        &mut Map,
-        *const i64,
-        usize,
-        *const i64,
-        usize,
-        *const u8,
-        usize,
-    ) -> Applied,
+    pub extend: Extend,
     /// The check alone, as a byte.
     pub well_formed: extern "C" fn(&mut Map) -> u8,
-    pub get_key_value_unchecked: unsafe extern "C" fn(&mut Map, i64) -> Range,
-    pub insert_unchecked: unsafe extern "C" fn(&mut Map, i64, i64, u8) -> u8,
-    pub remove_unchecked: unsafe extern "C" fn(&mut Map, i64, i64) -> u8,
-    pub gaps_unchecked: Gaps,
+    /// Only maps have inner doors.
+    pub inner: Option<Inner>,
 }
 
+/// The same without the check.
+#[derive(Clone, Copy)]
+pub struct Inner {
+    pub get: unsafe extern "C" fn(&mut Map, i64) -> Range,
+    pub insert: unsafe extern "C" fn(&mut Map, i64, i64, u8) -> u8,
+    pub remove: unsafe extern "C" fn(&mut Map, i64, i64) -> u8,
+    pub gaps: Gaps,
+}
+
+/// The functions that maps and sets share, some of them under two names. The others are given.
 macro_rules! functions {
-    ($table:ident, $prefix:literal) => {
-        pub static $table: Functions = {
-            unsafe extern "C" {
-                #[link_name = concat!($prefix, "new")]
-                safe fn new() -> Map;
-                #[link_name = concat!($prefix, "clear")]
-                safe fn clear(m: &mut Map);
-                #[link_name = concat!($prefix, "is_empty")]
-                safe fn is_empty(m: &mut Map) -> Told;
-                #[link_name = concat!($prefix, "len")]
-                safe fn len(m: &mut Map) -> Count;
-                #[link_name = concat!($prefix, "first_range_value")]
-                safe fn first_range_value(m: &mut Map) -> Range;
-                #[link_name = concat!($prefix, "last_range_value")]
-                safe fn last_range_value(m: &mut Map) -> Range;
-                #[link_name = concat!($prefix, "range_at")]
-                safe fn range_at(m: &mut Map, place: usize) -> Range;
-                #[link_name = concat!($prefix, "get_key_value")]
-                safe fn get_key_value(m: &mut Map, key: i64) -> Range;
-                #[link_name = concat!($prefix, "contains_key")]
-                safe fn contains_key(m: &mut Map, key: i64) -> Told;
-                #[link_name = concat!($prefix, "insert")]
-                safe fn insert(m: &mut Map, start: i64, end: i64, value: u8) -> u8;
-                #[link_name = concat!($prefix, "remove")]
-                safe fn remove(m: &mut Map, start: i64, end: i64) -> u8;
-                #[link_name = concat!($prefix, "overlapping")]
-                safe fn overlapping(m: &mut Map, start: i64, end: i64) -> Stretch;
-                #[link_name = concat!($prefix, "overlaps")]
-                safe fn overlaps(m: &mut Map, start: i64, end: i64) -> Told;
-                #[link_name = concat!($prefix, "gaps")]
-                fn gaps(
-                    m: &mut Map,
-                    start: i64,
-                    end: i64,
-                    out_starts: *mut i64,
-                    out_starts_length: usize,
-                    out_ends: *mut i64,
-                    out_ends_length: usize,
-                ) -> Count;
-                #[link_name = concat!($prefix, "eq")]
-                safe fn eq(m: &mut Map, other: &mut Map) -> Told;
-                #[link_name = concat!($prefix, "cmp")]
-                safe fn cmp(m: &mut Map, other: &mut Map) -> Order;
-                #[link_name = concat!($prefix, "extend")]
-                fn extend(
-                    m: &mut Map,
-                    starts: *const i64,
-                    starts_length: usize,
-                    ends: *const i64,
-                    ends_length: usize,
-                    values: *const u8,
-                    values_length: usize,
-                ) -> Applied;
-                #[link_name = concat!($prefix, "well_formed")]
-                safe fn well_formed(m: &mut Map) -> u8;
-                #[link_name = concat!($prefix, "get_key_value_unchecked")]
-                fn get_key_value_unchecked(m: &mut Map, key: i64) -> Range;
-                #[link_name = concat!($prefix, "insert_unchecked")]
-                fn insert_unchecked(m: &mut Map, start: i64, end: i64, value: u8) -> u8;
-                #[link_name = concat!($prefix, "remove_unchecked")]
-                fn remove_unchecked(m: &mut Map, start: i64, end: i64) -> u8;
-                #[link_name = concat!($prefix, "gaps_unchecked")]
-                fn gaps_unchecked(
-                    m: &mut Map,
-                    start: i64,
-                    end: i64,
-                    out_starts: *mut i64,
-                    out_starts_length: usize,
-                    out_ends: *mut i64,
-                    out_ends_length: usize,
-                ) -> Count;
-            }
-            Functions {
-                new,
-                clear,
-                is_empty,
-                len,
-                first_range_value,
-                last_range_value,
-                range_at,
-                get_key_value,
-                contains_key,
-                insert,
-                remove,
-                overlapping,
-                overlaps,
-                gaps,
-                eq,
-                cmp,
-                extend,
-                well_formed,
-                get_key_value_unchecked,
-                insert_unchecked,
-                remove_unchecked,
-                gaps_unchecked,
-            }
-        };
-    };
+    (
+        $prefix:literal,
+        [$first:literal, $last:literal, $get:literal, $contains:literal],
+        $insert:ident,
+        $extend:ident,
+        $inner:expr
+    ) => {{
+        unsafe extern "C" {
+            #[link_name = concat!($prefix, "new")]
+            safe fn new() -> Map;
+            #[link_name = concat!($prefix, "clear")]
+            safe fn clear(m: &mut Map);
+            #[link_name = concat!($prefix, "is_empty")]
+            safe fn is_empty(m: &mut Map) -> Told;
+            #[link_name = concat!($prefix, "len")]
+            safe fn len(m: &mut Map) -> Count;
+            #[link_name = concat!($prefix, $first)]
+            safe fn first(m: &mut Map) -> Range;
+            #[link_name = concat!($prefix, $last)]
+            safe fn last(m: &mut Map) -> Range;
+            #[link_name = concat!($prefix, "range_at")]
+            safe fn range_at(m: &mut Map, place: usize) -> Range;
+            #[link_name = concat!($prefix, $get)]
+            safe fn get(m: &mut Map, key: i64) -> Range;
+            #[link_name = concat!($prefix, $contains)]
+            safe fn contains(m: &mut Map, key: i64) -> Told;
+            #[link_name = concat!($prefix, "remove")]
+            safe fn remove(m: &mut Map, start: i64, end: i64) -> u8;
+            #[link_name = concat!($prefix, "overlapping")]
+            safe fn overlapping(m: &mut Map, start: i64, end: i64) -> Stretch;
+            #[link_name = concat!($prefix, "overlaps")]
+            safe fn overlaps(m: &mut Map, start: i64, end: i64) -> Told;
+            #[link_name = concat!($prefix, "gaps")]
+            fn gaps(
+                m: &mut Map,
+                start: i64,
+                end: i64,
+                out_starts: *mut i64,
+                out_starts_length: usize,
+                out_ends: *mut i64,
+                out_ends_length: usize,
+            ) -> Count;
+            #[link_name = concat!($prefix, "eq")]
+            safe fn eq(m: &mut Map, other: &mut Map) -> Told;
+            #[link_name = concat!($prefix, "cmp")]
+            safe fn cmp(m: &mut Map, other: &mut Map) -> Order;
+            #[link_name = concat!($prefix, "well_formed")]
+            safe fn well_formed(m: &mut Map) -> u8;
+        }
+        Functions {
+            new,
+            clear,
+            is_empty,
+            len,
+            first,
+            last,
+            range_at,
+            get,
+            contains,
+            insert: $insert,
+            remove,
+            overlapping,
+            overlaps,
+            gaps,
+            eq,
+            cmp,
+            extend: $extend,
+            well_formed,
+            inner: $inner,
+        }
+    }};
 }
 
-functions!(RANGE_MAP, "range_map_");
-functions!(RANGE_INCLUSIVE_MAP, "range_inclusive_map_");
+macro_rules! map_functions {
+    ($prefix:literal) => {{
+        unsafe extern "C" {
+            #[link_name = concat!($prefix, "insert")]
+            safe fn insert(m: &mut Map, start: i64, end: i64, value: u8) -> u8;
+            #[link_name = concat!($prefix, "extend")]
+            fn extend(
+                m: &mut Map,
+                starts: *const i64,
+                starts_length: usize,
+                ends: *const i64,
+                ends_length: usize,
+                values: *const u8,
+                values_length: usize,
+            ) -> Applied;
+            #[link_name = concat!($prefix, "get_key_value_unchecked")]
+            fn get_unchecked(m: &mut Map, key: i64) -> Range;
+            #[link_name = concat!($prefix, "insert_unchecked")]
+            fn insert_unchecked(m: &mut Map, start: i64, end: i64, value: u8) -> u8;
+            #[link_name = concat!($prefix, "remove_unchecked")]
+            fn remove_unchecked(m: &mut Map, start: i64, end: i64) -> u8;
+            #[link_name = concat!($prefix, "gaps_unchecked")]
+            fn gaps_unchecked(
+                m: &mut Map,
+                start: i64,
+                end: i64,
+                out_starts: *mut i64,
+                out_starts_length: usize,
+                out_ends: *mut i64,
+                out_ends_length: usize,
+            ) -> Count;
+        }
+        functions!(
+            $prefix,
+            [
+                "first_range_value",
+                "last_range_value",
+                "get_key_value",
+                "contains_key"
+            ],
+            insert,
+            extend,
+            Some(Inner {
+                get: get_unchecked,
+                insert: insert_unchecked,
+                remove: remove_unchecked,
+                gaps: gaps_unchecked,
+            })
+        )
+    }};
+}
+
+pub static RANGE_MAP: Functions = map_functions!("range_map_");
+pub static RANGE_INCLUSIVE_MAP: Functions = map_functions!("range_inclusive_map_");
+
+/// Sets take no values: what is lent as one has to be 0, and lists of them are not looked at.
+macro_rules! set_functions {
+    ($prefix:literal) => {{
+        unsafe extern "C" {
+            #[link_name = concat!($prefix, "insert")]
+            safe fn insert_range(m: &mut Map, start: i64, end: i64) -> u8;
+            #[link_name = concat!($prefix, "extend")]
+            fn extend_ranges(
+                m: &mut Map,
+                starts: *const i64,
+                starts_length: usize,
+                ends: *const i64,
+                ends_length: usize,
+            ) -> Applied;
+        }
+        extern "C" fn insert(m: &mut Map, start: i64, end: i64, value: u8) -> u8 {
+            assert_eq!(value, 0, "a set has no values");
+            insert_range(m, start, end)
+        }
+        unsafe extern "C" fn extend(
+            m: &mut Map,
+            starts: *const i64,
+            starts_length: usize,
+            ends: *const i64,
+            ends_length: usize,
+            _values: *const u8,
+            _values_length: usize,
+        ) -> Applied {
+            // SAFETY: the lists are the caller's.
+            unsafe { extend_ranges(m, starts, starts_length, ends, ends_length) }
+        }
+        functions!(
+            $prefix,
+            ["first", "last", "get", "contains"],
+            insert,
+            extend,
+            None
+        )
+    }};
+}
+
+pub static RANGE_SET: Functions = set_functions!("range_set_");
+pub static RANGE_INCLUSIVE_SET: Functions = set_functions!("range_inclusive_set_");

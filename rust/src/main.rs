@@ -8,6 +8,7 @@ mod maps;
 mod relations;
 mod report;
 mod report_days;
+mod sets;
 mod shown;
 
 use report::Report;
@@ -24,6 +25,12 @@ fn compare(size: &maps::Size, inputs: usize, full: bool) -> bool {
     maps::compare(&mut report, size);
     bytes::compare(&mut report, inputs);
     report_days::compare(&mut report, full);
+fn compare(map_size: &maps::Size, set_size: &maps::Size) -> bool {
+    maps::quiet_expected_panics();
+    let mut report = Report::new(&known());
+    relations::compare(&mut report);
+    maps::compare(&mut report, map_size);
+    sets::compare(&mut report, set_size);
     report.finish()
 }
 
@@ -47,6 +54,8 @@ fn main() -> ExitCode {
     let good = match words[..] {
         [] => compare(&maps::SHORT, bytes::SHORT, false),
         ["full"] => compare(&maps::FULL, bytes::FULL, true),
+        [] => compare(&maps::SHORT, &sets::SHORT),
+        ["full"] => compare(&maps::FULL, &sets::FULL),
         ["replay", module] => replay(module),
         _ => {
             eprintln!("usage: compare [full | replay MODULE]");

@@ -1,14 +1,15 @@
 //! Modules 2 and 3: maps of half-open and of inclusive ranges. Ours are compared with rangemap and with a dense model.
+//! All that a set has too is compared for any kind of map or set.
 mod bulk;
-mod damaged;
-mod dense;
+pub mod damaged;
+pub mod dense;
 mod histories;
-mod kind;
+pub mod kind;
 mod pairs;
 pub mod random;
 mod replay;
 mod states;
-mod stored;
+pub mod stored;
 
 use crate::ffi::Map;
 use crate::report::Report;
@@ -46,15 +47,15 @@ pub const KNOWN: [&str; 7] = [
 /// How much is compared.
 pub struct Size {
     /// Cells of the states that are edited and asked.
-    cells: usize,
+    pub cells: usize,
     /// Cells of the states that are compared in pairs.
-    paired_cells: usize,
+    pub paired_cells: usize,
     /// Edits of a random history.
-    edits: usize,
+    pub edits: usize,
     /// Random lists of a bulk insert.
-    lists: usize,
+    pub lists: usize,
     /// Places of the maps that are only checked.
-    checked_places: u32,
+    pub checked_places: u32,
 }
 
 /// In a few seconds.
@@ -76,9 +77,9 @@ pub const FULL: Size = Size {
 };
 
 /// Cells at one of the places that matter, and what can be asked of them.
-struct Placed {
-    name: &'static str,
-    cells: Cells,
+pub struct Placed {
+    pub name: &'static str,
+    pub cells: Cells,
     keys: Vec<i64>,
     ranges: Vec<(Ends, Range<usize>)>,
 }
@@ -93,7 +94,7 @@ impl Placed {
         }
     }
 
-    fn all<K: Kind>(cells: usize) -> [Self; 4] {
+    pub fn all<K: Kind>(cells: usize) -> [Self; 4] {
         [
             Placed::new::<K>("at small keys", Cells::small(cells)),
             Placed::new::<K>("at the least key", Cells::lowest(cells)),
@@ -104,7 +105,7 @@ impl Placed {
 }
 
 /// Compares ours with the model, and rangemap with the model.
-fn agree<T: PartialEq + Debug + Copy>(
+pub fn agree<T: PartialEq + Debug + Copy>(
     report: &mut Report,
     input: Arguments,
     ours: T,
@@ -127,13 +128,23 @@ fn edit<K: Kind>(m: &mut Map, r: Ends, new: Option<u8>) -> u8 {
 
 /// Only for a well-formed map.
 fn edit_unchecked<K: Kind>(m: &mut Map, r: Ends, new: Option<u8>) -> u8 {
+    let inner = K::OURS.inner.expect("only maps have inner doors");
     // SAFETY: every caller lends a map that an edit left, or the model.
     unsafe {
         match new {
-            Some(value) => (K::OURS.insert_unchecked)(m, r.0, r.1, value),
-            None => (K::OURS.remove_unchecked)(m, r.0, r.1),
+            Some(value) => (inner.insert)(m, r.0, r.1, value),
+            None => (inner.remove)(m, r.0, r.1),
         }
     }
+}
+
+/// The doors of an edit, by name: sets have only one.
+fn doors<K: Kind>() -> Vec<(&'static str, Edit)> {
+    let mut doors: Vec<(&'static str, Edit)> = vec![("", edit::<K>)];
+    if K::OURS.inner.is_some() {
+        doors.push(("inner door, ", edit_unchecked::<K>));
+    }
+    doors
 }
 
 thread_local! {
@@ -141,7 +152,7 @@ thread_local! {
 }
 
 /// Panics that are asked for are not told; any other is.
-fn quiet_expected_panics() {
+pub fn quiet_expected_panics() {
     let told = take_hook();
     set_hook(Box::new(move |panic| {
         if !EXPECTED.get() {
@@ -158,7 +169,8 @@ fn panics(ask: impl FnOnce()) -> bool {
     panicked
 }
 
-fn compare_kind<K: Kind>(report: &mut Report, size: &Size) {
+/// All that a map and a set both have.
+pub fn compare_kind<K: Kind>(report: &mut Report, size: &Size) {
     states::compare::<K>(report, size);
     pairs::compare::<K>(report, size);
     histories::compare::<K>(report, size);
@@ -167,7 +179,6 @@ fn compare_kind<K: Kind>(report: &mut Report, size: &Size) {
 }
 
 pub fn compare(report: &mut Report, size: &Size) {
-    quiet_expected_panics();
     compare_kind::<HalfOpen>(report, size);
     compare_kind::<Inclusive>(report, size);
     compare_exhausted(report);
@@ -199,7 +210,7 @@ fn compare_exhausted(report: &mut Report) {
     // Ours has only the two ends, and so stores 5..=5.
     let mut map = Map::EMPTY;
     report.same(input, edit::<Inclusive>(&mut map, (5, 5), Some(1)), 0);
-    let found = (Inclusive::OURS.get_key_value)(&mut map, 5);
+    let found = (Inclusive::OURS.get)(&mut map, 5);
     report.same(input, found, stored::range_of(Some(((5, 5), 1))));
     report.known(input, EXHAUSTED);
 }

@@ -1,15 +1,17 @@
 /*
- * Runs document 01's cases through the C header, and some refusals and damaged maps.
- * Every check prints a line; the status is 1 if one of them fails. A map is compared with all its bytes.
+ * Runs document 01's cases through the C header, and some refusals and damaged maps and sets.
+ * Every check prints a line; the status is 1 if one of them fails. A map or a set is compared with all its bytes.
  */
 #include "hourledger.h"
 
 #include <stdio.h>
 #include <string.h>
 
-/* The maps have no padding, and the layout that the libraries were built for. */
+/* The maps and sets have no padding, and the layout that the libraries were built for. */
 _Static_assert(sizeof(RangeMap) == 8 + HOURLEDGER_PLACES * 17, "the layout of RangeMap");
 _Static_assert(sizeof(RangeInclusiveMap) == sizeof(RangeMap), "the layout of RangeInclusiveMap");
+_Static_assert(sizeof(RangeSet) == sizeof(RangeMap), "the layout of RangeSet");
+_Static_assert(sizeof(RangeInclusiveSet) == sizeof(RangeMap), "the layout of RangeInclusiveSet");
 _Static_assert(sizeof(LedgerRange) == 32 && sizeof(LedgerStretch) == 24, "the layout of the answers");
 
 _Static_assert(sizeof(DayReport) == 88, "the layout of DayReport");
@@ -67,8 +69,8 @@ static bool is_common(LedgerIntersected r, uint8_t answer, int64_t start, int64_
     return r.answer == answer && r.start == start && r.end == end;
 }
 
-/* The two kinds are two types, so each helper is written once and made twice. */
-#define HELPERS(MAP, FUNCTION)                                                                    \
+/* The kinds are types of their own, so each helper is written once and made for each. */
+#define STORED(MAP, FUNCTION)                                                                     \
     /* The entries in the first places, and 0 in the others. */                                   \
     static MAP FUNCTION##_holding(const Entry *entries, size_t count) {                           \
         MAP m;                                                                                    \
@@ -89,8 +91,9 @@ static bool is_common(LedgerIntersected r, uint8_t answer, int64_t start, int64_
     static bool FUNCTION##_holds(const MAP *m, const Entry *entries, size_t count) {              \
         MAP expected = FUNCTION##_holding(entries, count);                                        \
         return FUNCTION##_same(m, &expected) && FUNCTION##_well_formed(m);                        \
-    }                                                                                             \
-                                                                                                  \
+    }
+
+#define MAP_REFUSED(MAP, FUNCTION)                                                                \
     /* A map that is not well formed: 4 from every function that checks, and no change. */        \
     static bool FUNCTION##_refused(MAP *m) {                                                      \
         const MAP before = *m;                                                                    \
@@ -117,9 +120,38 @@ static bool is_common(LedgerIntersected r, uint8_t answer, int64_t start, int64_
             && is_applied(FUNCTION##_extend(m, starts, 2, ends, 2, values, 2), 4, 0);             \
         bool kept = starts[0] == 7 && starts[1] == 7 && ends[0] == 8 && ends[1] == 8;             \
         return refused && kept && FUNCTION##_same(m, &before);                                    \
-    }                                                                                             \
-                                                                                                  \
-    /* One damage of each sort, of a map of three ranges at 10, 20 and 30. */                     \
+    }
+
+#define SET_REFUSED(MAP, FUNCTION)                                                                \
+    /* A set that is not well formed: 4 from every function that checks, and no change. */        \
+    static bool FUNCTION##_refused(MAP *m) {                                                      \
+        const MAP before = *m;                                                                    \
+        MAP good = FUNCTION##_new();                                                              \
+        int64_t starts[2] = {7, 7}, ends[2] = {8, 8};                                             \
+        bool refused = !FUNCTION##_well_formed(m)                                                 \
+            && is_told(FUNCTION##_is_empty(m), 4, false)                                          \
+            && is_count(FUNCTION##_len(m), 4, 0)                                                  \
+            && is_range(FUNCTION##_first(m), 4, 0, 0, 0)                                          \
+            && is_range(FUNCTION##_last(m), 4, 0, 0, 0)                                           \
+            && is_range(FUNCTION##_range_at(m, 0), 4, 0, 0, 0)                                    \
+            && is_range(FUNCTION##_get(m, 0), 4, 0, 0, 0)                                         \
+            && is_told(FUNCTION##_contains(m, 0), 4, false)                                       \
+            && FUNCTION##_insert(m, 0, 5) == 4 && FUNCTION##_insert(m, 5, 0) == 4                 \
+            && FUNCTION##_remove(m, 0, 5) == 4 && FUNCTION##_remove(m, 5, 0) == 4                 \
+            && is_stretch(FUNCTION##_overlapping(m, 0, 5), 4, 0, 0)                               \
+            && is_told(FUNCTION##_overlaps(m, 0, 5), 4, false)                                    \
+            && is_count(FUNCTION##_gaps(m, 0, 5, starts, 2, ends, 2), 4, 0)                       \
+            && is_told(FUNCTION##_eq(m, &good), 4, false)                                         \
+            && is_told(FUNCTION##_eq(&good, m), 4, false)                                         \
+            && is_order(FUNCTION##_cmp(m, &good), 4, 0)                                           \
+            && is_order(FUNCTION##_cmp(&good, m), 4, 0)                                           \
+            && is_applied(FUNCTION##_extend(m, starts, 2, ends, 2), 4, 0);                        \
+        bool kept = starts[0] == 7 && starts[1] == 7 && ends[0] == 8 && ends[1] == 8;             \
+        return refused && kept && FUNCTION##_same(m, &before);                                    \
+    }
+
+#define DAMAGED(MAP, FUNCTION)                                                                    \
+    /* One damage of each sort, of a map or a set of three ranges at 10, 20 and 30. */            \
     static void FUNCTION##_damaged(const MAP *good) {                                             \
         MAP m = *good;                                                                            \
         check(#MAP ", not damaged", FUNCTION##_well_formed(&m));                                  \
@@ -153,8 +185,13 @@ static bool is_common(LedgerIntersected r, uint8_t answer, int64_t start, int64_
         check(#MAP ", damaged: clear takes it", FUNCTION##_holds(&m, NOTHING));                   \
     }
 
-HELPERS(RangeMap, range_map)
-HELPERS(RangeInclusiveMap, range_inclusive_map)
+#define MAP_HELPERS(MAP, FUNCTION) STORED(MAP, FUNCTION) MAP_REFUSED(MAP, FUNCTION) DAMAGED(MAP, FUNCTION)
+#define SET_HELPERS(SET, FUNCTION) STORED(SET, FUNCTION) SET_REFUSED(SET, FUNCTION) DAMAGED(SET, FUNCTION)
+
+MAP_HELPERS(RangeMap, range_map)
+MAP_HELPERS(RangeInclusiveMap, range_inclusive_map)
+SET_HELPERS(RangeSet, range_set)
+SET_HELPERS(RangeInclusiveSet, range_inclusive_set)
 
 static void relations(void) {
     check("intersect 0..5 and 0..3: 0..3", is_common(range_intersect(0, 5, 0, 3), 0, 0, 3));
@@ -429,6 +466,126 @@ static void day_reports(void) {
     check("status 0 on another day", range_map_day_report(&m, 0, 2024, 11, 4).answer == 0);
     m.ends[511] = 1;
     check("a damaged map", range_map_day_report(&m, 7, 2024, 11, 3).answer == 4);
+static void half_open_set_edits(void) {
+    RangeSet m = range_set_new();
+    check("set, new: empty", range_set_holds(&m, NOTHING));
+    check("set, insert 0..5", range_set_insert(&m, 0, 5) == 0);
+    check("set, insert 5..8", range_set_insert(&m, 5, 8) == 0);
+    check("set, 0..5 and 5..8: 0..8", range_set_holds(&m, ENTRIES({0, 8, 0})));
+    check("set, remove 3..6", range_set_remove(&m, 3, 6) == 0);
+    check("set, 0..8 without 3..6: two ranges", range_set_holds(&m, ENTRIES({0, 3, 0}, {6, 8, 0})));
+    check("set, insert 4..4: 1", range_set_insert(&m, 4, 4) == 1);
+    check("set, insert 9..4: 1", range_set_insert(&m, 9, 4) == 1);
+    check("set, remove 4..4: 1", range_set_remove(&m, 4, 4) == 1);
+    check("set, after the refusals", range_set_holds(&m, ENTRIES({0, 3, 0}, {6, 8, 0})));
+
+    const int64_t starts[4] = {3, 20, 4, 7}, ends[4] = {6, 21, 4, 9};
+    check("set, bulk insert with a bad third range: 1, two applied",
+          is_applied(range_set_extend(&m, starts, 4, ends, 4), 1, 2));
+    check("set, the two stay", range_set_holds(&m, ENTRIES({0, 8, 0}, {20, 21, 0})));
+    check("set, the shorter list decides", is_applied(range_set_extend(&m, starts, 4, ends, 2), 0, 2));
+}
+
+static void half_open_set_questions(void) {
+    const RangeSet m = range_set_holding(ENTRIES({0, 2, 0}, {6, 8, 0}));
+    const RangeSet other = range_set_holding(ENTRIES({0, 3, 0}));
+    check("set, not empty", is_told(range_set_is_empty(&m), 0, false));
+    check("set, count 2", is_count(range_set_len(&m), 0, 2));
+    check("set, first 0..2", is_range(range_set_first(&m), 0, 0, 2, 0));
+    check("set, last 6..8", is_range(range_set_last(&m), 0, 6, 8, 0));
+    check("set, place 1: 6..8", is_range(range_set_range_at(&m, 1), 0, 6, 8, 0));
+    check("set, place 2: 5", is_range(range_set_range_at(&m, 2), 5, 0, 0, 0));
+    check("set, get 7: 6..8", is_range(range_set_get(&m, 7), 0, 6, 8, 0));
+    check("set, get 2: 5", is_range(range_set_get(&m, 2), 5, 0, 0, 0));
+    check("set, contains 1", is_told(range_set_contains(&m, 1), 0, true));
+    check("set, contains 8: no", is_told(range_set_contains(&m, 8), 0, false));
+    check("set, overlapping 1..7: places 0 and 1", is_stretch(range_set_overlapping(&m, 1, 7), 0, 0, 2));
+    check("set, overlaps 2..6: no", is_told(range_set_overlaps(&m, 2, 6), 0, false));
+    check("set, equal to itself", is_told(range_set_eq(&m, &m), 0, true));
+    check("set, not equal", is_told(range_set_eq(&m, &other), 0, false));
+    check("set, the lesser end comes first", is_order(range_set_cmp(&m, &other), 0, -1));
+
+    int64_t starts[2] = {91, 92}, ends[2] = {93, 94};
+    check("set, gaps of 0..8", is_count(range_set_gaps(&m, 0, 8, starts, 2, ends, 2), 0, 1));
+    check("set, gaps of 0..8: 2..6", starts[0] == 2 && ends[0] == 6 && starts[1] == 92 && ends[1] == 94);
+}
+
+/* 512 ranges at 0..1, 2..3, and so on. */
+static void half_open_set_full(void) {
+    RangeSet m = range_set_new();
+    for (int64_t i = 0; i < HOURLEDGER_PLACES; i++) {
+        m.starts[i] = 2 * i;
+        m.ends[i] = 2 * i + 1;
+    }
+    m.count = HOURLEDGER_PLACES;
+    const RangeSet full = m;
+    check("set, full: insert 2000..2001: 2", range_set_insert(&m, 2000, 2001) == 2);
+    check("set, full: unchanged", range_set_same(&m, &full));
+    check("set, full: insert 1..2", range_set_insert(&m, 1, 2) == 0);
+    check("set, full: 511 ranges", is_count(range_set_len(&m), 0, HOURLEDGER_PLACES - 1));
+    check("set, full: 0..3 first", is_range(range_set_first(&m), 0, 0, 3, 0));
+}
+
+static void half_open_set_damaged(void) {
+    const RangeSet good = range_set_holding(ENTRIES({10, 15, 0}, {20, 25, 0}, {30, 35, 0}));
+    range_set_damaged(&good);
+    RangeSet m = good;
+    m.ends[0] = m.starts[1];
+    check("RangeSet, damaged: touching", range_set_refused(&m));
+    m.values[0] = 1;
+    check("RangeSet, damaged: touching with other values", range_set_refused(&m));
+    m = good;
+    m.values[1] = 1;
+    check("RangeSet, damaged: a value in a used place", range_set_refused(&m));
+}
+
+static void inclusive_set_cases(void) {
+    RangeInclusiveSet m = range_inclusive_set_new();
+    check("inclusive set, insert 1..=3", range_inclusive_set_insert(&m, 1, 3) == 0);
+    check("inclusive set, insert 4..=6", range_inclusive_set_insert(&m, 4, 6) == 0);
+    check("inclusive set, 1..=3 then 4..=6: 1..=6", range_inclusive_set_holds(&m, ENTRIES({1, 6, 0})));
+    check("inclusive set, remove 2..=5", range_inclusive_set_remove(&m, 2, 5) == 0);
+    check("inclusive set, insert 5..=5", range_inclusive_set_insert(&m, 5, 5) == 0);
+    check("inclusive set, 1..=1, 5..=6", range_inclusive_set_holds(&m, ENTRIES({1, 1, 0}, {5, 6, 0})));
+    check("inclusive set, insert 9..=4: 1", range_inclusive_set_insert(&m, 9, 4) == 1);
+    check("inclusive set, get 6", is_range(range_inclusive_set_get(&m, 6), 0, 5, 6, 0));
+    check("inclusive set, contains 4: no", is_told(range_inclusive_set_contains(&m, 4), 0, false));
+    check("inclusive set, first", is_range(range_inclusive_set_first(&m), 0, 1, 1, 0));
+    check("inclusive set, last", is_range(range_inclusive_set_last(&m), 0, 5, 6, 0));
+    check("inclusive set, place 1", is_range(range_inclusive_set_range_at(&m, 1), 0, 5, 6, 0));
+    check("inclusive set, count 2", is_count(range_inclusive_set_len(&m), 0, 2));
+    check("inclusive set, not empty", is_told(range_inclusive_set_is_empty(&m), 0, false));
+    check("inclusive set, overlapping 1..=4: place 0",
+          is_stretch(range_inclusive_set_overlapping(&m, 1, 4), 0, 0, 1));
+    check("inclusive set, overlaps 2..=4: no", is_told(range_inclusive_set_overlaps(&m, 2, 4), 0, false));
+    check("inclusive set, equal to itself", is_told(range_inclusive_set_eq(&m, &m), 0, true));
+    check("inclusive set, the order of a set and itself", is_order(range_inclusive_set_cmp(&m, &m), 0, 0));
+}
+
+static void inclusive_set_ends(void) {
+    const int64_t keys[3] = {INT64_MAX - 1, INT64_MAX, INT64_MIN};
+    RangeInclusiveSet m = range_inclusive_set_new();
+    check("inclusive set, bulk insert", is_applied(range_inclusive_set_extend(&m, keys, 3, keys, 3), 0, 3));
+    check("inclusive set, the greatest key joins its neighbour",
+          range_inclusive_set_holds(&m, ENTRIES({INT64_MIN, INT64_MIN, 0}, {INT64_MAX - 1, INT64_MAX, 0})));
+    int64_t start = 5, end = 6;
+    check("inclusive set, one gap",
+          is_count(range_inclusive_set_gaps(&m, INT64_MIN, INT64_MAX, &start, 1, &end, 1), 0, 1));
+    check("inclusive set, the gap between the ends", start == INT64_MIN + 1 && end == INT64_MAX - 2);
+    check("inclusive set, insert the full range", range_inclusive_set_insert(&m, INT64_MIN, INT64_MAX) == 0);
+    check("inclusive set, the full range is held",
+          range_inclusive_set_holds(&m, ENTRIES({INT64_MIN, INT64_MAX, 0})));
+}
+
+static void inclusive_set_damaged(void) {
+    const RangeInclusiveSet good = range_inclusive_set_holding(ENTRIES({10, 15, 0}, {20, 25, 0}, {30, 35, 0}));
+    range_inclusive_set_damaged(&good);
+    RangeInclusiveSet m = good;
+    m.ends[0] = m.starts[1] - 1;
+    check("RangeInclusiveSet, damaged: touching", range_inclusive_set_refused(&m));
+    m = good;
+    m.values[1] = 1;
+    check("RangeInclusiveSet, damaged: a value in a used place", range_inclusive_set_refused(&m));
 }
 
 int main(void) {
@@ -449,6 +606,13 @@ int main(void) {
     inclusive_full();
     inclusive_damaged();
     day_reports();
+    half_open_set_edits();
+    half_open_set_questions();
+    half_open_set_full();
+    half_open_set_damaged();
+    inclusive_set_cases();
+    inclusive_set_ends();
+    inclusive_set_damaged();
     if (failures > 0) {
         printf("%d of %d checks failed\n", failures, checks);
         return 1;

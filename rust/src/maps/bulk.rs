@@ -80,8 +80,10 @@ fn compare_cut<K: Kind>(report: &mut Report, before: &[Entry], list: &[Entry]) {
         lists[0].starts.truncate(cut);
         lists[1].ends.truncate(cut);
         lists[2].values.truncate(cut);
-        for lists in lists {
-            compare_ours::<K>(report, before, &list[..cut], &lists, told, &left);
+        // A set is lent the first two lists only.
+        let lent = if K::VALUES > 1 { 3 } else { 2 };
+        for lists in &lists[..lent] {
+            compare_ours::<K>(report, before, &list[..cut], lists, told, &left);
         }
     }
 }
@@ -92,9 +94,9 @@ fn compare_bad<K: Kind>(report: &mut Report, cells: &Cells) {
     let good: Vec<Entry> = [(0, 3), (2, 5), (1, 2), (4, 6), (0, 1)]
         .into_iter()
         .enumerate()
-        .map(|(i, (from, to))| (range(from, to).expect("inside the cells"), i as u8 % 3))
+        .map(|(i, (from, to))| (range(from, to).expect("inside the cells"), K::value(i % 3)))
         .collect();
-    let before: Vec<Entry> = vec![(range(1, 4).expect("inside the cells"), 1)];
+    let before: Vec<Entry> = vec![(range(1, 4).expect("inside the cells"), K::value(1))];
     let reversed = [(2, 2), (3, 1), (6, 0), (0, 0), (6, 6)];
     let bad = reversed
         .into_iter()
@@ -102,7 +104,7 @@ fn compare_bad<K: Kind>(report: &mut Report, cells: &Cells) {
     for bad in bad {
         for position in 0..=good.len() {
             let mut list = good.clone();
-            list.insert(position, (bad, 2));
+            list.insert(position, (bad, K::value(2)));
             let told = compare_list::<K>(report, &before, &list);
             report.same(
                 format_args!("a bad entry at {position}"),
@@ -122,7 +124,7 @@ fn compare_bad<K: Kind>(report: &mut Report, cells: &Cells) {
 fn apart<K: Kind>(places: std::ops::Range<usize>) -> Vec<Entry> {
     let key = |i| 2 * i as i128;
     let range = |i| K::ends(key(i), key(i) + 1).expect("a small key");
-    places.map(|i| (range(i), 7)).collect()
+    places.map(|i| (range(i), K::value(7))).collect()
 }
 
 /// A refusal at each position: the map is filled up to the limit by the entries before it.
@@ -142,7 +144,7 @@ fn compare_full<K: Kind>(report: &mut Report) {
         // An entry that joins two ranges makes room for one more.
         let mut joined = list.clone();
         let between = K::ends(1, 2).expect("a small key");
-        joined.insert(position, (between, 7));
+        joined.insert(position, (between, K::value(7)));
         let told = compare_list::<K>(report, &before, &joined);
         report.same(
             format_args!("a full map with room at {position}"),
@@ -171,7 +173,7 @@ fn compare_random<K: Kind>(report: &mut Report, lists: usize) {
             } else {
                 (from, to)
             };
-            Some((cells.range::<K>(from, to)?, random.below(3) as u8))
+            Some((cells.range::<K>(from, to)?, K::value(random.below(3))))
         };
         // Half of the maps are nearly full.
         let before: Vec<Entry> = (0..900).filter_map(|_| entry(3, false)).collect();
@@ -187,7 +189,7 @@ fn compare_random<K: Kind>(report: &mut Report, lists: usize) {
 }
 
 pub fn compare<K: Kind>(report: &mut Report, lists: usize) {
-    report.part(format!("{} map, bulk insert with a bad entry", K::NAME));
+    report.part(format!("{}, bulk insert with a bad entry", K::NAME));
     for cells in [
         Cells::small(6),
         Cells::lowest(6),
@@ -196,8 +198,8 @@ pub fn compare<K: Kind>(report: &mut Report, lists: usize) {
     ] {
         compare_bad::<K>(report, &cells);
     }
-    report.part(format!("{} map, bulk insert up to the limit", K::NAME));
+    report.part(format!("{}, bulk insert up to the limit", K::NAME));
     compare_full::<K>(report);
-    report.part(format!("{} map, random bulk inserts", K::NAME));
+    report.part(format!("{}, random bulk inserts", K::NAME));
     compare_random::<K>(report, lists);
 }

@@ -1,4 +1,4 @@
-//! Maps that are not well formed: every function that checks answers 4, and leaves all memory as it was.
+//! Maps and sets that are not well formed: every function that checks answers 4, and leaves all memory as it was.
 use super::kind::{Entry, Kind};
 use super::stored::{refused, written, Lists};
 use crate::ffi::{Applied, Count, Map, Order, Range, Stretch, Told, PLACES};
@@ -16,7 +16,7 @@ fn in_order<K: Kind>(one: &Entry, next: &Entry) -> bool {
     end < start || end == start && one.1 != next.1
 }
 
-/// Document 01's definition, word by word.
+/// Document 01's definition, word by word. The values of a set are all 0.
 fn formed<K: Kind>(map: &Map) -> bool {
     if map.count > PLACES {
         return false;
@@ -24,6 +24,7 @@ fn formed<K: Kind>(map: &Map) -> bool {
     let entries: Vec<Entry> = (0..PLACES).map(|place| map.at(place)).collect();
     let (used, unused) = entries.split_at(map.count);
     used.iter().all(|entry| K::valid(entry.0))
+        && used.iter().all(|entry| usize::from(entry.1) < K::VALUES)
         && unused.iter().all(|&entry| entry == ((0, 0), 0))
         && used.windows(2).all(|two| in_order::<K>(&two[0], &two[1]))
 }
@@ -91,14 +92,14 @@ fn refuses_questions<K: Kind>(asked: &mut Asked) {
     let ours = K::OURS;
     asked.refuses("is_empty", |m| (ours.is_empty)(m), NO);
     asked.refuses("len", |m| (ours.len)(m), NO_COUNT);
-    asked.refuses("first", |m| (ours.first_range_value)(m), NONE);
-    asked.refuses("last", |m| (ours.last_range_value)(m), NONE);
+    asked.refuses("first", |m| (ours.first)(m), NONE);
+    asked.refuses("last", |m| (ours.last)(m), NONE);
     for place in [0, 1, PLACES, usize::MAX] {
         asked.refuses("range_at", |m| (ours.range_at)(m, place), NONE);
     }
     for key in [0, 1, i64::MIN, i64::MAX] {
-        asked.refuses("get", |m| (ours.get_key_value)(m, key), NONE);
-        asked.refuses("contains", |m| (ours.contains_key)(m, key), NO);
+        asked.refuses("get", |m| (ours.get)(m, key), NONE);
+        asked.refuses("contains", |m| (ours.contains)(m, key), NO);
     }
     for r in ASKED {
         asked.refuses("overlapping", |m| (ours.overlapping)(m, r.0, r.1), NOWHERE);
@@ -113,9 +114,10 @@ fn refuses_questions<K: Kind>(asked: &mut Asked) {
 fn refuses_edits<K: Kind>(asked: &mut Asked) {
     let ours = K::OURS;
     for r in ASKED {
-        asked.refuses("insert", |m| (ours.insert)(m, r.0, r.1, 1), 4);
+        asked.refuses("insert", |m| (ours.insert)(m, r.0, r.1, K::value(1)), 4);
         asked.refuses("remove", |m| (ours.remove)(m, r.0, r.1), 4);
-        for list in [&[][..], &[(r, 1)], &[((0, 5), 1), (r, 2)]] {
+        let (one, two) = (K::value(1), K::value(2));
+        for list in [&[][..], &[(r, one)], &[((0, 5), one), (r, two)]] {
             let lists = Lists::of(list);
             let ask = |m: &mut Map| lists.insert_into::<K>(m);
             asked.refuses("extend", ask, NOT_APPLIED);
@@ -125,7 +127,7 @@ fn refuses_edits<K: Kind>(asked: &mut Asked) {
 
 /// A damaged map beside a good one, on either side, and beside itself.
 fn refuses_pairs<K: Kind>(asked: &mut Asked) {
-    let good = Map::of(&[(K::ends(0, 5).expect("small keys"), 1)]);
+    let good = Map::of(&[(K::ends(0, 5).expect("small keys"), K::value(1))]);
     for other in [good, asked.damaged.clone()] {
         let mut lent = other.clone();
         let ours = K::OURS;
@@ -161,12 +163,13 @@ fn compare_damaged<K: Kind>(report: &mut Report, name: Arguments, damaged: &Map)
     clears::<K>(&mut asked);
 }
 
-/// Three values in turn, every second range touching the next.
+/// Three values in turn, every second range touching the next. In a set no two touch.
 fn good<K: Kind>(count: usize) -> Map {
     let entry = |i: usize| {
         let from = 10 * (1 + i as i128);
-        let to = from + if i % 2 == 0 { 10 } else { 5 };
-        (K::ends(from, to).expect("small keys"), i as u8 % 3)
+        let touching = K::VALUES > 1 && i % 2 == 0;
+        let to = from + if touching { 10 } else { 5 };
+        (K::ends(from, to).expect("small keys"), K::value(i % 3))
     };
     Map::of(&(0..count).map(entry).collect::<Vec<Entry>>())
 }
@@ -195,7 +198,7 @@ fn count_damages(map: &Map) -> Vec<Damage> {
 
 /// Damages of one stored range.
 fn range_damages<K: Kind>(map: &Map, place: usize) -> Vec<Damage> {
-    let name = |what| format!("place {place} {what}");
+    let name = |what: &str| format!("place {place} {what}");
     let mut damages = vec![
         damage(map, &name("reversed"), |m| {
             m.ends[place] = m.starts[place] - 1;
@@ -208,6 +211,12 @@ fn range_damages<K: Kind>(map: &Map, place: usize) -> Vec<Damage> {
         damages.push(damage(map, &name("empty"), |m| {
             m.ends[place] = m.starts[place];
         }));
+    }
+    if K::VALUES == 1 {
+        for value in [1, 128, 255] {
+            let what = name(&format!("holds {value}"));
+            damages.push(damage(map, &what, |m| m.values[place] = value));
+        }
     }
     damages
 }
@@ -332,24 +341,34 @@ fn compare_check<K: Kind>(report: &mut Report, places: u32) {
     }
 }
 
-pub fn compare<K: Kind>(report: &mut Report, size: &super::Size) {
-    report.part(format!("{} map, an empty one", K::NAME));
-    report.same(format_args!("new"), &(K::OURS.new)(), &Map::EMPTY);
+/// Ranges of the maps that are damaged.
+const COUNTS: [usize; 7] = [0, 1, 2, 3, 200, PLACES - 1, PLACES];
 
-    report.part(format!("{} map, the check alone", K::NAME));
-    compare_check::<K>(report, size.checked_places);
-
-    report.part(format!("{} map, damaged ones", K::NAME));
-    for count in [0, 1, 2, 3, 200, PLACES - 1, PLACES] {
-        let map = good::<K>(count);
-        report.same(format_args!("{count} ranges"), formed::<K>(&map), true);
-        for (what, damaged) in damages::<K>(&map) {
-            compare_damaged::<K>(report, format_args!("{what}"), &damaged);
+/// Every damage of good maps, and every small map that is not well formed.
+pub fn each_damaged<K: Kind>(mut each: impl FnMut(Arguments, &Map)) {
+    for count in COUNTS {
+        for (what, damaged) in damages::<K>(&good::<K>(count)) {
+            each(format_args!("{what}"), &damaged);
         }
     }
     for keys in KEYS {
         for map in small_maps(keys, 1).filter(|map| !formed::<K>(map)) {
-            compare_damaged::<K>(report, format_args!("{map:?}"), &map);
+            each(format_args!("{map:?}"), &map);
         }
     }
+}
+
+pub fn compare<K: Kind>(report: &mut Report, size: &super::Size) {
+    report.part(format!("{}, an empty one", K::NAME));
+    report.same(format_args!("new"), &(K::OURS.new)(), &Map::EMPTY);
+
+    report.part(format!("{}, the check alone", K::NAME));
+    compare_check::<K>(report, size.checked_places);
+
+    report.part(format!("{}, damaged ones", K::NAME));
+    for count in COUNTS {
+        let formed = formed::<K>(&good::<K>(count));
+        report.same(format_args!("{count} ranges"), formed, true);
+    }
+    each_damaged::<K>(|name, damaged| compare_damaged::<K>(report, name, damaged));
 }

@@ -83,11 +83,14 @@ impl Dense {
         Dense(vec![None; cells])
     }
 
-    /// The states of so many cells with the values 0, 1 and 2 are numbered: a digit to the base 4 for each cell.
-    pub fn states(cells: usize) -> impl Iterator<Item = Self> {
+    /// The states of so many cells with the values 0, 1 and 2, as far as the kind has them, are numbered:
+    /// a digit for each cell.
+    pub fn states<K: Kind>(cells: usize) -> impl Iterator<Item = Self> {
+        let base = 1 + K::VALUES.min(3);
         let held = |digit| (digit as u8).checked_sub(1);
-        let state = move |number: usize| (0..cells).map(|i| held(number >> (2 * i) & 3)).collect();
-        (0..1 << (2 * cells)).map(move |number| Dense(state(number)))
+        let digit = move |number: usize, cell| number / base.pow(cell) % base;
+        let state = move |number| (0..cells as u32).map(|i| held(digit(number, i))).collect();
+        (0..base.pow(cells as u32)).map(move |number| Dense(state(number)))
     }
 
     pub fn give(&mut self, part: Range<usize>, new: Option<u8>) {

@@ -3,14 +3,37 @@ use super::dense::{as_ends, entries, Cells, Dense};
 use super::kind::{shown, Ends, Entry, Kind};
 use super::random::Random;
 use super::stored::{range_of, writing, written};
-use super::{edit, edit_unchecked, Size, TOO_MANY};
+use super::{doors, Size, TOO_MANY};
 use crate::ffi::{Map, Stretch, PLACES};
 use crate::report::Report;
 use crate::shown::Key;
 use std::ops::Range;
 
-/// So many cells that random edits want more ranges than there are places, though equal neighbours are joined.
-const CELLS: usize = 2400;
+/// Random edits of a kind: they want more ranges than there are places, though equal neighbours are joined.
+struct Edits {
+    cells: usize,
+    /// Cells of most edits.
+    most: usize,
+    /// One in so many edits removes.
+    removes: usize,
+}
+
+/// In a set all neighbours are equal, so its edits are shorter, and more of them remove.
+fn edits_of<K: Kind>() -> Edits {
+    if K::VALUES > 1 {
+        Edits {
+            cells: 2400,
+            most: 3,
+            removes: 5,
+        }
+    } else {
+        Edits {
+            cells: 4800,
+            most: 1,
+            removes: 3,
+        }
+    }
+}
 
 struct History<'a, K: Kind> {
     cells: &'a Cells,
@@ -46,7 +69,7 @@ impl<'a, K: Kind> History<'a, K> {
         let most = match self.random.below(500) {
             0 => cells,
             1..20 => 40,
-            _ => 3,
+            _ => edits_of::<K>().most,
         };
         let from = self.random.below(cells);
         let to = from + 1 + self.random.below(most);
@@ -54,8 +77,8 @@ impl<'a, K: Kind> History<'a, K> {
     }
 
     fn random_new(&mut self) -> Option<u8> {
-        let remove = self.random.once_in(5);
-        let value = self.random.below(self.values) as u8;
+        let remove = self.random.once_in(edits_of::<K>().removes);
+        let value = K::value(self.random.below(self.values));
         (!remove).then_some(value)
     }
 
@@ -77,12 +100,8 @@ impl<'a, K: Kind> History<'a, K> {
             &left,
         );
 
-        let mut other_door = self.map.clone();
         let full = count == PLACES;
         let expected = if K::rust_len(&rust) > PLACES { 2 } else { 0 };
-        report.same(input, edit::<K>(&mut self.map, r, new), expected);
-        let answer = edit_unchecked::<K>(&mut other_door, r, new);
-        report.same(format_args!("inner door, {input}"), answer, expected);
         if expected == 2 {
             report.known(input, TOO_MANY);
             self.refused += 1;
@@ -90,9 +109,14 @@ impl<'a, K: Kind> History<'a, K> {
             (self.rust, self.dense, self.entries) = (rust, dense, left);
             self.taken_when_full += u64::from(full);
         }
+        let before = self.map.clone();
         let stored = Map::of(&self.entries);
-        report.same(input, &self.map, &stored);
-        report.same(format_args!("inner door, {input}"), &other_door, &stored);
+        for (door, edit) in doors::<K>() {
+            let input = format_args!("{door}{input}");
+            self.map = before.clone();
+            report.same(input, edit(&mut self.map, r, new), expected);
+            report.same(input, &self.map, &stored);
+        }
         let formed = (K::OURS.well_formed)(&mut self.map);
         report.same(format_args!("well formed, {input}"), formed, 1);
     }
@@ -102,11 +126,13 @@ impl<'a, K: Kind> History<'a, K> {
         let (key, _) = as_ends::<K>(self.cells, &(cell..cell + 1));
         let expected = range_of(K::rust_get(&self.rust, key));
         let input = format_args!("get {}", Key(key));
-        let ours = (K::OURS.get_key_value)(&mut self.map, key);
+        let ours = (K::OURS.get)(&mut self.map, key);
         report.same(input, ours, expected);
-        // SAFETY: the map is well formed.
-        let ours = unsafe { (K::OURS.get_key_value_unchecked)(&mut self.map, key) };
-        report.same(format_args!("inner door, {input}"), ours, expected);
+        if let Some(inner) = K::OURS.inner {
+            // SAFETY: the map is well formed.
+            let ours = unsafe { (inner.get)(&mut self.map, key) };
+            report.same(format_args!("inner door, {input}"), ours, expected);
+        }
     }
 
     fn random_range(&mut self) -> Ends {
@@ -145,8 +171,10 @@ impl<'a, K: Kind> History<'a, K> {
             let expected = writing(&gaps, lengths);
             let ours = written(K::OURS.gaps, &mut self.map, r, lengths);
             report.same(input, &ours, &expected);
-            let ours = written(K::OURS.gaps_unchecked, &mut self.map, r, lengths);
-            report.same(format_args!("inner door, {input}"), &ours, &expected);
+            if let Some(inner) = K::OURS.inner {
+                let ours = written(inner.gaps, &mut self.map, r, lengths);
+                report.same(format_args!("inner door, {input}"), &ours, &expected);
+            }
         }
     }
 
@@ -176,15 +204,16 @@ impl<'a, K: Kind> History<'a, K> {
 const VALUES: [usize; 2] = [3, 256];
 
 pub fn compare<K: Kind>(report: &mut Report, size: &Size) {
+    let cells = edits_of::<K>().cells;
     let placed = [
-        ("at small keys", Cells::small(CELLS)),
-        ("at the least key", Cells::lowest(CELLS)),
-        ("at the greatest key", Cells::highest::<K>(CELLS)),
-        ("at both ends", Cells::both::<K>(CELLS)),
+        ("at small keys", Cells::small(cells)),
+        ("at the least key", Cells::lowest(cells)),
+        ("at the greatest key", Cells::highest::<K>(cells)),
+        ("at both ends", Cells::both::<K>(cells)),
     ];
     for (i, (name, cells)) in placed.into_iter().enumerate() {
         let values = VALUES[i % 2];
-        report.part(format!("{} map, a history {name}", K::NAME));
+        report.part(format!("{}, a history {name}", K::NAME));
         History::<K>::new(&cells, values, i as u64 + 1).run(report, size.edits);
     }
 }

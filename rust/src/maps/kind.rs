@@ -1,4 +1,4 @@
-//! The two kinds of map: our functions of each, and rangemap's type.
+//! What a kind of map or set is, and the two kinds of map: our functions of each, and rangemap's type.
 use crate::ffi::{self, Functions};
 use crate::shown::Key;
 use rangemap::{RangeInclusiveMap, RangeMap};
@@ -15,6 +15,8 @@ pub type Entry = (Ends, u8);
 pub trait Kind: 'static {
     const NAME: &'static str;
     const DOTS: &'static str;
+    /// How many values a range can have: all, or only 0 in a set.
+    const VALUES: usize;
     /// No range has a key from here on. Greater than any i64 where the greatest key can be in a range.
     const BEYOND: i128;
     const OURS: &'static Functions;
@@ -23,7 +25,12 @@ pub trait Kind: 'static {
     fn ends(from: i128, to: i128) -> Option<Ends>;
     fn valid(r: Ends) -> bool;
 
-    /// rangemap's map.
+    /// A value for the number: another for each where there are many.
+    fn value(number: usize) -> u8 {
+        (number % Self::VALUES) as u8
+    }
+
+    /// rangemap's type.
     type Rust: Clone + Default + Ord;
     fn rust_entries(m: &Self::Rust) -> Vec<Entry>;
     fn rust_len(m: &Self::Rust) -> usize;
@@ -131,8 +138,9 @@ macro_rules! rust_map {
 }
 
 impl Kind for HalfOpen {
-    const NAME: &'static str = "half-open";
+    const NAME: &'static str = "half-open map";
     const DOTS: &'static str = "..";
+    const VALUES: usize = 256;
     const BEYOND: i128 = i64::MAX as i128;
     const OURS: &'static Functions = &ffi::RANGE_MAP;
 
@@ -152,8 +160,9 @@ impl Kind for HalfOpen {
 }
 
 impl Kind for Inclusive {
-    const NAME: &'static str = "inclusive";
+    const NAME: &'static str = "inclusive map";
     const DOTS: &'static str = "..=";
+    const VALUES: usize = 256;
     const BEYOND: i128 = i64::MAX as i128 + 1;
     const OURS: &'static Functions = &ffi::RANGE_INCLUSIVE_MAP;
 
@@ -186,7 +195,7 @@ pub fn shown<K: Kind>(r: Ends) -> Shown<K> {
     Shown(r, PhantomData)
 }
 
-/// A map as document 01 writes it: range>value, in order.
+/// A map or a set as document 01 writes it: range>value, in order. A set has only 0 for values.
 pub struct Of<'a, K>(&'a [Entry], PhantomData<K>);
 
 impl<K: Kind> Display for Of<'_, K> {

@@ -75,10 +75,12 @@ fn compare_pair<K: Kind>(
 /// Order is by place, so full maps that differ in one place only are compared too.
 fn full_maps<K: Kind>() -> Vec<Vec<Entry>> {
     let range = |i: usize| K::ends(10 * i as i128, 10 * i as i128 + 5).expect("small keys");
-    let full: Vec<Entry> = (0..crate::ffi::PLACES).map(|i| (range(i), 7)).collect();
+    let value = K::value(7);
+    let full: Vec<Entry> = (0..crate::ffi::PLACES).map(|i| (range(i), value)).collect();
     let mut maps = vec![full.clone(), full[..511].to_vec(), full[1..].to_vec()];
     for place in [0, 1, 255, 510, 511] {
-        for change in [((1, 0), 0), ((0, 1), 0), ((0, 0), 1)] {
+        // A set has no other value.
+        for change in [((1, 0), 0), ((0, 1), 0), ((0, 0), K::value(1))] {
             let mut changed = full.clone();
             let ((start, end), value) = &mut changed[place];
             *start += change.0 .0;
@@ -105,10 +107,10 @@ pub fn compare<K: Kind>(report: &mut Report, size: &Size) {
     let cells = size.paired_cells;
     for placed in Placed::all::<K>(cells) {
         let name = placed.name;
-        report.part(format!("{} map, pairs over {cells} cells {name}", K::NAME));
-        let states = Dense::states(cells).map(|dense| entries::<K>(&placed.cells, &dense));
+        report.part(format!("{}, pairs over {cells} cells {name}", K::NAME));
+        let states = Dense::states::<K>(cells).map(|dense| entries::<K>(&placed.cells, &dense));
         compare_all::<K>(report, states.collect());
     }
-    report.part(format!("{} map, pairs of full maps", K::NAME));
+    report.part(format!("{}, pairs of full ones", K::NAME));
     compare_all::<K>(report, full_maps::<K>());
 }

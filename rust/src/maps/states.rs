@@ -2,7 +2,7 @@
 use super::dense::{as_ends, entries, Cells, Dense};
 use super::kind::{of, shown, Ends, Entry, Kind};
 use super::stored::{range_of, refused, told, writing, written};
-use super::{agree, edit, edit_unchecked, panics, Placed, Size};
+use super::{agree, doors, panics, Placed, Size};
 use super::{EDIT_REFUSED, GAPS_REFUSED, OVERLAPPING_REFUSED, OVERLAPPING_REFUSED_FOUND};
 use crate::ffi::{Count, Map, Stretch, Told, PLACES};
 use crate::report::Report;
@@ -93,14 +93,14 @@ fn compare_whole<K: Kind>(report: &mut Report, state: &mut State<K>) {
     agree(
         report,
         format_args!("first of {of}"),
-        (ours.first_range_value)(map),
+        (ours.first)(map),
         range_of(K::rust_first(rust)),
         range_of(entries.first().copied()),
     );
     agree(
         report,
         format_args!("last of {of}"),
-        (ours.last_range_value)(map),
+        (ours.last)(map),
         range_of(K::rust_last(rust)),
         range_of(entries.last().copied()),
     );
@@ -129,20 +129,22 @@ fn compare_key<K: Kind>(report: &mut Report, state: &mut State<K>, key: i64) {
     agree(
         report,
         format_args!("get {shown} of {of}"),
-        (K::OURS.get_key_value)(map, key),
+        (K::OURS.get)(map, key),
         found,
         range_of(held),
     );
-    report.same(
-        format_args!("get, inner door, {shown} of {of}"),
-        // SAFETY: the map is well formed.
-        unsafe { (K::OURS.get_key_value_unchecked)(map, key) },
-        range_of(held),
-    );
+    if let Some(inner) = K::OURS.inner {
+        report.same(
+            format_args!("get, inner door, {shown} of {of}"),
+            // SAFETY: the map is well formed.
+            unsafe { (inner.get)(map, key) },
+            range_of(held),
+        );
+    }
     agree(
         report,
         format_args!("contains {shown} of {of}"),
-        (K::OURS.contains_key)(map, key),
+        (K::OURS.contains)(map, key),
         told(K::rust_contains(rust, key)),
         told(held.is_some()),
     );
@@ -232,8 +234,10 @@ fn compare_gaps<K: Kind>(report: &mut Report, state: &mut State<K>, r: Ends, par
         let expected = writing(&gaps, lengths);
         let ours = written(K::OURS.gaps, &mut state.map, r, lengths);
         report.same(input, &ours, &expected);
-        let ours = written(K::OURS.gaps_unchecked, &mut state.map, r, lengths);
-        report.same(format_args!("inner door, {input}"), &ours, &expected);
+        if let Some(inner) = K::OURS.inner {
+            let ours = written(inner.gaps, &mut state.map, r, lengths);
+            report.same(format_args!("inner door, {input}"), &ours, &expected);
+        }
     }
 }
 
@@ -243,12 +247,14 @@ fn compare_gaps_refused<K: Kind>(report: &mut Report, state: &mut State<K>, r: E
     for lengths in [(0, 0), (1, 0), (2, 2)] {
         let ours = written(K::OURS.gaps, &mut state.map, r, lengths);
         report.same(input, ours, refused(1, lengths));
-        let ours = written(K::OURS.gaps_unchecked, &mut state.map, r, lengths);
-        report.same(
-            format_args!("inner door, {input}"),
-            ours,
-            refused(1, lengths),
-        );
+        if let Some(inner) = K::OURS.inner {
+            let ours = written(inner.gaps, &mut state.map, r, lengths);
+            report.same(
+                format_args!("inner door, {input}"),
+                ours,
+                refused(1, lengths),
+            );
+        }
     }
     let rust = K::rust_gaps(&state.rust, r);
     report.same(format_args!("rangemap's {input}"), rust, Vec::new());
@@ -289,10 +295,7 @@ fn compare_ours<K: Kind>(
         shown::<K>(r),
         of::<K>(&state.entries)
     );
-    for (door, edit) in [
-        ("", edit::<K> as super::Edit),
-        ("inner door, ", edit_unchecked::<K>),
-    ] {
+    for (door, edit) in doors::<K>() {
         let mut map = state.map.clone();
         report.same(
             format_args!("{door}{input}"),
@@ -348,7 +351,8 @@ fn compare_clear<K: Kind>(report: &mut Report, state: &State<K>) {
 fn compare_edits<K: Kind>(report: &mut Report, state: &State<K>, placed: &Placed) {
     compare_clear(report, state);
     for (r, part) in &placed.ranges {
-        for new in [None, Some(0), Some(1), Some(2)] {
+        let values = 0..K::VALUES.min(3);
+        for new in std::iter::once(None).chain(values.map(|value| Some(K::value(value)))) {
             if part.start < part.end {
                 compare_edit(report, state, *r, part, new);
             } else {
@@ -360,21 +364,14 @@ fn compare_edits<K: Kind>(report: &mut Report, state: &State<K>, placed: &Placed
 
 pub fn compare<K: Kind>(report: &mut Report, size: &Size) {
     for placed in Placed::all::<K>(size.cells) {
-        let name = |what| {
-            format!(
-                "{} map, {} cells {}, {what}",
-                K::NAME,
-                size.cells,
-                placed.name
-            )
-        };
+        let name = |what| format!("{}, {} cells {}, {what}", K::NAME, size.cells, placed.name);
         report.part(name("questions"));
-        for dense in Dense::states(size.cells) {
+        for dense in Dense::states::<K>(size.cells) {
             let mut state = State::<K>::new(&placed.cells, dense);
             compare_questions(report, &mut state, &placed);
         }
         report.part(name("edits"));
-        for dense in Dense::states(size.cells) {
+        for dense in Dense::states::<K>(size.cells) {
             let state = State::<K>::new(&placed.cells, dense);
             compare_edits(report, &state, &placed);
         }

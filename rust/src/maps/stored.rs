@@ -99,8 +99,18 @@ impl Lent {
     }
 }
 
-/// What gaps answers, and what it leaves in the two lists.
+/// What a function that writes ranges answers, and what it leaves in the two lists.
 pub type Written = (Count, Lent, Lent);
+
+/// Lends two lists of these lengths.
+pub fn lend(
+    lengths: (usize, usize),
+    write: impl FnOnce(&mut [i64], &mut [i64]) -> Count,
+) -> Written {
+    let (mut starts, mut ends) = (Lent::new(lengths.0), Lent::new(lengths.1));
+    let count = write(starts.list(), ends.list());
+    (count, starts, ends)
+}
 
 pub fn written(
     gaps: Gaps,
@@ -108,27 +118,26 @@ pub fn written(
     (start, end): (i64, i64),
     lengths: (usize, usize),
 ) -> Written {
-    let (mut starts, mut ends) = (Lent::new(lengths.0), Lent::new(lengths.1));
-    let (s, e) = (starts.list(), ends.list());
-    // SAFETY: the lists are there, and the map is well formed or the function checks it.
-    let count = unsafe {
-        gaps(
-            m,
-            start,
-            end,
-            s.as_mut_ptr(),
-            s.len(),
-            e.as_mut_ptr(),
-            e.len(),
-        )
-    };
-    (count, starts, ends)
+    lend(lengths, |s, e| {
+        // SAFETY: the lists are there, and the map is well formed or the function checks it.
+        unsafe {
+            gaps(
+                m,
+                start,
+                end,
+                s.as_mut_ptr(),
+                s.len(),
+                e.as_mut_ptr(),
+                e.len(),
+            )
+        }
+    })
 }
 
-/// The lists with the gaps in their first places, or a refusal and the lists as they were.
-pub fn writing(gaps: &[(i64, i64)], lengths: (usize, usize)) -> Written {
+/// The lists with the ranges in their first places, or a refusal and the lists as they were.
+pub fn writing(ranges: &[(i64, i64)], lengths: (usize, usize)) -> Written {
     let (starts, ends) = (Lent::new(lengths.0), Lent::new(lengths.1));
-    let count = gaps.len();
+    let count = ranges.len();
     if lengths.0.min(lengths.1) < count {
         return (
             Count {
@@ -141,8 +150,8 @@ pub fn writing(gaps: &[(i64, i64)], lengths: (usize, usize)) -> Written {
     }
     (
         Count { answer: 0, count },
-        starts.with(gaps.iter().map(|r| r.0)),
-        ends.with(gaps.iter().map(|r| r.1)),
+        starts.with(ranges.iter().map(|r| r.0)),
+        ends.with(ranges.iter().map(|r| r.1)),
     )
 }
 
