@@ -11,19 +11,14 @@ mod day_ffi;
 #[allow(dead_code)]
 mod ffi;
 #[allow(dead_code)]
-#[path = "maps/kind.rs"]
-mod kind;
-#[allow(dead_code)]
-#[path = "bytes/model.rs"]
-mod model;
-#[allow(dead_code)]
-#[path = "maps/random.rs"]
-mod random;
 mod maps {
     pub mod kind;
     pub mod random;
     pub mod stored;
 }
+#[allow(dead_code)]
+#[path = "bytes/model.rs"]
+mod model;
 #[allow(dead_code)]
 mod shown;
 

@@ -1,7 +1,7 @@
 //! A day's report at 500 ranges, all in one day, beside the time in which rangemap's `overlapping` hands the same ranges over.
 use crate::day_ffi::{range_map_day_report, range_map_day_report_unchecked, DayReport};
 use crate::ffi::Map;
-use crate::random::Random;
+use crate::maps::random::Random;
 use crate::{race, tell, Wanted};
 use rangemap::RangeMap;
 use std::hint::black_box;

@@ -19,18 +19,36 @@ fn known() -> Vec<&'static str> {
     [&relations::KNOWN[..], &maps::KNOWN[..]].concat()
 }
 
-fn compare(size: &maps::Size, inputs: usize, full: bool) -> bool {
-    let mut report = Report::new(&known());
-    relations::compare(&mut report);
-    maps::compare(&mut report, size);
-    bytes::compare(&mut report, inputs);
-    report_days::compare(&mut report, full);
-fn compare(map_size: &maps::Size, set_size: &maps::Size) -> bool {
+/// How much is compared: in the gate, and in the longer form.
+struct Sizes {
+    maps: &'static maps::Size,
+    sets: &'static maps::Size,
+    bytes: usize,
+    full: bool,
+}
+
+const SHORT: Sizes = Sizes {
+    maps: &maps::SHORT,
+    sets: &sets::SHORT,
+    bytes: bytes::SHORT,
+    full: false,
+};
+
+const FULL: Sizes = Sizes {
+    maps: &maps::FULL,
+    sets: &sets::FULL,
+    bytes: bytes::FULL,
+    full: true,
+};
+
+fn compare(sizes: &Sizes) -> bool {
     maps::quiet_expected_panics();
     let mut report = Report::new(&known());
     relations::compare(&mut report);
-    maps::compare(&mut report, map_size);
-    sets::compare(&mut report, set_size);
+    maps::compare(&mut report, sizes.maps);
+    sets::compare(&mut report, sizes.sets);
+    bytes::compare(&mut report, sizes.bytes);
+    report_days::compare(&mut report, sizes.full);
     report.finish()
 }
 
@@ -52,10 +70,8 @@ fn main() -> ExitCode {
     let words: Vec<String> = std::env::args().skip(1).collect();
     let words: Vec<&str> = words.iter().map(String::as_str).collect();
     let good = match words[..] {
-        [] => compare(&maps::SHORT, bytes::SHORT, false),
-        ["full"] => compare(&maps::FULL, bytes::FULL, true),
-        [] => compare(&maps::SHORT, &sets::SHORT),
-        ["full"] => compare(&maps::FULL, &sets::FULL),
+        [] => compare(&SHORT),
+        ["full"] => compare(&FULL),
         ["replay", module] => replay(module),
         _ => {
             eprintln!("usage: compare [full | replay MODULE]");

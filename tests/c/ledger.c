@@ -466,6 +466,8 @@ static void day_reports(void) {
     check("status 0 on another day", range_map_day_report(&m, 0, 2024, 11, 4).answer == 0);
     m.ends[511] = 1;
     check("a damaged map", range_map_day_report(&m, 7, 2024, 11, 3).answer == 4);
+}
+
 static void half_open_set_edits(void) {
     RangeSet m = range_set_new();
     check("set, new: empty", range_set_holds(&m, NOTHING));
