@@ -10,3 +10,4 @@ pub mod Total
 pub mod Order
 pub mod Fewest
 pub mod Cases
+pub mod Walks

@@ -32,7 +32,7 @@ lie x y h i = elim (decLt (x .lo) (y .hi)) [
   | no p ↦ second (omega arith) (rw (le-ltb (x .lo) (y .hi) (omega arith))) (le-ltb (x .lo) (y .lo) (omega arith))
 ]
 
-ordered-absorb : (b : ℕ) (x : Span) (m : List Span) → b ≤ x .lo → x .lo < x .hi → Ordered b m → Ordered b (absorb x m)
+pub ordered-absorb : (b : ℕ) (x : Span) (m : List Span) → b ≤ x .lo → x .lo < x .hi → Ordered b m → Ordered b (absorb x m)
 unfolding absorb merged
 ordered-absorb b x [] h i o = (h, i, tt)
 ordered-absorb b x (y ∷ ys) h i o =
@@ -48,7 +48,7 @@ unfolding united
 ordered-united c [] b o q = q
 ordered-united c (x ∷ xs) b o q = ordered-absorb 0 x (united xs b) (omega arith) (o .1) (ordered-united (x .hi) xs b (o .2) q)
 
-plain-absorb : (x : Span) (m : List Span) → x .label ≡ 0 → Plain m → Plain (absorb x m)
+pub plain-absorb : (x : Span) (m : List Span) → x .label ≡ 0 → Plain m → Plain (absorb x m)
 unfolding absorb merged
 plain-absorb x [] h l = (h, tt)
 plain-absorb x (y ∷ ys) h l = go (overlaps x y) (ltb (x .lo) (y .lo)) (plain-absorb (merged x y) ys h (l .1)) (plain-absorb x ys h (l .1))
@@ -64,7 +64,7 @@ unfolding united
 plain-united [] b l m = m
 plain-united (x ∷ xs) b l m = plain-absorb x (united xs b) (l .0) (plain-united xs b (l .1) m)
 
-or-assoc : (a b c : Bool) → ((a || b) || c) ≡ (a || (b || c))
+pub or-assoc : (a b c : Bool) → ((a || b) || c) ≡ (a || (b || c))
 or-assoc true b c = refl
 or-assoc false b c = refl
 
@@ -109,17 +109,29 @@ links-inside k x = elim (place (x .lo) (x .hi) k) [
   | beyond p q ↦ rw (in-no (x .lo) (x .hi) k (omega arith), in-no (x .lo) (x .hi - 1) k (omega arith))
 ]
 
-links-joint : (k : ℕ) (x y : Span) → x .lo < x .hi → y .lo < y .hi → x .lo < y .hi → y .lo < x .hi → links k (merged x y) ≡ (links k x || links k y)
+pub links-joint : (k : ℕ) (x y : Span) → x .lo < x .hi → y .lo < y .hi → x .lo < y .hi → y .lo < x .hi → links k (merged x y) ≡ (links k x || links k y)
 unfolding merged
 links-joint k x y h i f g =
     rw (links-inside k x, links-inside k y, links-inside k (merged x y), ← in-hull (x .lo) (x .hi - 1) (y .lo) (y .hi - 1) k (omega arith) (omega arith) (omega arith) (omega arith))
     (in-same (omega arith) (omega arith))
 
--- UNION holds the instants of either; and two neighbours lie in one of its spans exactly when one span of either holds both
-pub holds-united : (k : ℕ) (a b : List Span) → Ordered 0 a → Ordered 0 b → any (holds k) (united a b) ≡ (any (holds k) a || any (holds k) b)
+pub holds-joint : (k : ℕ) (x y : Span) → x .lo < x .hi → y .lo < y .hi → x .lo < y .hi → y .lo < x .hi → holds k (merged x y) ≡ (holds k x || holds k y)
 unfolding holds merged
-holds-united k a b o q = any-united (holds k) (λ x y h i f g. in-hull (x .lo) (x .hi) (y .lo) (y .hi) k (omega arith) (omega arith) (omega arith) (omega arith)) 0 a b o q
+holds-joint k x y h i f g = in-hull (x .lo) (x .hi) (y .lo) (y .hi) k (omega arith) (omega arith) (omega arith) (omega arith)
 
+-- the instants, and the pairs of neighbours, of a list with a span laid into it
+module _ (k b : ℕ) (x : Span) (m : List Span) (full : x .lo < x .hi) (o : Ordered b m) where
+  pub holds-absorb : any (holds k) (absorb x m) ≡ (holds k x || any (holds k) m)
+  holds-absorb = any-absorb (holds k) (holds-joint k) b x m full o
+
+  pub links-absorb : any (links k) (absorb x m) ≡ (links k x || any (links k) m)
+  links-absorb = any-absorb (links k) (links-joint k) b x m full o
+
+-- UNION holds the instants of either
+pub holds-united : (k : ℕ) (a b : List Span) → Ordered 0 a → Ordered 0 b → any (holds k) (united a b) ≡ (any (holds k) a || any (holds k) b)
+holds-united k a b o q = any-united (holds k) (holds-joint k) 0 a b o q
+
+-- and two neighbours lie in one of its spans exactly when one span of either holds both
 pub links-united : (k : ℕ) (a b : List Span) → Ordered 0 a → Ordered 0 b → any (links k) (united a b) ≡ (any (links k) a || any (links k) b)
 links-united k a b o q = any-united (links k) (links-joint k) 0 a b o q
 
@@ -186,12 +198,12 @@ the-only-links xs ys o q l m e f =
     ]
 
 -- what a set holds, by the test
-at-plain : (m : List Span) (k : ℕ) → Plain m → at m k ≡ cond (any (holds k) m) (some 0) none
+pub at-plain : (m : List Span) (k : ℕ) → Plain m → at m k ≡ cond (any (holds k) m) (some 0) none
 unfolding at any holds
 at-plain [] k l = refl
 at-plain (x ∷ xs) k l = rw (at-plain xs k (l .1)) (cond-or (inside (x .lo) (x .hi) k) (any (holds k) xs) (x .label) (l .0))
 
-or-plain : (s t : Bool) → cond {A = Option ℕ} (s || t) (some 0) none ≡ or-else (cond s (some 0) none) (cond t (some 0) none)
+pub or-plain : (s t : Bool) → cond {A = Option ℕ} (s || t) (some 0) none ≡ or-else (cond s (some 0) none) (cond t (some 0) none)
 or-plain true t = refl
 or-plain false t = refl
 
