@@ -1,0 +1,77 @@
+-- One of the two sets, place by place.
+use Prim.Native.Nat.{ℕ, zero, suc, _+_, _≤_, _<_}
+use native.Mathlib.Omega.{arith}
+use native.Mathlib.Numerals.{add-one}
+use mathlib.Core.Path.{_≡_, refl, sym, ap, _∙_}
+use mathlib.Core.Bool.{Bool}
+use mathlib.Core.List.{List, [], _∷_}
+use lib.ListN.{length, getD, take, drop, replicate, length-replicate, length-drop, drop-of-length-le}
+use lib.Seq.{drop-cons, drop-nil, getD-take, length-take-le}
+use lib.IntN.{ℤ, pos}
+use Rattle.span.specs.Span.{Span, span}
+use Rattle.span.specs.Operations.{Plain}
+use Rattle.span.proofs.Walks.{Spaced, spaced-from, tidy-spaced}
+use Rattle.key.specs.Rank.{rank}
+use Rattle.key.specs.Range.{Kind, rangeOf}
+use Rattle.outcomes.specs.Stored.{spans}
+use Rattle.outcomes.proofs.Formed.{length-spans, getD-spans}
+use Rattle.pairs.specs.Kind.{kindOf, wide}
+use Rattle.pairs.specs.Sides.{rows, rest, Side}
+use Rattle.pairs.proofs.Closed.{past-is}
+
+getD-noughts : (n k : ℕ) → _≡_ {A = ℕ} (getD (replicate n 0) k 0) 0
+getD-noughts zero k = refl
+getD-noughts (suc n) zero = refl
+getD-noughts (suc n) (suc k) = getD-noughts n k
+
+plain-take : (n : ℕ) (xs : List Span) → Plain xs → Plain (take n xs)
+plain-take zero xs p = tt
+plain-take (suc n) [] p = tt
+plain-take (suc n) (x ∷ xs) p = (p .0, plain-take n xs (p .1))
+
+plain-bare : (kind : Kind) (ss es : List ℤ) → Plain (spans kind ss es (replicate (length ss) 0))
+unfolding spans
+plain-bare kind [] es = tt
+plain-bare kind (s ∷ ss) [] = tt
+plain-bare kind (s ∷ ss) (e ∷ es) = (refl, plain-bare kind ss es)
+
+spaced-drop : (b k : ℕ) (xs : List Span) → Spaced b xs → Spaced b (drop k xs)
+spaced-drop b zero xs s = s
+spaced-drop b (suc k) [] s = tt
+spaced-drop b (suc k) (x ∷ xs) s = spaced-from {b = suc (x .hi)} (drop k xs) (omega arith) (spaced-drop (suc (x .hi)) k xs (s .3))
+
+module _ (kind : Kind) {ss es : List ℤ} {n : ℕ} (side : Side kind ss es n) where
+  length-bare : length (spans kind ss es (replicate (length ss) 0)) ≡ length ss
+  length-bare = length-spans kind ss es (replicate (length ss) 0) (side .ends-as) (length-replicate (length ss) 0)
+
+  pub length-rows : length (rows kind ss es n) ≡ n
+  unfolding rows
+  length-rows = length-take-le n (spans kind ss es (replicate (length ss) 0)) (omega (arith, length-bare, side .held))
+
+  -- it is a set
+  pub spaced-rows : Spaced 0 (rows kind ss es n)
+  unfolding rows
+  spaced-rows = tidy-spaced 0 (rows kind ss es n) (side .tidy .ordered) (side .tidy .separate) (plain-take n _ (plain-bare kind ss es))
+
+  pub spaced-rest : (k : ℕ) → Spaced 0 (rest kind ss es n k)
+  unfolding rest
+  spaced-rest k = spaced-drop 0 k (rows kind ss es n) spaced-rows
+
+  pub rest-all : rest kind ss es n 0 ≡ rows kind ss es n
+  unfolding rest
+  rest-all = refl
+
+  pub rest-none : (k : ℕ) → n ≤ k → rest kind ss es n k ≡ []
+  unfolding rest
+  rest-none k h = drop-of-length-le (rows kind ss es n) {i = k} (omega (arith, length-rows))
+
+  place-more : (k : ℕ) → k < n → rest kind ss es n k ≡ rangeOf kind (getD ss k (pos 0)) (getD es k (pos 0)) 0 ∷ rest kind ss es n (k + 1)
+  unfolding rest rows
+  place-more k h =
+      let here = getD-spans kind ss es (replicate (length ss) 0) k (span 0 0 0) (side .ends-as) (length-replicate (length ss) 0) (omega (arith, side .held)) in
+      drop-cons (rows kind ss es n) k (span 0 0 0) (omega (arith, length-rows)) ∙ rw (getD-take n (spans kind ss es (replicate (length ss) 0)) k (span 0 0 0) h, here, getD-noughts (length ss) k, add-one)
+
+-- the range at a place, by the ranks of its keys
+pub rest-more : (closed : Bool) {ss es : List ℤ} {n : ℕ} → Side (kindOf closed) ss es n → (k : ℕ) {s e : ℕ} → k < n → s ≡ rank (getD ss k (pos 0)) → e ≡ rank (getD es k (pos 0))
+    → rest (kindOf closed) ss es n k ≡ span s (wide closed + e) 0 ∷ rest (kindOf closed) ss es n (k + 1)
+rest-more closed {es = es} side k h p q = place-more (kindOf closed) side k h ∙ rw (past-is closed (getD es k (pos 0)), p, q)
