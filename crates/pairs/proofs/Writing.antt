@@ -32,6 +32,9 @@ pub counting-step : {goal : List Span} {at : ℕ} {todo : List Span} (fresh : Bo
 counting-step true x g e = let s = rw e at (g .sum) in record { sum = omega (arith, s) }
 counting-step false x g e = let s = rw e at (g .sum) in record { sum = omega (arith, s) }
 
+pub counting-done : {goal : List Span} {at : ℕ} {todo : List Span} → Counting goal at todo → todo ≡ [] → at ≡ length goal
+counting-done g e = let s = rw e at (g .sum) in omega (arith, s)
+
 -- a place that is written over was never written
 over-put : (f : Span → ℤ) (l : List ℤ) (at : ℕ) (v : ℤ) (xs : List Span) → 0 < length xs → sets (set l at v) at (map f xs) ≡ sets l at (map f xs)
 over-put f l at v [] h = absurd (omega arith)
@@ -77,3 +80,14 @@ module _ (kind : Kind) {os oe : List ℤ} {goal : List Span} where
     pub going-last : (x : Span) {os₂ oe₂ : List ℤ} → todo ≡ x ∷ [] → os₂ ≡ set os₁ at (keyAt (x .lo)) → oe₂ ≡ set oe₁ at (kind .ending (x .hi))
         → (at + 1 ≡ length goal) × Puts kind 0 goal os oe os₂ oe₂
     going-last x e s t = going-done (rw e (refl, record { starts = s; ends = t }))
+
+-- nothing was written before, and all is written now; and there is nothing to write
+module _ (kind : Kind) {os oe os₁ oe₁ : List ℤ} {goal todo : List Span} (s : os₁ ≡ os) (e : oe₁ ≡ oe) (t : goal ≡ todo) where
+  pub first-room : Room 0 goal os oe → Room 0 todo os₁ oe₁
+  first-room r = rw (s, e, ← t) r
+
+  pub first-written : {r : ℕ} {os₂ oe₂ : List ℤ} → (r ≡ length todo) × Puts kind 0 todo os₁ oe₁ os₂ oe₂ → (r ≡ length goal) × Puts kind 0 goal os oe os₂ oe₂
+  first-written w = (w .0 ∙ ap length (sym t), record { starts = rw (← s, t) (w .1 .starts); ends = rw (← e, t) (w .1 .ends) })
+
+  pub none-written : todo ≡ [] → (0 ≡ length goal) × Puts kind 0 goal os oe os₁ oe₁
+  none-written n = let g = t ∙ n in (rw g refl, record { starts = rw g s; ends = rw g e })

@@ -6,11 +6,11 @@ ghost use Prim.Native.Nat.{_+_, _≤_, _<_, min};
 ghost use lib.Dec.{ltb};
 ghost use lib.ListN.{length, set};
 ghost use Rattle.key.specs.Rank.{rank};
-ghost use Rattle.pairs.specs.Kind.{kindOf};
+ghost use Rattle.pairs.specs.Kind.{wide};
 
 // Whether a range from `start` to `end` has a key: the one comparison in which the two kinds differ.
 pub fn meets(closed: bool, start: i64, end: i64) -> bool
-    ensures { λ r. ⌜ r ≡ ltb (rank start) (kindOf closed .past end) ⌝ }
+    ensures { λ r. ⌜ r ≡ ltb (rank start) (wide closed + rank end) ⌝ }
 {
     if closed {
         return start <= end;

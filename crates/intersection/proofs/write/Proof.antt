@@ -1,0 +1,136 @@
+-- `intersection::write` meets its contract.
+use Prim.Native.Nat.{_+_, _-_, _^_, _≤_, _<_}
+use native.Mathlib.Omega.{arith}
+use mathlib.Core.Path.{_≡_, refl, ap}
+use mathlib.Core.Bool.{not}
+use lib.ListN.{length}
+use borrow.Author.Tests.{ltb-true, ltb-false}
+use mir.Val.{boolByte}
+use Rattle.key.proofs.Laws.{rank-back}
+use Rattle.pairs.specs.Kind.{kindOf}
+use Rattle.pairs.proofs.Writing.{first-room, first-written, none-written}
+use Rattle.intersection.specs.Found.{shared, sharedFrom}
+use Rattle.intersection.proofs.Steps.{one-goes, found-all, found-none, found-no, first-found, none-found}
+use Rattle.intersection.proofs.write.Statement.{statement}
+use Rattle.intersection.proofs.write.Tie as tie
+
+abbrev Inv-loop : tie.InvT-loop
+Inv-loop closed starts-a ends-a count-a starts-b ends-b count-b out-starts₀ out-ends₀ i₀ j₀ out-starts out-ends i j =
+    (i ≤ count-a) × (j ≤ count-b) × (out-starts ≡ out-starts₀) × (out-ends ≡ out-ends₀)
+    × (shared closed starts-a ends-a count-a starts-b ends-b count-b ≡ sharedFrom closed starts-a ends-a count-a i starts-b ends-b count-b j)
+
+abbrev μ-loop : tie.MeasureT-loop
+μ-loop closed starts-a ends-a count-a starts-b ends-b count-b out-starts₀ out-ends₀ i₀ j₀ out-starts out-ends i j = (count-a - i) + (count-b - j)
+
+loop-holds : tie.Need-loop-holds Inv-loop μ-loop
+loop-holds c = (omega arith, omega arith, refl, refl, found-all (c .args .closed) (c .pre .0) (c .pre .1))
+
+-- what both tests say
+left-in : (c : tie.Then1 Inv-loop μ-loop) → c .before .before .loop .i < c .before .before .before .args .count-a
+left-in c = omega arith
+
+right-in : (c : tie.Then1 Inv-loop μ-loop) → c .before .before .loop .j < c .before .before .before .args .count-b
+right-in c = ltb-true _ _ (c .if1 .taken)
+
+step-requires : tie.Need-step-requires Inv-loop μ-loop
+step-requires c κs = omega (arith, right-in c)
+
+cast-i : tie.Need-cast-i Inv-loop μ-loop
+cast-i c = tt
+
+add-i : tie.Need-add-i Inv-loop μ-loop
+add-i c = omega (arith, one-goes (c .before .step .result .left), left-in (c .before .before))
+
+cast-j : tie.Need-cast-j Inv-loop μ-loop
+cast-j c = tt
+
+add-j : tie.Need-add-j Inv-loop μ-loop
+add-j c = omega (arith, one-goes (c .before .before .step .result .left), right-in (c .before .before .before))
+
+-- both places after the step
+on-a : (c : tie.After-step Inv-loop μ-loop) → c .before .before .before .loop .i + boolByte (c .step .result .left) ≤ c .before .before .before .before .args .count-a
+on-a c = omega (arith, one-goes (c .step .result .left), left-in (c .before))
+
+on-b : (c : tie.After-step Inv-loop μ-loop) → c .before .before .before .loop .j + boolByte (not (c .step .result .left)) ≤ c .before .before .before .before .args .count-b
+on-b c = omega (arith, one-goes (c .step .result .left), right-in (c .before))
+
+write-from-requires : tie.Need-write-from-requires Inv-loop μ-loop
+write-from-requires c κs =
+    let st = c .before .before .before .before .before .before .before in
+    let l = st .before .before .before .loop in
+    let s = st .before .before .before .before in
+    let f = first-found (s .args .closed) (s .pre .0) (s .pre .1) (st .step .result) (left-in (st .before)) (right-in (st .before)) (st .step .ensures) (c .before .before .before .before .if2 .taken) (l .inv .4) in
+    (s .pre .0, s .pre .1, on-a st, on-b st, simp rank-back (first-room (kindOf (s .args .closed)) (l .inv .2) (l .inv .3) f (s .pre .2)))
+
+same-length : tie.Need-same-length Inv-loop μ-loop
+same-length c = omega (arith, ap length (c .before .before .before .before .before .before .before .before .before .before .before .before .before .loop .inv .2))
+
+same-length-2 : tie.Need-same-length-2 Inv-loop μ-loop
+same-length-2 c = omega (arith, ap length (c .before .before .before .before .before .before .before .before .before .before .before .before .before .loop .inv .3))
+
+returns : tie.Need-returns Inv-loop μ-loop
+returns c =
+    let st = c .before .before .before .before .before .before .before .before .before .before in
+    let l = st .before .before .before .loop in
+    let s = st .before .before .before .before in
+    let f = first-found (s .args .closed) (s .pre .0) (s .pre .1) (st .step .result) (left-in (st .before)) (right-in (st .before)) (st .step .ensures) (c .before .before .before .before .before .before .before .if2 .taken) (l .inv .4) in
+    first-written (kindOf (s .args .closed)) (l .inv .2) (l .inv .3) f (simp rank-back at (c .before .before .write-from .ensures))
+
+loop-less : tie.Need-loop-less Inv-loop μ-loop
+loop-less c = omega (arith, one-goes (c .before .before .before .step .result .left), left-in (c .before .before .before .before), right-in (c .before .before .before .before))
+
+loop-again : tie.Need-loop-again Inv-loop μ-loop
+loop-again c =
+    let st = c .before .before .before in
+    let l = st .before .before .before .loop in
+    let s = st .before .before .before .before in
+    (on-a st, on-b st, l .inv .2, l .inv .3, none-found (s .args .closed) (s .pre .0) (s .pre .1) (st .step .result) (left-in (st .before)) (right-in (st .before)) (st .step .ensures) (c .if2 .left) (l .inv .4))
+
+same-length-3 : tie.Need-same-length-3 Inv-loop μ-loop
+same-length-3 c = omega (arith, ap length (c .before .before .loop .inv .2))
+
+same-length-4 : tie.Need-same-length-4 Inv-loop μ-loop
+same-length-4 c = omega (arith, ap length (c .before .before .loop .inv .3))
+
+returns-2 : tie.Need-returns-2 Inv-loop μ-loop
+returns-2 c =
+    let l = c .before .before .loop in
+    let s = c .before .before .before in
+    none-written (kindOf (s .args .closed)) (l .inv .2) (l .inv .3) (l .inv .4) (found-no (s .args .closed) (s .pre .0) (s .pre .1) (l .i) (l .j) (ltb-false _ _ (c .if1 .left)))
+
+same-length-5 : tie.Need-same-length-5 Inv-loop μ-loop
+same-length-5 c = omega (arith, ap length (c .before .loop .inv .2))
+
+same-length-6 : tie.Need-same-length-6 Inv-loop μ-loop
+same-length-6 c = omega (arith, ap length (c .before .loop .inv .3))
+
+returns-3 : tie.Need-returns-3 Inv-loop μ-loop
+returns-3 c =
+    let l = c .before .loop in
+    let s = c .before .before in
+    none-written (kindOf (s .args .closed)) (l .inv .2) (l .inv .3) (l .inv .4) (found-none (s .args .closed) (s .pre .0) (s .pre .1) (l .i) (l .j) (omega arith))
+
+pub write-spec : {M : Type 1} → statement M
+write-spec =
+    tie.close
+    (tie.spec
+    Inv-loop
+    μ-loop
+    loop-holds
+    step-requires
+    cast-i
+    add-i
+    cast-j
+    add-j
+    write-from-requires
+    same-length
+    same-length-2
+    returns
+    loop-less
+    loop-again
+    same-length-3
+    same-length-4
+    returns-2
+    same-length-5
+    same-length-6
+    returns-3)

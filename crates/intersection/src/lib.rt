@@ -1,0 +1,225 @@
+// INTERSECTION of two sets: the common points as maximal ranges, from operations.rs. One walk over both sets with two positions; the range that ends first goes.
+// Nothing is written before it is known that the lent lists are long enough; the ranges are counted for that only where there may be too many.
+// `closed` says which kind of range the sets hold: is the end in the range.
+use outcomes::Counted;
+use outcomes::TOO_SHORT;
+use pairs::meets;
+use pairs::pick;
+use pairs::put;
+use pairs::roomy;
+use pairs::shorter;
+ghost use mathlib.Core.Path.{_≡_};
+ghost use mathlib.Core.List.{_∷_};
+ghost use Prim.Native.Nat.{_≤_, _<_};
+ghost use lib.ListN.{length};
+ghost use Rattle.key.specs.Decides.{Decides};
+ghost use Rattle.outcomes.specs.Stored.{stored};
+ghost use Rattle.outcomes.specs.Sets.{SoundSet, intersected};
+ghost use Rattle.pairs.specs.Kind.{kindOf};
+ghost use Rattle.pairs.specs.Sides.{Side};
+ghost use Rattle.pairs.specs.Lists.{wrote, Room, Puts};
+ghost use Rattle.intersection.specs.Found.{shared, sharedFrom, piece, Stepped};
+
+// A step of the walk: what the two ranges at hand have in common, whether that is anything, and whether the left one goes.
+struct Overlap {
+    start: i64,
+    end: i64,
+    found: bool,
+    left: bool,
+}
+
+// The step at places `i` and `j`.
+fn step(
+    closed: bool,
+    starts_a: &[i64],
+    ends_a: &[i64],
+    i: usize,
+    starts_b: &[i64],
+    ends_b: &[i64],
+    j: usize,
+) -> Overlap
+    requires { ⌜ (i < length (now «starts_a»)) × (i < length (now «ends_a»)) × (j < length (now «starts_b»)) × (j < length (now «ends_b»)) ⌝ }
+    ensures { λ r. ⌜ Stepped closed (now («starts_a» .entry)) (now («ends_a» .entry)) i (now («starts_b» .entry)) (now («ends_b» .entry)) j r ⌝ }
+{
+    let end_a = ends_a[i];
+    let end_b = ends_b[j];
+    let start = key::max(starts_a[i], starts_b[j]);
+    let end = key::min(end_a, end_b);
+    Overlap {
+        start,
+        end,
+        found: meets(closed, start, end),
+        left: end_a < end_b,
+    }
+}
+
+// How many ranges the two sets have in common.
+fn counted(
+    closed: bool,
+    starts_a: &[i64],
+    ends_a: &[i64],
+    count_a: usize,
+    starts_b: &[i64],
+    ends_b: &[i64],
+    count_b: usize,
+) -> usize
+    requires { ⌜ Side (kindOf closed) (now «starts_a») (now «ends_a») «count_a» × Side (kindOf closed) (now «starts_b») (now «ends_b») «count_b» ⌝ }
+    ensures { λ r. ⌜ r ≡ length (shared closed (now («starts_a» .entry)) (now («ends_a» .entry)) «count_a» (now («starts_b» .entry)) (now («ends_b» .entry)) «count_b») ⌝ }
+{
+    let mut n = 0;
+    let mut i = 0;
+    let mut j = 0;
+    while i < count_a && j < count_b {
+        let s = step(closed, starts_a, ends_a, i, starts_b, ends_b, j);
+        i += s.left as usize;
+        j += !s.left as usize;
+        n += s.found as usize;
+    }
+    n
+}
+
+// Writes the range from `start` to `end`, and all that the sets have in common from places `i` and `j` on.
+// Each step writes the open range, and a range that is found becomes the open one: so no branch depends on the keys.
+fn write_from(
+    closed: bool,
+    starts_a: &[i64],
+    ends_a: &[i64],
+    count_a: usize,
+    from_a: usize,
+    starts_b: &[i64],
+    ends_b: &[i64],
+    count_b: usize,
+    from_b: usize,
+    start: i64,
+    end: i64,
+    out_starts: &mut [i64],
+    out_ends: &mut [i64],
+) -> usize
+    requires { ⌜ Side (kindOf closed) (now «starts_a») (now «ends_a») «count_a» × Side (kindOf closed) (now «starts_b») (now «ends_b») «count_b»
+        × («from_a» ≤ «count_a») × («from_b» ≤ «count_b»)
+        × Room 0 (piece closed start end ∷ sharedFrom closed (now «starts_a») (now «ends_a») «count_a» «from_a» (now «starts_b») (now «ends_b») «count_b» «from_b») (now «out_starts») (now «out_ends») ⌝ }
+    ensures { λ r. ⌜ (r ≡ length (piece closed start end ∷ sharedFrom closed (now («starts_a» .entry)) (now («ends_a» .entry)) «count_a» «from_a» (now («starts_b» .entry)) (now («ends_b» .entry)) «count_b» «from_b»))
+        × Puts (kindOf closed) 0 (piece closed start end ∷ sharedFrom closed (now («starts_a» .entry)) (now («ends_a» .entry)) «count_a» «from_a» (now («starts_b» .entry)) (now («ends_b» .entry)) «count_b» «from_b»)
+        (now («out_starts» .entry)) (now («out_ends» .entry)) (now («out_starts» .exit)) (now («out_ends» .exit)) ⌝ }
+{
+    let mut at = 0;
+    let mut i = from_a;
+    let mut j = from_b;
+    let mut lo = start;
+    let mut hi = end;
+    while i < count_a && j < count_b {
+        put(out_starts, out_ends, at, lo, hi);
+        let s = step(closed, starts_a, ends_a, i, starts_b, ends_b, j);
+        i += s.left as usize;
+        j += !s.left as usize;
+        at += s.found as usize;
+        lo = pick(s.found, s.start, lo);
+        hi = pick(s.found, s.end, hi);
+    }
+    put(out_starts, out_ends, at, lo, hi);
+    at + 1
+}
+
+// Writes what the sets have in common, and answers how many ranges that is. The first is looked for, and then the rest is written.
+fn write(
+    closed: bool,
+    starts_a: &[i64],
+    ends_a: &[i64],
+    count_a: usize,
+    starts_b: &[i64],
+    ends_b: &[i64],
+    count_b: usize,
+    out_starts: &mut [i64],
+    out_ends: &mut [i64],
+) -> usize
+    requires { ⌜ Side (kindOf closed) (now «starts_a») (now «ends_a») «count_a» × Side (kindOf closed) (now «starts_b») (now «ends_b») «count_b»
+        × Room 0 (shared closed (now «starts_a») (now «ends_a») «count_a» (now «starts_b») (now «ends_b») «count_b») (now «out_starts») (now «out_ends») ⌝ }
+    ensures { λ r. ⌜ (r ≡ length (shared closed (now («starts_a» .entry)) (now («ends_a» .entry)) «count_a» (now («starts_b» .entry)) (now («ends_b» .entry)) «count_b»))
+        × Puts (kindOf closed) 0 (shared closed (now («starts_a» .entry)) (now («ends_a» .entry)) «count_a» (now («starts_b» .entry)) (now («ends_b» .entry)) «count_b»)
+        (now («out_starts» .entry)) (now («out_ends» .entry)) (now («out_starts» .exit)) (now («out_ends» .exit)) ⌝ }
+{
+    let mut i = 0;
+    let mut j = 0;
+    while i < count_a && j < count_b {
+        let s = step(closed, starts_a, ends_a, i, starts_b, ends_b, j);
+        i += s.left as usize;
+        j += !s.left as usize;
+        if s.found {
+            return write_from(
+                closed,
+                starts_a,
+                ends_a,
+                count_a,
+                i,
+                starts_b,
+                ends_b,
+                count_b,
+                j,
+                s.start,
+                s.end,
+                out_starts,
+                out_ends,
+            );
+        }
+    }
+    0
+}
+
+// Whether `room` places are enough. Two sets have fewer ranges in common than they have together, so mostly none is counted.
+fn fits(
+    closed: bool,
+    starts_a: &[i64],
+    ends_a: &[i64],
+    count_a: usize,
+    starts_b: &[i64],
+    ends_b: &[i64],
+    count_b: usize,
+    room: usize,
+) -> bool
+    requires { ⌜ Side (kindOf closed) (now «starts_a») (now «ends_a») «count_a» × Side (kindOf closed) (now «starts_b») (now «ends_b») «count_b» ⌝ }
+    ensures { λ r. ⌜ Decides r (length (shared closed (now («starts_a» .entry)) (now («ends_a» .entry)) «count_a» (now («starts_b» .entry)) (now («ends_b» .entry)) «count_b») ≤ room) ⌝ }
+{
+    if roomy(count_a, count_b, room) {
+        return true;
+    }
+    if room < counted(closed, starts_a, ends_a, count_a, starts_b, ends_b, count_b) {
+        return false;
+    }
+    true
+}
+
+// THE INNER DOOR, for both kinds. The values are lent as a part of the sets, and none is read.
+pub fn intersection(
+    closed: bool,
+    count_a: usize,
+    starts_a: &[i64],
+    ends_a: &[i64],
+    values_a: &[u8],
+    count_b: usize,
+    starts_b: &[i64],
+    ends_b: &[i64],
+    values_b: &[u8],
+    out_starts: &mut [i64],
+    out_ends: &mut [i64],
+) -> Counted
+    requires { ⌜ SoundSet (kindOf closed) (stored «count_a» (now «starts_a») (now «ends_a») (now «values_a»)) × SoundSet (kindOf closed) (stored «count_b» (now «starts_b») (now «ends_b») (now «values_b»)) ⌝ }
+    ensures { λ r. ⌜ wrote r (now («out_starts» .exit)) (now («out_ends» .exit))
+        ≡ intersected (kindOf closed) (stored «count_a» (now («starts_a» .entry)) (now («ends_a» .entry)) (now («values_a» .entry))) (stored «count_b» (now («starts_b» .entry)) (now («ends_b» .entry)) (now («values_b» .entry))) (now («out_starts» .entry)) (now («out_ends» .entry)) ⌝ }
+{
+    let room = shorter(out_starts.len(), out_ends.len());
+    if !fits(closed, starts_a, ends_a, count_a, starts_b, ends_b, count_b, room) {
+        return Counted::Refused(TOO_SHORT);
+    }
+    let n = write(
+        closed,
+        starts_a,
+        ends_a,
+        count_a,
+        starts_b,
+        ends_b,
+        count_b,
+        out_starts,
+        out_ends,
+    );
+    Counted::Count(n)
+}
