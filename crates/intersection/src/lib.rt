@@ -8,6 +8,10 @@ use pairs::pick;
 use pairs::put;
 use pairs::roomy;
 use pairs::shorter;
+
+pub mod half_open;
+pub mod inclusive;
+
 ghost use mathlib.Core.Path.{_≡_};
 ghost use mathlib.Core.List.{_∷_};
 ghost use Prim.Native.Nat.{_≤_, _<_};
@@ -207,7 +211,16 @@ pub fn intersection(
         ≡ intersected (kindOf closed) (stored «count_a» (now («starts_a» .entry)) (now («ends_a» .entry)) (now («values_a» .entry))) (stored «count_b» (now («starts_b» .entry)) (now («ends_b» .entry)) (now («values_b» .entry))) (now («out_starts» .entry)) (now («out_ends» .entry)) ⌝ }
 {
     let room = shorter(out_starts.len(), out_ends.len());
-    if !fits(closed, starts_a, ends_a, count_a, starts_b, ends_b, count_b, room) {
+    if !fits(
+        closed,
+        starts_a,
+        ends_a,
+        count_a,
+        starts_b,
+        ends_b,
+        count_b,
+        room,
+    ) {
         return Counted::Refused(TOO_SHORT);
     }
     let n = write(

@@ -90,9 +90,12 @@ loop-again c =
     let h = inside (st .before .before .before .before .before .before) in
     let one = one-goes (st .step .result .left) in
     let i : l .i + boolByte (st .step .result .left) ≤ s .args .count-a = omega (arith, one, h .left) in
-    let j : l .j + boolByte (not (st .step .result .left)) ≤ s .args .count-b = omega (arith, one, h .right) in
-    (i, j, going-found (s .args .closed) (s .pre .0) (s .pre .1) (st .step .result) (h .left) (h .right) (st .step .ensures) (bitRank (l .lo)) (bitRank (l .hi)) _ _ (l .inv .2)
-    (simp rank-back at (c .before .before .pick .ensures)) (simp rank-back at (c .pick2 .ensures)) (put-start (l .out-starts) (l .at) (l .lo) (w .0)) (put-end (s .args .closed) (l .out-ends) (l .at) (l .hi) (w .1)))
+    let j : l .j + boolByte (not (st .step .result .left)) ≤ s .args .count-b = omega (arith, one, h .right) in (
+      i,
+      j,
+      going-found (s .args .closed) (s .pre .0) (s .pre .1) (st .step .result) (h .left) (h .right) (st .step .ensures) (bitRank (l .lo)) (bitRank (l .hi)) _ _ (l .inv .2)
+          (simp rank-back at (c .before .before .pick .ensures)) (simp rank-back at (c .pick2 .ensures)) (put-start (l .out-starts) (l .at) (l .lo) (w .0)) (put-end (s .args .closed) (l .out-ends) (l .at) (l .hi) (w .1)),
+    )
 
 put-requires-2 : tie.Need-put-requires-2 Inv-loop μ-loop
 put-requires-2 c κs = let s = c .before .before .before .before in going-room (kindOf (s .args .closed)) (c .before .before .before .loop .inv .2) (omega arith) (s .pre .4)

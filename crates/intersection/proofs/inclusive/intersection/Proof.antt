@@ -1,0 +1,55 @@
+-- `intersection::inclusive::intersection` meets its contract.
+use mathlib.Core.Path.{sym, _∙_}
+use borrow.Author.Needs.{needs}
+use borrow.Author.Tests.{not-true, not-false}
+use Rattle.outcomes.specs.Sets.{intersecting}
+use Rattle.intersection.proofs.inclusive.intersection.Statement.{statement}
+use Rattle.intersection.proofs.inclusive.intersection.Tie as tie
+
+is-inclusive-set-requires : tie.Need-is-inclusive-set-requires
+is-inclusive-set-requires c κs = search needs
+
+returns : tie.Need-returns
+unfolding intersecting
+returns c = rw (sym (c .before .is-inclusive-set .ensures .0) ∙ not-true _ (c .if1 .taken))
+
+is-inclusive-set-requires-2 : tie.Need-is-inclusive-set-requires-2
+is-inclusive-set-requires-2 c κs = search needs
+
+returns-2 : tie.Need-returns-2
+unfolding intersecting
+returns-2 c =
+    let first = c .before .before .before in
+    rw (sym (first .before .is-inclusive-set .ensures .0) ∙ not-false _ (first .if1 .left), sym (c .before .is-inclusive-set2 .ensures .0) ∙ not-true _ (c .if2 .taken))
+
+intersection-requires : tie.Need-intersection-requires
+intersection-requires c κs =
+    let second = c .before .before .before .before .before .before .before .before in
+    let first = second .before .before .before in
+    (first .before .is-inclusive-set .ensures .1 (not-false _ (first .if1 .left)), second .before .is-inclusive-set2 .ensures .1 (not-false _ (second .if2 .left)))
+
+same-length : tie.Need-same-length
+same-length c = search needs
+
+same-length-2 : tie.Need-same-length-2
+same-length-2 c = search needs
+
+returns-3 : tie.Need-returns-3
+unfolding intersecting
+returns-3 c =
+    let second = c .before .before .before .before .before .before .before .before .before .before .before in
+    let first = second .before .before .before in
+    rw (sym (first .before .is-inclusive-set .ensures .0) ∙ not-false _ (first .if1 .left), sym (second .before .is-inclusive-set2 .ensures .0) ∙ not-false _ (second .if2 .left)) (c .before .before .intersection .ensures)
+
+pub intersection-spec : {M : Type 1} → statement M
+intersection-spec =
+    tie.close
+    (tie.spec
+    is-inclusive-set-requires
+    returns
+    is-inclusive-set-requires-2
+    returns-2
+    intersection-requires
+    same-length
+    same-length-2
+    returns-3)
