@@ -68,3 +68,7 @@ put-start l n b e = rw (← start-bits b) e
 
 pub put-end : (closed : Bool) (l : List ℤ) {l₁ : List ℤ} (n b : ℕ) → l₁ ≡ set l n (toZ w64 b) → l₁ ≡ set l n (kindOf closed .ending (wide closed + bitRank b))
 put-end closed l n b e = rw (← end-bits closed b) e
+
+-- of a local and a key that was read
+pub greater-bits : {r : ℤ} (m : ℕ) (b : ℤ) → r ≡ greater (toZ w64 m) (toZ w64 (ofZ w64 b)) → rank r ≡ max (bitRank m) (rank b)
+greater-bits {r} m b e = ap rank e ∙ rank-greater (toZ w64 m) (toZ w64 (ofZ w64 b)) ∙ rw (rank-back m, rank-back (ofZ w64 b))

@@ -35,6 +35,9 @@ counting-step false x g e = let s = rw e at (g .sum) in record { sum = omega (ar
 pub counting-done : {goal : List Span} {at : ℕ} {todo : List Span} → Counting goal at todo → todo ≡ [] → at ≡ length goal
 counting-done g e = let s = rw e at (g .sum) in omega (arith, s)
 
+pub counting-one : {goal : List Span} {at : ℕ} {todo : List Span} {x : Span} → Counting goal at todo → todo ≡ x ∷ [] → at + 1 ≡ length goal
+counting-one g e = let s = rw e at (g .sum) in omega (arith, s)
+
 -- a place that is written over was never written
 over-put : (f : Span → ℤ) (l : List ℤ) (at : ℕ) (v : ℤ) (xs : List Span) → 0 < length xs → sets (set l at v) at (map f xs) ≡ sets l at (map f xs)
 over-put f l at v [] h = absurd (omega arith)

@@ -1,0 +1,55 @@
+-- `union::inclusive::union` meets its contract.
+use mathlib.Core.Path.{sym, _∙_}
+use borrow.Author.Needs.{needs}
+use borrow.Author.Tests.{not-true, not-false}
+use Rattle.outcomes.specs.Sets.{uniting}
+use Rattle.union.proofs.inclusive.union.Statement.{statement}
+use Rattle.union.proofs.inclusive.union.Tie as tie
+
+is-inclusive-set-requires : tie.Need-is-inclusive-set-requires
+is-inclusive-set-requires c κs = search needs
+
+returns : tie.Need-returns
+unfolding uniting
+returns c = rw (sym (c .before .is-inclusive-set .ensures .0) ∙ not-true _ (c .if1 .taken))
+
+is-inclusive-set-requires-2 : tie.Need-is-inclusive-set-requires-2
+is-inclusive-set-requires-2 c κs = search needs
+
+returns-2 : tie.Need-returns-2
+unfolding uniting
+returns-2 c =
+    let first = c .before .before .before in
+    rw (sym (first .before .is-inclusive-set .ensures .0) ∙ not-false _ (first .if1 .left), sym (c .before .is-inclusive-set2 .ensures .0) ∙ not-true _ (c .if2 .taken))
+
+union-requires : tie.Need-union-requires
+union-requires c κs =
+    let second = c .before .before .before .before .before .before .before .before in
+    let first = second .before .before .before in
+    (first .before .is-inclusive-set .ensures .1 (not-false _ (first .if1 .left)), second .before .is-inclusive-set2 .ensures .1 (not-false _ (second .if2 .left)))
+
+same-length : tie.Need-same-length
+same-length c = search needs
+
+same-length-2 : tie.Need-same-length-2
+same-length-2 c = search needs
+
+returns-3 : tie.Need-returns-3
+unfolding uniting
+returns-3 c =
+    let second = c .before .before .before .before .before .before .before .before .before .before .before in
+    let first = second .before .before .before in
+    rw (sym (first .before .is-inclusive-set .ensures .0) ∙ not-false _ (first .if1 .left), sym (second .before .is-inclusive-set2 .ensures .0) ∙ not-false _ (second .if2 .left)) (c .before .before .union .ensures)
+
+pub union-spec : {M : Type 1} → statement M
+union-spec =
+    tie.close
+    (tie.spec
+    is-inclusive-set-requires
+    returns
+    is-inclusive-set-requires-2
+    returns-2
+    union-requires
+    same-length
+    same-length-2
+    returns-3)

@@ -1,0 +1,2 @@
+-- What the walk finds. What the doors promise is `joining`, of the crate `outcomes`.
+pub mod Found
