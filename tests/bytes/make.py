@@ -1,5 +1,7 @@
 #!/usr/bin/env python3
-"""Makes the files of this folder, by document 01's byte form: tests/bytes/make.py, in this folder. They are kept in the repository; this only tells how they were made."""
+"""Makes the files of this folder, by document 01's byte form, and what crates/test_byte_form is given and has to write. Run it in this folder.
+The files are kept in the repository; this only tells how they were made."""
+import glob
 import struct
 
 LEAST, GREATEST = -2**63, 2**63 - 1
@@ -28,3 +30,13 @@ put("touching_equals.no_form", form([(0, 5, 1), (5, 8, 1)]))
 put("empty_range.no_form", form([(4, 4, 1)]))
 put("overlap.no_form", form([(0, 5, 1), (4, 8, 2)]))
 put("other_mark.no_form", form([(0, 5, 1)], mark=b"RM02"))
+
+# Each input of the program has its length before it. Where the reader refuses, the map is still the empty one.
+given, wanted = b"", b""
+for name in sorted(glob.glob("*form")):
+    with open(name, "rb") as file:
+        content = file.read()
+    given += struct.pack("<H", len(content)) + content
+    wanted += (b"0" + content if name.endswith(".form") else b"6" + form([])) + b"\n"
+put("../../crates/test_byte_form/stdin", given)
+put("../../crates/test_byte_form/stdout", wanted)
