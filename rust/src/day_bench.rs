@@ -17,7 +17,9 @@ const END: i64 = 1_730_696_400;
 fn entries() -> Vec<((i64, i64), u8)> {
     let mut random = Random::new(3);
     let start = |i: usize| START + 180 * i as i64;
-    (0..RANGES).map(|i| ((start(i), start(i) + 100), 1 + random.below(4) as u8)).collect()
+    (0..RANGES)
+        .map(|i| ((start(i), start(i) + 100), 1 + random.below(4) as u8))
+        .collect()
 }
 
 /// The seconds of each status, from what `overlapping` hands over.
@@ -43,7 +45,8 @@ pub fn race_reports(wanted: &mut Vec<Wanted>) {
     let rust: RangeMap<i64, u8> = entries.iter().map(|&((s, e), v)| (s..e, v)).collect();
     let (mut map, mut lent) = (Map::of(&entries), Map::of(&entries));
     // SAFETY: the map is well formed.
-    let inner = |m: &mut Map| -> DayReport { unsafe { range_map_day_report_unchecked(m, 0, 2024, 11, 3) } };
+    let inner =
+        |m: &mut Map| -> DayReport { unsafe { range_map_day_report_unchecked(m, 0, 2024, 11, 3) } };
     let checked = |m: &mut Map| range_map_day_report(m, 0, 2024, 11, 3);
 
     let sums = sums(&rust);

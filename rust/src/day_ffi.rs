@@ -22,7 +22,19 @@ pub struct DayReport {
 
 unsafe extern "C" {
     /// The map is only read; it is a `&mut` here so that the compiler does not take that for granted.
-    pub safe fn range_map_day_report(m: &mut Map, zone: u8, year: u16, month: u8, day: u8) -> DayReport;
+    pub safe fn range_map_day_report(
+        m: &mut Map,
+        zone: u8,
+        year: u16,
+        month: u8,
+        day: u8,
+    ) -> DayReport;
     /// The map must be well formed.
-    pub fn range_map_day_report_unchecked(m: &mut Map, zone: u8, year: u16, month: u8, day: u8) -> DayReport;
+    pub fn range_map_day_report_unchecked(
+        m: &mut Map,
+        zone: u8,
+        year: u16,
+        month: u8,
+        day: u8,
+    ) -> DayReport;
 }

@@ -24,8 +24,20 @@ struct Date {
 type Told = (u8, [i64; 2], [u32; 5], [u64; 5]);
 
 fn told(r: &DayReport) -> Told {
-    let hours = [r.off_duty_hours, r.sleeper_berth_hours, r.driving_hours, r.on_duty_hours, r.unrecorded_hours];
-    let seconds = [r.off_duty, r.sleeper_berth, r.driving, r.on_duty, r.unrecorded];
+    let hours = [
+        r.off_duty_hours,
+        r.sleeper_berth_hours,
+        r.driving_hours,
+        r.on_duty_hours,
+        r.unrecorded_hours,
+    ];
+    let seconds = [
+        r.off_duty,
+        r.sleeper_berth,
+        r.driving,
+        r.on_duty,
+        r.unrecorded,
+    ];
     (r.answer, [r.start, r.end], seconds, hours.map(f64::to_bits))
 }
 
@@ -54,15 +66,27 @@ fn midnight(zone: u8, number: i64, year: i64) -> i64 {
 }
 
 /// The day's start and end, if the zone and the date are good. Dates of the year 2100 are never asked for.
-fn day_of(Date { zone, year, month, day }: Date) -> Option<Range<i64>> {
+fn day_of(
+    Date {
+        zone,
+        year,
+        month,
+        day,
+    }: Date,
+) -> Option<Range<i64>> {
     let (y, m, d) = (i64::from(year), i64::from(month), i64::from(day));
     if zone > 6 || !(2007..=2099).contains(&year) || !(1..=12).contains(&month) || day == 0 {
         return None;
     }
-    let next_month = if m == 12 { day_number(y + 1, 1, 1) } else { day_number(y, m + 1, 1) };
+    let next_month = if m == 12 {
+        day_number(y + 1, 1, 1)
+    } else {
+        day_number(y, m + 1, 1)
+    };
     let number = day_number(y, m, d);
     let last = m == 12 && d == 31;
-    (number < next_month).then(|| midnight(zone, number, y)..midnight(zone, number + 1, y + i64::from(last)))
+    (number < next_month)
+        .then(|| midnight(zone, number, y)..midnight(zone, number + 1, y + i64::from(last)))
 }
 
 /// Whether the double nearest seconds / 3600 has these bits: 2 * |digits * 3600 - seconds * 2^k| is less than 3600, so no other is as near.
@@ -111,11 +135,22 @@ impl Painted {
 }
 
 fn map_of(rust: &RangeMap<i64, u8>) -> Map {
-    let entries: Vec<_> = rust.iter().map(|(r, &value)| ((r.start, r.end), value)).collect();
+    let entries: Vec<_> = rust
+        .iter()
+        .map(|(r, &value)| ((r.start, r.end), value))
+        .collect();
     Map::of(&entries)
 }
 
-fn ask(m: &mut Map, Date { zone, year, month, day }: Date) -> DayReport {
+fn ask(
+    m: &mut Map,
+    Date {
+        zone,
+        year,
+        month,
+        day,
+    }: Date,
+) -> DayReport {
     range_map_day_report(m, zone, year, month, day)
 }
 
@@ -123,13 +158,26 @@ fn compare_one(report: &mut Report, m: &mut Map, date: Date, painted: &Painted) 
     let before = m.clone();
     let ours = told(&ask(m, date));
     // SAFETY: the map was made of what rangemap holds, so it is well formed.
-    let inner = told(&unsafe { range_map_day_report_unchecked(m, date.zone, date.year, date.month, date.day) });
+    let inner = told(&unsafe {
+        range_map_day_report_unchecked(m, date.zone, date.year, date.month, date.day)
+    });
     let expected = painted.expected();
-    report.same(format_args!("{date:?} {before:?}"), (ours.0, ours.1, ours.2), expected);
+    report.same(
+        format_args!("{date:?} {before:?}"),
+        (ours.0, ours.1, ours.2),
+        expected,
+    );
     report.same(format_args!("{date:?}, inner door"), inner, ours);
-    let hours = (ours.2).iter().zip(ours.3).all(|(&seconds, bits)| is_nearest(bits, seconds));
+    let hours = (ours.2)
+        .iter()
+        .zip(ours.3)
+        .all(|(&seconds, bits)| is_nearest(bits, seconds));
     report.same(format_args!("{date:?}, hours of {:?}", ours.2), hours, true);
-    report.same(format_args!("{date:?}, the map after the report"), *m == before, true);
+    report.same(
+        format_args!("{date:?}, the map after the report"),
+        *m == before,
+        true,
+    );
 }
 
 fn random_date(random: &mut Random) -> Date {
@@ -142,7 +190,12 @@ fn random_date(random: &mut Random) -> Date {
             2 => ([1, 2, 12][random.below(3)], 1 + random.below(31)),
             _ => (1 + random.below(12), 1 + random.below(31)),
         };
-        let date = Date { zone: random.below(7) as u8, year, month: month as u8, day: day as u8 };
+        let date = Date {
+            zone: random.below(7) as u8,
+            year,
+            month: month as u8,
+            day: day as u8,
+        };
         if day_of(date).is_some() {
             return date;
         }
@@ -159,8 +212,16 @@ fn random_range(random: &mut Random, day: &Range<i64>) -> Range<i64> {
         _ => day.start - HOUR + random.below(27 * HOUR as usize) as i64,
     };
     loop {
-        let start = if random.once_in(40) { i64::MIN } else { near(random) };
-        let end = if random.once_in(40) { i64::MAX } else { near(random) };
+        let start = if random.once_in(40) {
+            i64::MIN
+        } else {
+            near(random)
+        };
+        let end = if random.once_in(40) {
+            i64::MAX
+        } else {
+            near(random)
+        };
         if start < end {
             return start..end;
         }
@@ -196,7 +257,12 @@ fn histories(report: &mut Report, count: usize) {
 /// Every number of seconds that a day can have, as hours: so much driving, and the rest of the longest day unrecorded.
 fn every_hour(report: &mut Report) {
     report.part("a day's report, every number of seconds as hours".to_string());
-    let date = Date { zone: 0, year: 2024, month: 11, day: 3 };
+    let date = Date {
+        zone: 0,
+        year: 2024,
+        month: 11,
+        day: 3,
+    };
     let day = day_of(date).expect("a good date");
     for seconds in 0..=90_000u32 {
         let mut m = Map::EMPTY;
@@ -204,21 +270,44 @@ fn every_hour(report: &mut Report) {
             m = Map::of(&[((day.start, day.start + i64::from(seconds)), 3)]);
         }
         let r = ask(&mut m, date);
-        let ours = (r.answer, r.driving, r.unrecorded, is_nearest(r.driving_hours.to_bits(), seconds));
-        report.same(format_args!("{seconds} seconds"), ours, (0, seconds, 90_000 - seconds, true));
+        let ours = (
+            r.answer,
+            r.driving,
+            r.unrecorded,
+            is_nearest(r.driving_hours.to_bits(), seconds),
+        );
+        report.same(
+            format_args!("{seconds} seconds"),
+            ours,
+            (0, seconds, 90_000 - seconds, true),
+        );
     }
 }
 
 fn cases(report: &mut Report) {
     report.part("a day's report, document 01's and refusals".to_string());
-    let date = Date { zone: 0, year: 2024, month: 11, day: 3 };
+    let date = Date {
+        zone: 0,
+        year: 2024,
+        month: 11,
+        day: 3,
+    };
     let mut rust = RangeMap::new();
     rust.insert(1_730_606_400..1_730_696_400, 1u8);
     rust.insert(1_730_628_000..1_730_653_200, 3);
     let mut november = map_of(&rust);
     let hours = [18.0, 0.0, 7.0, 0.0, 0.0].map(f64::to_bits);
-    let said = (0, [1_730_606_400, 1_730_696_400], [64_800, 0, 25_200, 0, 0], hours);
-    report.same(format_args!("November"), told(&ask(&mut november, date)), said);
+    let said = (
+        0,
+        [1_730_606_400, 1_730_696_400],
+        [64_800, 0, 25_200, 0, 0],
+        hours,
+    );
+    report.same(
+        format_args!("November"),
+        told(&ask(&mut november, date)),
+        said,
+    );
 
     let mut damaged = november.clone();
     damaged.starts[511] = 1;
@@ -233,12 +322,20 @@ fn cases(report: &mut Report) {
         Date { day: 31, ..date },
         Date { year: 2006, ..date },
         Date { year: 2100, ..date },
-        Date { zone: 0, year: 2023, month: 2, day: 29 },
+        Date {
+            zone: 0,
+            year: 2023,
+            month: 2,
+            day: 29,
+        },
     ];
     // 4 comes before 8, and 8 before 10.
     for (dates, numbers) in [(&good[..], [0, 4, 10]), (&bad[..], [8, 4, 8])] {
         for &date in dates {
-            for (m, number) in [&mut november, &mut damaged, &mut strange].into_iter().zip(numbers) {
+            for (m, number) in [&mut november, &mut damaged, &mut strange]
+                .into_iter()
+                .zip(numbers)
+            {
                 let ours = told(&ask(m, date));
                 let expected = if number == 0 { said } else { refused(number) };
                 report.same(format_args!("{date:?}, refusal {number}"), ours, expected);
