@@ -1,0 +1,24 @@
+-- `total::inclusive::total` meets its contract.
+use mathlib.Core.Path.{sym, _∙_}
+use borrow.Author.Needs.{needs}
+use borrow.Author.Tests.{not-true, not-false}
+use Rattle.outcomes.specs.Sets.{totalling}
+use Rattle.total.proofs.inclusive.total.Statement.{statement}
+use Rattle.total.proofs.inclusive.total.Tie as tie
+
+is-inclusive-set-requires : tie.Need-is-inclusive-set-requires
+is-inclusive-set-requires c κs = search needs
+
+returns : tie.Need-returns
+unfolding totalling
+returns c = rw (sym (c .before .is-inclusive-set .ensures .0) ∙ not-true _ (c .if1 .taken))
+
+total-requires : tie.Need-total-requires
+total-requires c κs = let f = c .before .before .before in f .before .is-inclusive-set .ensures .1 (not-false _ (f .if1 .left))
+
+returns-2 : tie.Need-returns-2
+unfolding totalling
+returns-2 c = let f = c .before .before .before .before in rw (sym (f .before .is-inclusive-set .ensures .0) ∙ not-false _ (f .if1 .left)) (c .total .ensures)
+
+pub total-spec : {M : Type 1} → statement M
+total-spec = tie.close (tie.spec is-inclusive-set-requires returns total-requires returns-2)
