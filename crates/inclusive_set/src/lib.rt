@@ -7,14 +7,15 @@ use outcomes::PLACES;
 use outcomes::Range;
 use outcomes::Stretch;
 use outcomes::Told;
+use outcomes::Total;
 
 pub mod numbers;
 
 ghost use mathlib.Core.Path.{_≡_};
 ghost use Rattle.key.specs.Range.{inclusive};
-ghost use Rattle.outcomes.specs.Numbers.{toldOf, countOf, rangeOf, stretchOf, orderOf};
+ghost use Rattle.outcomes.specs.Numbers.{toldOf, countOf, rangeOf, stretchOf, orderOf, totalOf};
 ghost use Rattle.outcomes.specs.Outcomes.{Listed, cleared, extended, leaving};
-ghost use Rattle.outcomes.specs.Sets.{formedSet};
+ghost use Rattle.outcomes.specs.Sets.{formedSet, intersecting, uniting, totalling};
 ghost use Rattle.sets.specs.Answers.{pairs, setContaining, setCounting, setEquality, setExtending, setFirst, setGaps, setInserting, setIsEmpty, setLast, setLookup, setMeeting, setOrdering, setOverlapping, setRangeAt, setRemoving};
 ghost use Rattle.inclusive_set.specs.Set.{held};
 
@@ -156,7 +157,7 @@ pub extern "C" fn range_inclusive_set_eq(a: &RangeInclusiveSet, b: &RangeInclusi
     )
 }
 
-// Which of two maps comes first: -1, 0 or 1.
+// Which of two sets comes first: -1, 0 or 1.
 #[no_mangle]
 pub extern "C" fn range_inclusive_set_cmp(a: &RangeInclusiveSet, b: &RangeInclusiveSet) -> Order
     ensures { λ r. ⌜ r ≡ orderOf (setOrdering inclusive (held (now (a .entry))) (held (now (b .entry)))) ⌝ }
@@ -236,4 +237,60 @@ pub extern "C" fn range_inclusive_set_well_formed(m: &RangeInclusiveSet) -> bool
     ensures { λ r. ⌜ r ≡ formedSet inclusive (held (now (m .entry))) ⌝ }
 {
     numbers::is_formed(&m.count, &m.starts, &m.ends, &m.values)
+}
+
+// The common points of two sets as maximal ranges, into the first places of two lent lists.
+#[no_mangle]
+pub extern "C" fn range_inclusive_set_intersection(
+    a: &RangeInclusiveSet,
+    b: &RangeInclusiveSet,
+    out_starts: &mut [i64],
+    out_ends: &mut [i64],
+) -> Count
+    ensures { λ r. ⌜ Listed r (now («out_starts» .exit)) (now («out_ends» .exit)) (intersecting inclusive (held (now (a .entry))) (held (now (b .entry))) (now («out_starts» .entry)) (now («out_ends» .entry))) ⌝ }
+{
+    numbers::intersection(
+        &a.count,
+        &a.starts,
+        &a.ends,
+        &a.values,
+        &b.count,
+        &b.starts,
+        &b.ends,
+        &b.values,
+        out_starts,
+        out_ends,
+    )
+}
+
+// The points of either set, into the first places of two lent lists. Ranges that only touch across the two sets stay apart.
+#[no_mangle]
+pub extern "C" fn range_inclusive_set_union(
+    a: &RangeInclusiveSet,
+    b: &RangeInclusiveSet,
+    out_starts: &mut [i64],
+    out_ends: &mut [i64],
+) -> Count
+    ensures { λ r. ⌜ Listed r (now («out_starts» .exit)) (now («out_ends» .exit)) (uniting inclusive (held (now (a .entry))) (held (now (b .entry))) (now («out_starts» .entry)) (now («out_ends» .entry))) ⌝ }
+{
+    numbers::union(
+        &a.count,
+        &a.starts,
+        &a.ends,
+        &a.values,
+        &b.count,
+        &b.starts,
+        &b.ends,
+        &b.values,
+        out_starts,
+        out_ends,
+    )
+}
+
+// How many keys are covered, as a u64; 9 if that is over 2^64 - 1.
+#[no_mangle]
+pub extern "C" fn range_inclusive_set_total(m: &RangeInclusiveSet) -> Total
+    ensures { λ r. ⌜ r ≡ totalOf (totalling inclusive (held (now (m .entry)))) ⌝ }
+{
+    numbers::total(&m.count, &m.starts, &m.ends, &m.values)
 }

@@ -7,14 +7,15 @@ use outcomes::PLACES;
 use outcomes::Range;
 use outcomes::Stretch;
 use outcomes::Told;
+use outcomes::Total;
 
 pub mod numbers;
 
 ghost use mathlib.Core.Path.{_≡_};
 ghost use Rattle.key.specs.Range.{halfOpen};
-ghost use Rattle.outcomes.specs.Numbers.{toldOf, countOf, rangeOf, stretchOf, orderOf};
+ghost use Rattle.outcomes.specs.Numbers.{toldOf, countOf, rangeOf, stretchOf, orderOf, totalOf};
 ghost use Rattle.outcomes.specs.Outcomes.{Listed, cleared, extended, leaving};
-ghost use Rattle.outcomes.specs.Sets.{formedSet};
+ghost use Rattle.outcomes.specs.Sets.{formedSet, intersecting, uniting, totalling};
 ghost use Rattle.sets.specs.Answers.{pairs, setContaining, setCounting, setEquality, setExtending, setFirst, setGaps, setInserting, setIsEmpty, setLast, setLookup, setMeeting, setOrdering, setOverlapping, setRangeAt, setRemoving};
 ghost use Rattle.set.specs.Set.{held};
 
@@ -152,7 +153,7 @@ pub extern "C" fn range_set_eq(a: &RangeSet, b: &RangeSet) -> Told
     )
 }
 
-// Which of two maps comes first: -1, 0 or 1.
+// Which of two sets comes first: -1, 0 or 1.
 #[no_mangle]
 pub extern "C" fn range_set_cmp(a: &RangeSet, b: &RangeSet) -> Order
     ensures { λ r. ⌜ r ≡ orderOf (setOrdering halfOpen (held (now (a .entry))) (held (now (b .entry)))) ⌝ }
@@ -228,4 +229,60 @@ pub extern "C" fn range_set_well_formed(m: &RangeSet) -> bool
     ensures { λ r. ⌜ r ≡ formedSet halfOpen (held (now (m .entry))) ⌝ }
 {
     numbers::is_formed(&m.count, &m.starts, &m.ends, &m.values)
+}
+
+// The common points of two sets as maximal ranges, into the first places of two lent lists.
+#[no_mangle]
+pub extern "C" fn range_set_intersection(
+    a: &RangeSet,
+    b: &RangeSet,
+    out_starts: &mut [i64],
+    out_ends: &mut [i64],
+) -> Count
+    ensures { λ r. ⌜ Listed r (now («out_starts» .exit)) (now («out_ends» .exit)) (intersecting halfOpen (held (now (a .entry))) (held (now (b .entry))) (now («out_starts» .entry)) (now («out_ends» .entry))) ⌝ }
+{
+    numbers::intersection(
+        &a.count,
+        &a.starts,
+        &a.ends,
+        &a.values,
+        &b.count,
+        &b.starts,
+        &b.ends,
+        &b.values,
+        out_starts,
+        out_ends,
+    )
+}
+
+// The points of either set, into the first places of two lent lists. Ranges that only touch across the two sets stay apart.
+#[no_mangle]
+pub extern "C" fn range_set_union(
+    a: &RangeSet,
+    b: &RangeSet,
+    out_starts: &mut [i64],
+    out_ends: &mut [i64],
+) -> Count
+    ensures { λ r. ⌜ Listed r (now («out_starts» .exit)) (now («out_ends» .exit)) (uniting halfOpen (held (now (a .entry))) (held (now (b .entry))) (now («out_starts» .entry)) (now («out_ends» .entry))) ⌝ }
+{
+    numbers::union(
+        &a.count,
+        &a.starts,
+        &a.ends,
+        &a.values,
+        &b.count,
+        &b.starts,
+        &b.ends,
+        &b.values,
+        out_starts,
+        out_ends,
+    )
+}
+
+// How many keys are covered, as a u64; 9 if that is over 2^64 - 1.
+#[no_mangle]
+pub extern "C" fn range_set_total(m: &RangeSet) -> Total
+    ensures { λ r. ⌜ r ≡ totalOf (totalling halfOpen (held (now (m .entry)))) ⌝ }
+{
+    numbers::total(&m.count, &m.starts, &m.ends, &m.values)
 }

@@ -7,17 +7,19 @@ use outcomes::PLACES;
 use outcomes::Range;
 use outcomes::Stretch;
 use outcomes::Told;
+use outcomes::Total;
 use outcomes::count_of;
 use outcomes::order_of;
 use outcomes::range_of;
 use outcomes::stretch_of;
 use outcomes::told_of;
+use outcomes::total_of;
 ghost use mathlib.Core.Path.{_≡_};
 ghost use Rattle.key.specs.Range.{halfOpen};
 ghost use Rattle.outcomes.specs.Stored.{lent};
-ghost use Rattle.outcomes.specs.Numbers.{toldOf, countOf, rangeOf, stretchOf, orderOf};
+ghost use Rattle.outcomes.specs.Numbers.{toldOf, countOf, rangeOf, stretchOf, orderOf, totalOf};
 ghost use Rattle.outcomes.specs.Outcomes.{Listed, cleared, extended, leaving};
-ghost use Rattle.outcomes.specs.Sets.{formedSet};
+ghost use Rattle.outcomes.specs.Sets.{formedSet, intersecting, uniting, totalling};
 ghost use Rattle.sets.specs.Answers.{pairs, setContaining, setCounting, setEquality, setExtending, setFirst, setGaps, setInserting, setIsEmpty, setLast, setLookup, setMeeting, setOrdering, setOverlapping, setRangeAt, setRemoving};
 
 pub fn is_empty<'a>(
@@ -276,4 +278,71 @@ pub fn is_formed<'a>(
     ensures { λ r. ⌜ r ≡ formedSet halfOpen (lent (count .entry) (starts .entry) (ends .entry) (values .entry)) ⌝ }
 {
     places::plain::is_set(*count, starts, ends, values)
+}
+
+pub fn intersection<'a, 'b>(
+    count: &'a usize,
+    starts: &'a [i64; PLACES],
+    ends: &'a [i64; PLACES],
+    values: &'a [u8; PLACES],
+    count2: &'b usize,
+    starts2: &'b [i64; PLACES],
+    ends2: &'b [i64; PLACES],
+    values2: &'b [u8; PLACES],
+    out_starts: &mut [i64],
+    out_ends: &mut [i64],
+) -> Count
+    ensures { λ r. ⌜ Listed r (now («out_starts» .exit)) (now («out_ends» .exit)) (intersecting halfOpen (lent (count .entry) (starts .entry) (ends .entry) (values .entry)) (lent (count2 .entry) (starts2 .entry) (ends2 .entry) (values2 .entry)) (now («out_starts» .entry)) (now («out_ends» .entry))) ⌝ }
+{
+    count_of(intersection::half_open::intersection(
+        count,
+        starts,
+        ends,
+        values,
+        count2,
+        starts2,
+        ends2,
+        values2,
+        out_starts,
+        out_ends,
+    ))
+}
+
+pub fn union<'a, 'b>(
+    count: &'a usize,
+    starts: &'a [i64; PLACES],
+    ends: &'a [i64; PLACES],
+    values: &'a [u8; PLACES],
+    count2: &'b usize,
+    starts2: &'b [i64; PLACES],
+    ends2: &'b [i64; PLACES],
+    values2: &'b [u8; PLACES],
+    out_starts: &mut [i64],
+    out_ends: &mut [i64],
+) -> Count
+    ensures { λ r. ⌜ Listed r (now («out_starts» .exit)) (now («out_ends» .exit)) (uniting halfOpen (lent (count .entry) (starts .entry) (ends .entry) (values .entry)) (lent (count2 .entry) (starts2 .entry) (ends2 .entry) (values2 .entry)) (now («out_starts» .entry)) (now («out_ends» .entry))) ⌝ }
+{
+    count_of(union::half_open::union(
+        count,
+        starts,
+        ends,
+        values,
+        count2,
+        starts2,
+        ends2,
+        values2,
+        out_starts,
+        out_ends,
+    ))
+}
+
+pub fn total<'a>(
+    count: &'a usize,
+    starts: &'a [i64; PLACES],
+    ends: &'a [i64; PLACES],
+    values: &'a [u8; PLACES],
+) -> Total
+    ensures { λ r. ⌜ r ≡ totalOf (totalling halfOpen (lent (count .entry) (starts .entry) (ends .entry) (values .entry))) ⌝ }
+{
+    total_of(total::half_open::total(count, starts, ends, values))
 }
