@@ -1,4 +1,4 @@
--- The laws: Laws, Sets, Union, Total, Order, Fewest; document 01 in Cases. For proofs about code: Pieces, Local. Beneath: Tests, Holding.
+-- The laws: Laws, Sets, Union, Total, Order, Fewest; document 01 in Cases. For proofs about code: Pieces, Local, Walks. Beneath: Tests, Holding.
 pub mod Tests
 pub mod Holding
 pub mod Laws

@@ -1,0 +1,99 @@
+-- What the outcomes of sets mean, for both kinds, of any two sound sets: the points of a union and of an intersection, their totals, and that neither depends on the order.
+use Prim.Native.Nat.{ℕ, zero, suc, _+_}
+use native.Mathlib.Omega.{arith}
+use mathlib.Core.Path.{_≡_, refl, sym, ap, _∙_}
+use mathlib.Core.Bool.{Bool, true, false, _&&_, _||_, cond}
+use mathlib.Core.List.{List, [], _∷_}
+use mathlib.Core.Option.{Option, some, none}
+use borrow.Author.Tests.{eqb-true}
+use lib.Dec.{eqb}
+use lib.ListN.{length, take}
+use lib.IntN.{ℤ}
+use Rattle.span.specs.Span.{Span, Ordered}
+use Rattle.span.specs.Operations.{Plain, common, when, united, any, holds, links, total}
+use Rattle.span.proofs.Tests.{both}
+use Rattle.span.proofs.Sets.{common-means, common-plain}
+use Rattle.span.proofs.Union.{holds-united, links-united, at-plain}
+use Rattle.span.proofs.Walks.{common-swap, united-swap}
+use Rattle.span.proofs.Total.{total-both}
+use Rattle.key.specs.Range.{Kind}
+use Rattle.key.proofs.Answers.{one-answer}
+use Rattle.outcomes.specs.Stored.{Stored, spans, ranges, noughts}
+use Rattle.outcomes.specs.Outcomes.{Written}
+use Rattle.outcomes.specs.Sets.{plain, SoundSet, unionOf, intersecting, uniting, intersected, joining}
+use Rattle.outcomes.specs.declared.Counted.{Counted}
+use Rattle.outcomes.proofs.Formed.{Formed, formed}
+
+-- the ranges of a set have value 0
+plain-spans : (kind : Kind) (ss es : List ℤ) (vs : List ℕ) → noughts vs ≡ true → Plain (spans kind ss es vs)
+unfolding spans noughts
+plain-spans kind [] es vs e = tt
+plain-spans kind (s ∷ ss) [] vs e = tt
+plain-spans kind (s ∷ ss) (e ∷ es) [] h = tt
+plain-spans kind (s ∷ ss) (e ∷ es) (v ∷ vs) h = let (a, b) = both (eqb v 0) (noughts vs) h in (eqb-true v 0 a, plain-spans kind ss es vs b)
+
+plain-take : (n : ℕ) (xs : List Span) → Plain xs → Plain (take n xs)
+plain-take zero xs p = tt
+plain-take (suc n) [] p = tt
+plain-take (suc n) (x ∷ xs) p = (p .0, plain-take n xs (p .1))
+
+module _ (kind : Kind) {m : Stored} (set : SoundSet kind m) where
+  set-plain : Plain (ranges kind m)
+  unfolding ranges plain
+  set-plain = plain-take (m .count) (spans kind (m .starts) (m .ends) (m .values)) (plain-spans kind (m .starts) (m .ends) (m .values) (set .plain-too))
+
+  set-ordered : Ordered 0 (ranges kind m)
+  set-ordered = formed kind (length (m .starts)) m (set .sound .well) .tidy .ordered
+
+-- does a list hold the instant
+abbrev pub covers : List Span → ℕ → Bool
+covers m k = any (holds k) m
+
+both-hold : (r s t : Bool) → cond {A = Option ℕ} r (some 0) none ≡ when (cond s (some 0) none) (cond t (some 0) none) → r ≡ (s && t)
+both-hold true true true e = refl
+both-hold false true true e = absurd (let z : _≡_ {A = ℕ} 0 1 = cc in omega arith)
+both-hold true true false e = absurd (let z : _≡_ {A = ℕ} 0 1 = cc in omega arith)
+both-hold false true false e = refl
+both-hold true false t e = absurd (let z : _≡_ {A = ℕ} 0 1 = cc in omega arith)
+both-hold false false t e = refl
+
+module _ (kind : Kind) {a b : Stored} (s : SoundSet kind a) (t : SoundSet kind b) where
+  -- INTERSECTION: an instant is in it exactly when it is in both
+  pub intersection-points : (k : ℕ) → covers (common (ranges kind a) (ranges kind b)) k ≡ (covers (ranges kind a) k && covers (ranges kind b) k)
+  intersection-points k =
+      let x = ranges kind a in
+      let y = ranges kind b in
+      let c = common-means x y (set-ordered kind s) (set-ordered kind t) in
+      both-hold (covers (common x y) k) (covers x k) (covers y k)
+      (sym (at-plain (common x y) k (common-plain x y (set-ordered kind s) (set-ordered kind t) (set-plain kind t))) ∙ c .holds k ∙ rw (at-plain x k (set-plain kind s), at-plain y k (set-plain kind t)))
+
+  -- it is the same list either way, and so is what is written
+  pub intersection-swaps : common (ranges kind a) (ranges kind b) ≡ common (ranges kind b) (ranges kind a)
+  intersection-swaps = common-swap (ranges kind a) (ranges kind b) (set-ordered kind s) (set-ordered kind t) (set-plain kind s) (set-plain kind t)
+
+  pub intersected-swaps : (starts ends : List ℤ) → intersected kind a b starts ends ≡ intersected kind b a starts ends
+  unfolding intersected
+  intersected-swaps starts ends = rw intersection-swaps
+
+  -- UNION: an instant is in it exactly when it is in one of the two. This says nothing of neighbours
+  pub union-points : (k : ℕ) → covers (unionOf (ranges kind a) (ranges kind b)) k ≡ (covers (ranges kind a) k || covers (ranges kind b) k)
+  unfolding unionOf
+  union-points k = holds-united k (ranges kind a) (ranges kind b) (set-ordered kind s) (set-ordered kind t)
+
+  -- two neighbouring instants lie in one range of it exactly when one range of either set holds both
+  pub union-neighbours : (k : ℕ) → any (links k) (unionOf (ranges kind a) (ranges kind b)) ≡ (any (links k) (ranges kind a) || any (links k) (ranges kind b))
+  unfolding unionOf
+  union-neighbours k = links-united k (ranges kind a) (ranges kind b) (set-ordered kind s) (set-ordered kind t)
+
+  pub union-swaps : unionOf (ranges kind a) (ranges kind b) ≡ unionOf (ranges kind b) (ranges kind a)
+  unfolding unionOf
+  union-swaps = united-swap (ranges kind a) (ranges kind b) (set-ordered kind s) (set-ordered kind t) (set-plain kind s) (set-plain kind t)
+
+  -- TOTALS: those of the union and of the intersection add up to those of the two sets
+  pub totals-add : total (unionOf (ranges kind a) (ranges kind b)) + total (common (ranges kind a) (ranges kind b)) ≡ total (ranges kind a) + total (ranges kind b)
+  unfolding unionOf
+  totals-add = total-both (ranges kind a) (ranges kind b) (set-ordered kind s) (set-ordered kind t) (set-plain kind s) (set-plain kind t)
+
+-- ONE OUTCOME of a list that is written: the answer, and both lent lists. A total has `one-answer`
+pub written-one : {r t : Counted} {ss es ss′ es′ : List ℤ} {w : Written} → record { answer = r; starts = ss; ends = es } ≡ w → record { answer = t; starts = ss′; ends = es′ } ≡ w → (r ≡ t) × (ss ≡ ss′) × (es ≡ es′)
+written-one a b = (ap (λ (w : Written). w .answer) (one-answer a b), ap (λ (w : Written). w .starts) (one-answer a b), ap (λ (w : Written). w .ends) (one-answer a b))
