@@ -45,9 +45,11 @@ fn step(
     requires { ⌜ (i < length (now «starts_a»)) × (i < length (now «ends_a»)) × (j < length (now «starts_b»)) × (j < length (now «ends_b»)) ⌝ }
     ensures { λ r. ⌜ Stepped closed (now («starts_a» .entry)) (now («ends_a» .entry)) i (now («starts_b» .entry)) (now («ends_b» .entry)) j r ⌝ }
 {
+    let start_a = starts_a[i];
+    let start_b = starts_b[j];
     let end_a = ends_a[i];
     let end_b = ends_b[j];
-    let start = key::max(starts_a[i], starts_b[j]);
+    let start = key::max(start_a, start_b);
     let end = key::min(end_a, end_b);
     Overlap {
         start,

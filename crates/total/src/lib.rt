@@ -7,14 +7,22 @@ pub mod half_open;
 pub mod inclusive;
 
 ghost use mathlib.Core.Path.{_≡_};
-ghost use Prim.Native.Nat.{_≤_, _<_};
+ghost use Prim.Native.Nat.{_-_, _≤_, _<_};
 ghost use Rattle.key.specs.Decides.{Decides};
-ghost use Rattle.key.specs.Rank.{keys};
+ghost use Rattle.key.specs.Rank.{rank, keys};
 ghost use Rattle.outcomes.specs.Stored.{stored};
 ghost use Rattle.outcomes.specs.Sets.{SoundSet, totalled};
 ghost use Rattle.pairs.specs.Kind.{kindOf};
 ghost use Rattle.pairs.specs.Sides.{Side};
 ghost use Rattle.total.specs.Sum.{sumOf};
+
+// How far apart two keys are.
+fn apart(start: i64, end: i64) -> u64
+    requires { ⌜ rank start ≤ rank end ⌝ }
+    ensures { λ r. ⌜ r ≡ rank end - rank start ⌝ }
+{
+    key::rank_of(end) - key::rank_of(start)
+}
 
 // Whether the set is the one range of all keys. No u64 holds its total, and it is the only such set.
 fn full(closed: bool, starts: &[i64], ends: &[i64], count: usize) -> bool
@@ -27,7 +35,7 @@ fn full(closed: bool, starts: &[i64], ends: &[i64], count: usize) -> bool
     if count == 0 {
         return false;
     }
-    let below = key::rank_of(ends[0]) - key::rank_of(starts[0]);
+    let below = apart(starts[0], ends[0]);
     if below == 18446744073709551615 {
         return true;
     }
@@ -42,7 +50,7 @@ fn sum(closed: bool, starts: &[i64], ends: &[i64], count: usize) -> u64
     let mut total = 0;
     let mut k = 0;
     while k < count {
-        total += key::rank_of(ends[k]) - key::rank_of(starts[k]) + closed as u64;
+        total += apart(starts[k], ends[k]) + closed as u64;
         k += 1;
     }
     total

@@ -140,11 +140,11 @@ fn write_from(
     while i + j < total {
         put(out_starts, out_ends, at, lo, hi);
         let t = next(starts_a, ends_a, count_a, i, starts_b, ends_b, count_b, j);
-        let joins = meets(closed, t.start, hi);
+        let same = meets(closed, t.start, hi);
         i += t.left as usize;
         j += !t.left as usize;
-        at += !joins as usize;
-        lo = pick(joins, lo, t.start);
+        at += !same as usize;
+        lo = pick(same, lo, t.start);
         hi = key::max(hi, t.end);
     }
     put(out_starts, out_ends, at, lo, hi);

@@ -1,43 +1,43 @@
 -- `intersection::step` meets its contract.
+use native.Mathlib.Omega.{arith}
 use lib.ListN.{getD}
 use lib.IntN.{pos}
-use borrow.Author.Needs.{needs}
 use Rattle.pairs.proofs.Closed.{greater-rank, lesser-rank, lt-test}
 use Rattle.intersection.proofs.step.Statement.{statement}
 use Rattle.intersection.proofs.step.Tie as tie
 
+mul-start-a : tie.Need-mul-start-a
+mul-start-a c = omega arith
+
+shared-slice-copy-out-start-a : tie.Need-shared-slice-copy-out-start-a
+shared-slice-copy-out-start-a c = omega arith
+
+mul-start-b : tie.Need-mul-start-b
+mul-start-b c = omega arith
+
+shared-slice-copy-out-start-b : tie.Need-shared-slice-copy-out-start-b
+shared-slice-copy-out-start-b c = omega arith
+
 mul-end-a : tie.Need-mul-end-a
-mul-end-a c = search needs
+mul-end-a c = omega arith
 
 shared-slice-copy-out-end-a : tie.Need-shared-slice-copy-out-end-a
-shared-slice-copy-out-end-a c = search needs
+shared-slice-copy-out-end-a c = omega arith
 
 mul-end-b : tie.Need-mul-end-b
-mul-end-b c = search needs
+mul-end-b c = omega arith
 
 shared-slice-copy-out-end-b : tie.Need-shared-slice-copy-out-end-b
-shared-slice-copy-out-end-b c = search needs
-
-mul-max : tie.Need-mul-max
-mul-max c = search needs
-
-shared-slice-copy-out-max : tie.Need-shared-slice-copy-out-max
-shared-slice-copy-out-max c = search needs
-
-mul-max-2 : tie.Need-mul-max-2
-mul-max-2 c = search needs
-
-shared-slice-copy-out-max-2 : tie.Need-shared-slice-copy-out-max-2
-shared-slice-copy-out-max-2 c = search needs
+shared-slice-copy-out-end-b c = omega arith
 
 max-requires : tie.Need-max-requires
-max-requires c κs = search needs
+max-requires c κs = tt
 
 min-requires : tie.Need-min-requires
-min-requires c κs = search needs
+min-requires c κs = tt
 
 meets-requires : tie.Need-meets-requires
-meets-requires c κs = search needs
+meets-requires c κs = tt
 
 returns : tie.Need-returns
 returns c =
@@ -53,14 +53,14 @@ pub step-spec : {M : Type 1} → statement M
 step-spec =
     tie.close
     (tie.spec
+    mul-start-a
+    shared-slice-copy-out-start-a
+    mul-start-b
+    shared-slice-copy-out-start-b
     mul-end-a
     shared-slice-copy-out-end-a
     mul-end-b
     shared-slice-copy-out-end-b
-    mul-max
-    shared-slice-copy-out-max
-    mul-max-2
-    shared-slice-copy-out-max-2
     max-requires
     min-requires
     meets-requires

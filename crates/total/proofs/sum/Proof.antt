@@ -1,7 +1,8 @@
 -- `total::sum` meets its contract.
 use Prim.Native.Nat.{_+_, _-_, _≤_}
 use native.Mathlib.Omega.{arith}
-use mathlib.Core.Path.{_≡_}
+use mathlib.Core.Path.{_≡_, refl}
+use mir.Val.{boolByte}
 use Rattle.span.specs.Operations.{total}
 use Rattle.key.proofs.Laws.{rank-back}
 use Rattle.pairs.specs.Kind.{kindOf}
@@ -20,44 +21,41 @@ abbrev μ-loop : tie.MeasureT-loop
 loop-holds : tie.Need-loop-holds Inv-loop μ-loop
 loop-holds c = (omega arith, omega (arith, sum-all (c .args .closed) (c .pre .0)))
 
-mul-rank-of : tie.Need-mul-rank-of Inv-loop μ-loop
-mul-rank-of c = omega arith
+mul-apart : tie.Need-mul-apart Inv-loop μ-loop
+mul-apart c = omega arith
 
-shared-slice-copy-out-rank-of : tie.Need-shared-slice-copy-out-rank-of Inv-loop μ-loop
-shared-slice-copy-out-rank-of c = omega arith
+shared-slice-copy-out-apart : tie.Need-shared-slice-copy-out-apart Inv-loop μ-loop
+shared-slice-copy-out-apart c = omega arith
 
-rank-of-requires : tie.Need-rank-of-requires Inv-loop μ-loop
-rank-of-requires c κs = tt
+mul-apart-2 : tie.Need-mul-apart-2 Inv-loop μ-loop
+mul-apart-2 c = omega arith
 
-mul-rank-of-2 : tie.Need-mul-rank-of-2 Inv-loop μ-loop
-mul-rank-of-2 c = omega arith
+shared-slice-copy-out-apart-2 : tie.Need-shared-slice-copy-out-apart-2 Inv-loop μ-loop
+shared-slice-copy-out-apart-2 c = omega arith
 
-shared-slice-copy-out-rank-of-2 : tie.Need-shared-slice-copy-out-rank-of-2 Inv-loop μ-loop
-shared-slice-copy-out-rank-of-2 c = omega arith
-
-rank-of-requires-2 : tie.Need-rank-of-requires-2 Inv-loop μ-loop
-rank-of-requires-2 c κs = tt
-
-sub-total : tie.Need-sub-total Inv-loop μ-loop
-sub-total c =
-    let s = c .before .before .before .before .before .before in
-    let l = c .before .before .before .before .before .loop in
-    omega (arith, length-at (s .args .closed) (s .pre .0) (l .k) (omega arith) (simp rank-back at (c .rank-of2 .ensures)) (simp rank-back at (c .before .before .rank-of .ensures)))
+apart-requires : tie.Need-apart-requires Inv-loop μ-loop
+apart-requires c κs =
+    let s = c .before .before .before .before in
+    let l = c .before .before .before .loop in
+    simp rank-back (length-at (s .args .closed) (s .pre .0) (l .k) (omega arith) refl refl)
 
 cast-total : tie.Need-cast-total Inv-loop μ-loop
 cast-total c = tt
 
+-- what the step adds
+adds : (c : tie.After-apart Inv-loop μ-loop) → let s = c .before .before .before .before .before in let l = c .before .before .before .before .loop in
+    total (rest (kindOf (s .args .closed)) (s .args .starts .now) (s .args .ends .now) (s .args .count) (l .k)) ≡ (c .apart .result + boolByte (s .args .closed)) + total (rest (kindOf (s .args .closed)) (s .args .starts .now) (s .args .ends .now) (s .args .count) (l .k + 1))
+adds c =
+    let s = c .before .before .before .before .before in
+    let l = c .before .before .before .before .loop in
+    let e = simp rank-back at (c .apart .ensures) in
+    rw (wide-byte (s .args .closed), e) (sum-more (s .args .closed) (s .pre .0) (l .k) (omega arith) refl refl)
+
 add-total : tie.Need-add-total Inv-loop μ-loop
-add-total c =
-    let s = c .before .before .before .before .before .before in
-    let l = c .before .before .before .before .before .loop in
-    omega (arith, sum-more (s .args .closed) (s .pre .0) (l .k) (omega arith) (simp rank-back at (c .rank-of2 .ensures)) (simp rank-back at (c .before .before .rank-of .ensures)), wide-byte (s .args .closed))
+add-total c = omega (arith, adds c)
 
 add-total-2 : tie.Need-add-total-2 Inv-loop μ-loop
-add-total-2 c =
-    let s = c .before .before .before .before .before .before in
-    let l = c .before .before .before .before .before .loop in
-    omega (arith, sum-more (s .args .closed) (s .pre .0) (l .k) (omega arith) (simp rank-back at (c .rank-of2 .ensures)) (simp rank-back at (c .before .before .rank-of .ensures)), wide-byte (s .args .closed))
+add-total-2 c = omega (arith, adds c)
 
 add-k : tie.Need-add-k Inv-loop μ-loop
 add-k c = omega arith
@@ -66,10 +64,7 @@ loop-less : tie.Need-loop-less Inv-loop μ-loop
 loop-less c = omega arith
 
 loop-again : tie.Need-loop-again Inv-loop μ-loop
-loop-again c =
-    let s = c .before .before .before .before .before .before in
-    let l = c .before .before .before .before .before .loop in
-    (omega arith, omega (arith, sum-more (s .args .closed) (s .pre .0) (l .k) (omega arith) (simp rank-back at (c .rank-of2 .ensures)) (simp rank-back at (c .before .before .rank-of .ensures)), wide-byte (s .args .closed)))
+loop-again c = (omega arith, omega (arith, adds c))
 
 returns : tie.Need-returns Inv-loop μ-loop
 returns c =
@@ -84,13 +79,11 @@ sum-spec =
     Inv-loop
     μ-loop
     loop-holds
-    mul-rank-of
-    shared-slice-copy-out-rank-of
-    rank-of-requires
-    mul-rank-of-2
-    shared-slice-copy-out-rank-of-2
-    rank-of-requires-2
-    sub-total
+    mul-apart
+    shared-slice-copy-out-apart
+    mul-apart-2
+    shared-slice-copy-out-apart-2
+    apart-requires
     cast-total
     add-total
     add-total-2
