@@ -350,3 +350,7 @@ one-nearest x y a c p q = elim (p .nearer y (q .double) (q .is-finite)) [
   | inl t ↦ inl t
   | inr h ↦ elim (q .nearer x (p .double) (p .is-finite)) [ inl t ↦ inr t | inr k ↦ absurd (omega arith) ]
 ]
+
+-- NO TIE: a double as near as the hours is the same number, so "ties to even" never has to choose
+pub hours-no-tie : (s : ℕ) → s < 2 ^ 32 → (y : Float) → T (fits binary64 y) → T (finite y) → far (hoursOf s) s 3600 * den y ≡ far y s 3600 * den (hoursOf s) → T (eq (hoursOf s) y)
+hours-no-tie s h y t u e = elim (hours-nearest s h .nearer y t u) [ inl w ↦ w | inr w ↦ absurd (omega arith) ]
