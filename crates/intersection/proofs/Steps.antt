@@ -21,11 +21,6 @@ use Rattle.pairs.proofs.Writing.{Going, going-step}
 use Rattle.intersection.specs.Found.{shared, sharedFrom, Stepped}
 use Rattle.intersection.specs.declared.Overlap.{Overlap}
 
--- one place on in one of the two, and in no other
-pub one-goes : (left : Bool) → (boolByte left ≤ 1) × (boolByte left + boolByte (not left) ≡ 1)
-one-goes true = (omega arith, refl)
-one-goes false = (omega arith, refl)
-
 module _ (w s e t f : ℕ) (xs ys : List Span) (a : Spaced 0 (span s (w + e) 0 ∷ xs)) (b : Spaced 0 (span t (w + f) 0 ∷ ys)) where
   -- what the two ranges have in common, if they have
   meet-is : meet (span s (w + e) 0) (span t (w + f) 0) ≡ cond (ltb (max s t) (w + min e f)) (span (max s t) (w + min e f) 0 ∷ []) []

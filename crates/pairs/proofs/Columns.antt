@@ -3,11 +3,12 @@ use Prim.Native.Nat.{ℕ, zero, suc, _+_, _≤_, _<_}
 use native.Mathlib.Omega.{arith}
 use native.Mathlib.Numerals.{add-one}
 use mathlib.Core.Path.{_≡_, refl, sym, ap, _∙_}
-use mathlib.Core.Bool.{Bool}
+use mathlib.Core.Bool.{Bool, true, false, not}
 use mathlib.Core.List.{List, [], _∷_}
 use lib.ListN.{length, getD, take, drop, replicate, length-replicate, length-drop, drop-of-length-le}
 use lib.Seq.{drop-cons, drop-nil, getD-take, length-take-le}
 use lib.IntN.{ℤ, pos}
+use mir.Val.{boolByte}
 use Rattle.span.specs.Span.{Span, span}
 use Rattle.span.specs.Operations.{Plain}
 use Rattle.span.proofs.Walks.{Spaced, spaced-from, tidy-spaced}
@@ -18,6 +19,11 @@ use Rattle.outcomes.proofs.Formed.{length-spans, getD-spans}
 use Rattle.pairs.specs.Kind.{kindOf, wide}
 use Rattle.pairs.specs.Sides.{rows, rest, Side}
 use Rattle.pairs.proofs.Closed.{past-is}
+
+-- a walk over two sides goes one place on in one of the two, and in no other
+pub one-goes : (left : Bool) → (boolByte left ≤ 1) × (boolByte left + boolByte (not left) ≡ 1)
+one-goes true = (omega arith, refl)
+one-goes false = (omega arith, refl)
 
 getD-noughts : (n k : ℕ) → _≡_ {A = ℕ} (getD (replicate n 0) k 0) 0
 getD-noughts zero k = refl

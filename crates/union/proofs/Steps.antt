@@ -24,11 +24,6 @@ use Rattle.pairs.proofs.Writing.{Counting, counting-step, Going, going-step}
 use Rattle.union.specs.Found.{either, openFrom, Opened, Takes, Next}
 use Rattle.union.specs.declared.Taken.{Taken}
 
--- one place on in one of the two, and in no other
-pub one-goes : (left : Bool) → (boolByte left ≤ 1) × (boolByte left + boolByte (not left) ≡ 1)
-one-goes true = (omega arith, refl)
-one-goes false = (omega arith, refl)
-
 -- THE NEXT RANGE: of one set where the other is at its end, and else of the one that starts first
 alone : {ss es ts : List ℤ} {n m k l : ℕ} (r : Taken) → k < n → m ≤ l → rank (r .start) ≡ rank (getD ss k (pos 0)) → rank (r .end) ≡ rank (getD es k (pos 0)) → Takes ss es n k ts m l r
 alone r there h s e = record { there = there; start = s; end = e; first = λ i. absurd (omega arith) }

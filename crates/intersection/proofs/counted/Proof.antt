@@ -5,8 +5,9 @@ use mathlib.Core.Bool.{not}
 use borrow.Author.Tests.{ltb-true, ltb-false}
 use mir.Val.{boolByte}
 use Rattle.pairs.proofs.Writing.{Counting, counting-step, counting-done}
+use Rattle.pairs.proofs.Columns.{one-goes}
 use Rattle.intersection.specs.Found.{shared, sharedFrom}
-use Rattle.intersection.proofs.Steps.{one-goes, most, found-all, found-none, found-no, step-found}
+use Rattle.intersection.proofs.Steps.{most, found-all, found-none, found-no, step-found}
 use Rattle.intersection.proofs.counted.Statement.{statement}
 use Rattle.intersection.proofs.counted.Tie as tie
 

@@ -14,8 +14,9 @@ use Rattle.key.proofs.Laws.{rank-back}
 use Rattle.pairs.specs.Kind.{kindOf, wide}
 use Rattle.pairs.proofs.Closed.{put-start, put-end}
 use Rattle.pairs.proofs.Writing.{Going, going-first, going-room, going-last}
+use Rattle.pairs.proofs.Columns.{one-goes}
 use Rattle.intersection.specs.Found.{sharedFrom}
-use Rattle.intersection.proofs.Steps.{one-goes, found-none, found-no, going-found}
+use Rattle.intersection.proofs.Steps.{found-none, found-no, going-found}
 use Rattle.intersection.proofs.write_from.Statement.{statement}
 use Rattle.intersection.proofs.write_from.Tie as tie
 

@@ -8,8 +8,9 @@ use Rattle.key.specs.Rank.{bitRank}
 use Rattle.key.proofs.Laws.{rank-back}
 use Rattle.pairs.proofs.Closed.{greater-bits}
 use Rattle.pairs.proofs.Writing.{Counting, counting-one}
+use Rattle.pairs.proofs.Columns.{one-goes}
 use Rattle.union.specs.Found.{openFrom, Opened}
-use Rattle.union.proofs.Steps.{one-goes, still-open, counting-on, open-last}
+use Rattle.union.proofs.Steps.{still-open, counting-on, open-last}
 use Rattle.union.proofs.counted_from.Statement.{statement}
 use Rattle.union.proofs.counted_from.Tie as tie
 

@@ -11,8 +11,9 @@ use Rattle.key.proofs.Laws.{rank-back}
 use Rattle.pairs.specs.Kind.{kindOf, wide}
 use Rattle.pairs.proofs.Closed.{greater-bits, put-start, put-end}
 use Rattle.pairs.proofs.Writing.{Going, going-first, going-room, going-last}
+use Rattle.pairs.proofs.Columns.{one-goes}
 use Rattle.union.specs.Found.{openFrom, Opened}
-use Rattle.union.proofs.Steps.{one-goes, still-open, going-on, open-last}
+use Rattle.union.proofs.Steps.{still-open, going-on, open-last}
 use Rattle.union.proofs.write_from.Statement.{statement}
 use Rattle.union.proofs.write_from.Tie as tie
 
