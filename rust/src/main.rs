@@ -58,6 +58,7 @@ fn replay(module: &str) -> bool {
         "relations" => print!("{}", relations::replay()),
         "map" => print!("{}", maps::replay()),
         "inclusive_map" => print!("{}", maps::replay_inclusive()),
+        "set" => print!("{}", sets::replay()),
         _ => {
             eprintln!("there is no replay of {module}");
             return false;

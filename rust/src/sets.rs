@@ -1,5 +1,6 @@
 //! Modules 4 and 5: sets of half-open and of inclusive ranges. What a map has too is compared as the maps are.
 mod kind;
+mod replay;
 
 use crate::maps::kind::{HalfOpen, Inclusive};
 use crate::maps::{self, compare_kind};
@@ -27,4 +28,9 @@ pub const FULL: maps::Size = maps::Size {
 pub fn compare(report: &mut Report, size: &maps::Size) {
     compare_kind::<Set<HalfOpen>>(report, size);
     compare_kind::<Set<Inclusive>>(report, size);
+}
+
+/// What crates/test_set has to print.
+pub fn replay() -> String {
+    replay::replay::<Set<HalfOpen>, Set<Inclusive>>()
 }

@@ -1,0 +1,50 @@
+-- `test_set::print_ranges` is safe and ends: the measure is the number of ranges of all sets that are left.
+use Prim.Native.Nat.{_-_}
+use native.Mathlib.Omega.{arith}
+use Rattle.test_set.proofs.print_ranges.Statement.{statement}
+use Rattle.test_set.proofs.print_ranges.Tie as tie
+
+abbrev Inv-loop : tie.InvT-loop
+Inv-loop kind i₀ i = Unit {0}
+
+abbrev μ-loop : tie.MeasureT-loop
+μ-loop kind i₀ i = 425 - i
+
+loop-holds : tie.Need-loop-holds Inv-loop μ-loop
+loop-holds c = tt
+
+set-at-requires : tie.Need-set-at-requires Inv-loop μ-loop
+set-at-requires c κs = tt
+
+range-at-requires : tie.Need-range-at-requires Inv-loop μ-loop
+range-at-requires c κs = tt
+
+print-over-requires : tie.Need-print-over-requires Inv-loop μ-loop
+print-over-requires c κs = tt
+
+add-i : tie.Need-add-i Inv-loop μ-loop
+add-i c = omega arith
+
+loop-less : tie.Need-loop-less Inv-loop μ-loop
+loop-less c = omega arith
+
+loop-again : tie.Need-loop-again Inv-loop μ-loop
+loop-again c = tt
+
+returns : tie.Need-returns Inv-loop μ-loop
+returns c = tt
+
+pub print-ranges-spec : {M : Type 1} → statement M
+print-ranges-spec =
+    tie.close
+    (tie.spec
+    Inv-loop
+    μ-loop
+    loop-holds
+    set-at-requires
+    range-at-requires
+    print-over-requires
+    add-i
+    loop-less
+    loop-again
+    returns)
