@@ -14,7 +14,8 @@
  *   8  bad zone or date
  *   9  total over 2^64 - 1
  *  10  status outside 1 to 4 in the day
- * Where several apply, the first of 4, 1, 8, 6, 10, 9, 5, 2, 3 is given. The first lent map is checked before the second.
+ * Where several apply, the first of 4, 1, 8, 6, 10, 9, 5, 2, 3 is given. The first lent map or set is
+ * checked before the second.
  * On any number but 0, every other result field is 0 and all lent memory is unchanged. Bulk insert alone differs: see there.
  *
  * RANGES
@@ -46,6 +47,9 @@ extern "C" {
 
 /* The longest list of gaps: one before each range, and one behind the last. */
 #define HOURLEDGER_GAPS (HOURLEDGER_PLACES + 1)
+
+/* The longest union of two sets: every range of both, for no output list is bound to 512. An intersection is shorter. */
+#define HOURLEDGER_UNION (2 * HOURLEDGER_PLACES)
 
 /*
  * A map of half-open ranges. Well formed: the count is at most 512, no stored range is empty or reversed,
@@ -141,6 +145,12 @@ typedef struct LedgerApplied {
     uint8_t answer;
     size_t applied;
 } LedgerApplied;
+
+/* How many keys a set covers. */
+typedef struct LedgerTotal {
+    uint8_t answer;
+    uint64_t total;
+} LedgerTotal;
 
 /* ---- RELATIONS OF HALF-OPEN RANGES ---- */
 
@@ -401,6 +411,26 @@ LedgerOrder range_set_cmp(const RangeSet *m, const RangeSet *other);
 LedgerApplied range_set_extend(RangeSet *m, const int64_t *starts, size_t starts_length,
                                const int64_t *ends, size_t ends_length);
 
+/*
+ * Writes the points that both sets cover, as maximal ranges, ascending. 3 if they do not fit into the lists.
+ * The two may be the same set.
+ */
+LedgerCount range_set_intersection(const RangeSet *m, const RangeSet *other,
+                                   int64_t *out_starts, size_t out_starts_length,
+                                   int64_t *out_ends, size_t out_ends_length);
+
+/*
+ * Writes the points that one of the sets covers, or both, as ranges that ascend without overlap. Two neighbouring
+ * points lie in one of them exactly when one stored range holds both: {0..3} and {3..5} make two ranges.
+ * 3 if they do not fit into the lists. The two may be the same set.
+ */
+LedgerCount range_set_union(const RangeSet *m, const RangeSet *other,
+                            int64_t *out_starts, size_t out_starts_length,
+                            int64_t *out_ends, size_t out_ends_length);
+
+/* How many keys are covered. 9 if they are over 2^64 - 1, which no half-open set reaches. */
+LedgerTotal range_set_total(const RangeSet *m);
+
 /* ---- SETS OF INCLUSIVE RANGES ---- */
 
 /* A new empty set. */
@@ -465,6 +495,26 @@ LedgerOrder range_inclusive_set_cmp(const RangeInclusiveSet *m, const RangeInclu
  */
 LedgerApplied range_inclusive_set_extend(RangeInclusiveSet *m, const int64_t *starts, size_t starts_length,
                                          const int64_t *ends, size_t ends_length);
+
+/*
+ * Writes the points that both sets cover, as maximal ranges, ascending. 3 if they do not fit into the lists.
+ * The two may be the same set.
+ */
+LedgerCount range_inclusive_set_intersection(const RangeInclusiveSet *m, const RangeInclusiveSet *other,
+                                             int64_t *out_starts, size_t out_starts_length,
+                                             int64_t *out_ends, size_t out_ends_length);
+
+/*
+ * Writes the points that one of the sets covers, or both, as ranges that ascend without overlap. Two neighbouring
+ * points lie in one of them exactly when one stored range holds both: {0..=2} and {3..=5} make two ranges.
+ * 3 if they do not fit into the lists. The two may be the same set.
+ */
+LedgerCount range_inclusive_set_union(const RangeInclusiveSet *m, const RangeInclusiveSet *other,
+                                      int64_t *out_starts, size_t out_starts_length,
+                                      int64_t *out_ends, size_t out_ends_length);
+
+/* How many keys are covered. 9 if they are over 2^64 - 1, as the full range is. */
+LedgerTotal range_inclusive_set_total(const RangeInclusiveSet *m);
 
 /* ---- LOG DAYS ---- */
 

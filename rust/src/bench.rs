@@ -1,9 +1,9 @@
-//! Times the exported functions beside rangemap: lookups, edits, gaps and a day's report, through both doors, the check alone, and the byte
-//! form beside the same in Rust.
+//! Times the exported functions beside rangemap: lookups, edits, gaps and a day's report, through both doors, the check alone, intersection
+//! and union of sets, which have one door that checks both sets, and the byte form beside the same in Rust.
 //!
 //! Method. Both sides work on the same entries, the same keys and the same edits, which are random and the same in every run.
-//! A batch is some thousand calls. The batches of the two doors and of rangemap take turns, so that a slow moment of the
-//! machine hits all three; each figure is the median of all its batches, divided by the calls. A ratio is ours by rangemap's.
+//! A batch is some hundred or thousand calls. The batches of the doors and of rangemap take turns, so that a slow moment of the
+//! machine hits all of them; each figure is the median of all its batches, divided by the calls. A ratio is ours by rangemap's.
 //! rangemap is optimised for the processor that rustc takes by default; the static libraries are as they are handed out.
 //! Where the two sides do not give the same results, the run stops.
 mod day_bench;
@@ -20,11 +20,16 @@ mod maps {
 #[path = "bytes/model.rs"]
 mod model;
 #[allow(dead_code)]
+mod sets {
+    pub mod kind;
+}
+#[allow(dead_code)]
 mod shown;
 
-use ffi::{Gaps, Inner, Map, Range, PLACES};
+use ffi::{Combine, Gaps, Inner, Map, Range, PLACES};
 use maps::kind::{Ends, Entry, HalfOpen, Inclusive, Kind};
 use maps::random::Random;
+use sets::kind::{Set, SetKind};
 use std::hint::black_box;
 use std::time::Instant;
 
@@ -38,6 +43,9 @@ const CALLS: usize = 2000;
 const RANGES: usize = 400;
 const GAPS_RANGES: usize = 500;
 
+/// Ranges of each of the two sets that are combined.
+const COMBINED_RANGES: usize = 500;
+
 /// Each range has 10 keys, and the next 10 belong to none.
 const STEP: i128 = 20;
 
@@ -45,7 +53,7 @@ fn entries<K: Kind>(count: usize) -> Vec<Entry> {
     let mut random = Random::new(7);
     let from = |i: usize| STEP * i as i128;
     let range = |i| K::ends(from(i), from(i) + STEP / 2).expect("small keys");
-    let mut value = || random.below(200) as u8;
+    let mut value = || K::value(random.below(200));
     (0..count).map(|i| (range(i), value())).collect()
 }
 
@@ -208,16 +216,19 @@ fn race_edits<K: Kind>(wanted: &mut Vec<Wanted>) {
     });
 }
 
-/// The lists that the gaps are written to.
+/// As many ranges as are ever written.
+const LISTED: usize = 2 * PLACES;
+
+/// The lists that ranges are written to.
 struct Lists {
-    starts: [i64; PLACES + 1],
-    ends: [i64; PLACES + 1],
+    starts: [i64; LISTED],
+    ends: [i64; LISTED],
 }
 
 impl Lists {
     const EMPTY: Lists = Lists {
-        starts: [0; PLACES + 1],
-        ends: [0; PLACES + 1],
+        starts: [0; LISTED],
+        ends: [0; LISTED],
     };
 
     fn fill_by(&mut self, gaps: Gaps, m: &mut Map, r: Ends) -> usize {
@@ -239,13 +250,47 @@ impl Lists {
         count.count
     }
 
+    fn put(&mut self, count: &mut usize, (start, end): Ends) {
+        self.starts[*count] = start;
+        self.ends[*count] = end;
+        *count += 1;
+    }
+
     fn fill_by_rust<K: Kind>(&mut self, m: &K::Rust, r: Ends) -> usize {
         let mut count = 0;
-        K::rust_each_gap(black_box(m), r, |(start, end)| {
-            self.starts[count] = start;
-            self.ends[count] = end;
-            count += 1;
-        });
+        K::rust_each_gap(black_box(m), r, |gap| self.put(&mut count, gap));
+        black_box(self);
+        count
+    }
+
+    fn combine_by(&mut self, combine: Combine, m: &mut Map, other: &mut Map) -> usize {
+        let (starts, ends) = (&mut self.starts, &mut self.ends);
+        // SAFETY: the lists are there.
+        let count = unsafe {
+            combine(
+                black_box(m),
+                black_box(other),
+                starts.as_mut_ptr(),
+                starts.len(),
+                ends.as_mut_ptr(),
+                ends.len(),
+            )
+        };
+        assert_eq!(count.answer, 0);
+        black_box(self);
+        count.count
+    }
+
+    fn intersect_by_rust<K: SetKind>(&mut self, m: &K::Rust, other: &K::Rust) -> usize {
+        let mut count = 0;
+        K::rust_each_in_both(black_box(m), black_box(other), |r| self.put(&mut count, r));
+        black_box(self);
+        count
+    }
+
+    fn unite_by_rust<K: SetKind>(&mut self, m: &K::Rust, other: &K::Rust) -> usize {
+        let mut count = 0;
+        K::rust_each_in_either(black_box(m), black_box(other), |r| self.put(&mut count, r));
         black_box(self);
         count
     }
@@ -293,8 +338,10 @@ fn gaps<K: Kind>(wanted: &mut Vec<Wanted>) {
     });
 }
 
-fn check<K: Kind>(wanted: &mut Vec<Wanted>) {
+/// The check alone, with so many ranges: what it is called, and nanoseconds a place.
+fn checks<K: Kind>() -> Vec<(String, f64)> {
     const CALLS: usize = 500;
+    let mut checks = Vec::new();
     for count in [0, RANGES, PLACES] {
         let mut map = Map::of(&entries::<K>(count));
         let check_all = &mut || {
@@ -305,12 +352,74 @@ fn check<K: Kind>(wanted: &mut Vec<Wanted>) {
         let [time] = race(CALLS * PLACES, [check_all]);
         let what = format!("{}, the check at {count} ranges", K::NAME);
         println!("{what}: {time:.2} ns a place");
-        wanted.push(Wanted {
-            what: format!("{what}, ns a place"),
-            most: 1.5,
-            got: time,
-        });
+        checks.push((format!("{what}, ns a place"), time));
     }
+    checks
+}
+
+/// One range of random start and length in each step; no two touch.
+fn random_ranges<K: Kind>(seed: u64) -> Vec<Entry> {
+    let mut random = Random::new(seed);
+    let range = |i: usize| {
+        let from = STEP * i as i128 + random.below(8) as i128;
+        let to = from + 1 + random.below(11) as i128;
+        (K::ends(from, to).expect("small keys"), 0)
+    };
+    (0..COMBINED_RANGES).map(range).collect()
+}
+
+fn race_combined<K: SetKind>(
+    wanted: &mut Vec<Wanted>,
+    name: &str,
+    combine: Combine,
+    by_rust: impl Fn(&mut Lists, &K::Rust, &K::Rust) -> usize,
+) {
+    const CALLS: usize = 200;
+    let (a, b) = (random_ranges::<K>(17), random_ranges::<K>(19));
+    let (rust, rust_other) = (K::rust_of(&a), K::rust_of(&b));
+    let (mut m, mut other) = (Map::of(&a), Map::of(&b));
+    let (mut ours, mut rusts) = (Lists::EMPTY, Lists::EMPTY);
+    let [time, rust_time] = race(
+        CALLS,
+        [
+            &mut || {
+                for _ in 0..CALLS {
+                    ours.combine_by(combine, &mut m, &mut other);
+                }
+            },
+            &mut || {
+                for _ in 0..CALLS {
+                    by_rust(&mut rusts, &rust, &rust_other);
+                }
+            },
+        ],
+    );
+    let count = by_rust(&mut rusts, &rust, &rust_other);
+    assert_eq!(ours.combine_by(combine, &mut m, &mut other), count);
+    assert!(ours.starts == rusts.starts && ours.ends == rusts.ends);
+
+    let what = format!("{}, {name} at {COMBINED_RANGES} ranges", K::NAME);
+    let ratio = time / rust_time;
+    println!(
+        "{what}, {count} in the result: {time:.1} ns, ratio {ratio:.2}; rangemap {rust_time:.1} ns"
+    );
+    wanted.push(Wanted {
+        what: format!("{what}, ratio"),
+        most: 0.5,
+        got: ratio,
+    });
+}
+
+fn race_sets<K: SetKind>(wanted: &mut Vec<Wanted>) {
+    checks::<K>();
+    let ours = K::OPERATIONS;
+    race_combined::<K>(
+        wanted,
+        "intersection",
+        ours.intersection,
+        Lists::intersect_by_rust::<K>,
+    );
+    race_combined::<K>(wanted, "union", ours.union, Lists::unite_by_rust::<K>);
 }
 
 /// The byte form of a full map, beside the model in Rust. Both check what they are lent.
@@ -393,13 +502,19 @@ fn race_kind<K: Kind>(wanted: &mut Vec<Wanted>) {
     lookups::<K>();
     race_edits::<K>(wanted);
     gaps::<K>(wanted);
-    check::<K>(wanted);
+    wanted.extend(checks::<K>().into_iter().map(|(what, got)| Wanted {
+        what,
+        most: 1.5,
+        got,
+    }));
 }
 
 fn main() {
     let mut wanted = Vec::new();
     race_kind::<HalfOpen>(&mut wanted);
     race_kind::<Inclusive>(&mut wanted);
+    race_sets::<Set<HalfOpen>>(&mut wanted);
+    race_sets::<Set<Inclusive>>(&mut wanted);
     bytes(&mut wanted);
     day_bench::race_reports(&mut wanted);
     for Wanted { what, most, got } in wanted {

@@ -118,6 +118,14 @@ pub struct Applied {
     pub applied: usize,
 }
 
+/// How many keys a set covers.
+#[repr(C)]
+#[derive(Clone, Copy, Debug, PartialEq, Eq)]
+pub struct Total {
+    pub answer: u8,
+    pub total: u64,
+}
+
 // The byte form of a half-open map. Each takes a list, and so is unsafe here.
 unsafe extern "C" {
     pub fn range_map_write(m: &mut Map, out: *mut u8, out_length: usize) -> Count;
@@ -135,6 +143,9 @@ pub type Extend = unsafe extern "C" fn(
     *const u8,
     usize,
 ) -> Applied;
+
+pub type Combine =
+    unsafe extern "C" fn(&mut Map, &mut Map, *mut i64, usize, *mut i64, usize) -> Count;
 
 /// The functions of one kind of map or set. Each lent map is a `&mut` here, also where it is only read:
 /// else the compiler would take for granted that it stays as it was.
@@ -345,3 +356,45 @@ macro_rules! set_functions {
 
 pub static RANGE_SET: Functions = set_functions!("range_set_");
 pub static RANGE_INCLUSIVE_SET: Functions = set_functions!("range_inclusive_set_");
+
+/// What only sets have.
+pub struct Operations {
+    pub intersection: Combine,
+    pub union: Combine,
+    pub total: extern "C" fn(&mut Map) -> Total,
+}
+
+macro_rules! operations {
+    ($prefix:literal) => {{
+        unsafe extern "C" {
+            #[link_name = concat!($prefix, "intersection")]
+            fn intersection(
+                m: &mut Map,
+                other: &mut Map,
+                out_starts: *mut i64,
+                out_starts_length: usize,
+                out_ends: *mut i64,
+                out_ends_length: usize,
+            ) -> Count;
+            #[link_name = concat!($prefix, "union")]
+            fn union(
+                m: &mut Map,
+                other: &mut Map,
+                out_starts: *mut i64,
+                out_starts_length: usize,
+                out_ends: *mut i64,
+                out_ends_length: usize,
+            ) -> Count;
+            #[link_name = concat!($prefix, "total")]
+            safe fn total(m: &mut Map) -> Total;
+        }
+        Operations {
+            intersection,
+            union,
+            total,
+        }
+    }};
+}
+
+pub static RANGE_SET_OPERATIONS: Operations = operations!("range_set_");
+pub static RANGE_INCLUSIVE_SET_OPERATIONS: Operations = operations!("range_inclusive_set_");

@@ -22,7 +22,7 @@ fn known() -> Vec<&'static str> {
 /// How much is compared: in the gate, and in the longer form.
 struct Sizes {
     maps: &'static maps::Size,
-    sets: &'static maps::Size,
+    sets: &'static sets::Size,
     bytes: usize,
     full: bool,
 }

@@ -61,6 +61,10 @@ static bool is_applied(LedgerApplied r, uint8_t answer, size_t applied) {
     return r.answer == answer && r.applied == applied;
 }
 
+static bool is_total(LedgerTotal r, uint8_t answer, uint64_t total) {
+    return r.answer == answer && r.total == total;
+}
+
 static bool is_related(LedgerRelated r, uint8_t answer, bool yes) {
     return r.answer == answer && r.yes == yes;
 }
@@ -145,7 +149,14 @@ static bool is_common(LedgerIntersected r, uint8_t answer, int64_t start, int64_
             && is_told(FUNCTION##_eq(&good, m), 4, false)                                         \
             && is_order(FUNCTION##_cmp(m, &good), 4, 0)                                           \
             && is_order(FUNCTION##_cmp(&good, m), 4, 0)                                           \
-            && is_applied(FUNCTION##_extend(m, starts, 2, ends, 2), 4, 0);                        \
+            && is_applied(FUNCTION##_extend(m, starts, 2, ends, 2), 4, 0)                         \
+            && is_count(FUNCTION##_intersection(m, &good, starts, 2, ends, 2), 4, 0)              \
+            && is_count(FUNCTION##_intersection(&good, m, starts, 2, ends, 2), 4, 0)              \
+            && is_count(FUNCTION##_intersection(m, m, starts, 2, ends, 2), 4, 0)                  \
+            && is_count(FUNCTION##_union(m, &good, starts, 2, ends, 2), 4, 0)                     \
+            && is_count(FUNCTION##_union(&good, m, starts, 2, ends, 2), 4, 0)                     \
+            && is_count(FUNCTION##_union(m, m, starts, 2, ends, 2), 4, 0)                         \
+            && is_total(FUNCTION##_total(m), 4, 0);                                               \
         bool kept = starts[0] == 7 && starts[1] == 7 && ends[0] == 8 && ends[1] == 8;             \
         return refused && kept && FUNCTION##_same(m, &before);                                    \
     }
@@ -528,6 +539,58 @@ static void half_open_set_full(void) {
     check("set, full: 0..3 first", is_range(range_set_first(&m), 0, 0, 3, 0));
 }
 
+static void half_open_set_operations(void) {
+    const RangeSet a = range_set_holding(ENTRIES({0, 3, 0}));
+    const RangeSet b = range_set_holding(ENTRIES({3, 5, 0}));
+    const RangeSet c = range_set_holding(ENTRIES({2, 5, 0}));
+    int64_t starts[3] = {91, 92, 93}, ends[3] = {94, 95, 96};
+    check("union of {0..3} and {3..5} into 1 place: 3", is_count(range_set_union(&a, &b, starts, 1, ends, 3), 3, 0));
+    check("the lists after the refusal", starts[0] == 91 && starts[1] == 92 && ends[0] == 94 && ends[1] == 95);
+    check("union of {0..3} and {3..5}: two ranges", is_count(range_set_union(&a, &b, starts, 3, ends, 3), 0, 2));
+    check("union of {0..3} and {3..5}: 0..3, 3..5",
+          starts[0] == 0 && ends[0] == 3 && starts[1] == 3 && ends[1] == 5);
+    check("the place past the count, union", starts[2] == 93 && ends[2] == 96);
+    check("union of {0..3} and {2..5}: one range", is_count(range_set_union(&a, &c, starts, 3, ends, 3), 0, 1));
+    check("union of {0..3} and {2..5}: 0..5", starts[0] == 0 && ends[0] == 5);
+    check("the places past the count, union", starts[1] == 3 && ends[1] == 5 && starts[2] == 93 && ends[2] == 96);
+    check("union of a set and itself", is_count(range_set_union(&b, &b, starts, 1, ends, 1), 0, 1));
+    check("union of {3..5} and itself: 3..5", starts[0] == 3 && ends[0] == 5);
+    check("intersection of {0..3} and {2..5}: one range",
+          is_count(range_set_intersection(&a, &c, starts, 3, ends, 3), 0, 1));
+    check("intersection of {0..3} and {2..5}: 2..3", starts[0] == 2 && ends[0] == 3);
+    check("intersection into no place: 3", is_count(range_set_intersection(&a, &c, starts, 0, ends, 3), 3, 0));
+    check("intersection of {0..3} and {3..5}: nothing",
+          is_count(range_set_intersection(&a, &b, starts, 0, ends, 0), 0, 0));
+    check("the lists as they were", starts[0] == 2 && ends[0] == 3 && starts[2] == 93 && ends[2] == 96);
+
+    const RangeSet all = range_set_holding(ENTRIES({INT64_MIN, INT64_MAX, 0}));
+    const RangeSet none = range_set_new();
+    check("total of {0..3}: 3", is_total(range_set_total(&a), 0, 3));
+    check("total of nothing: 0", is_total(range_set_total(&none), 0, 0));
+    check("total of min..max: 2^64 - 1", is_total(range_set_total(&all), 0, UINT64_MAX));
+}
+
+/* 512 ranges of one key and 512 others: their union needs 1024 places, and no set is made of it. */
+static void half_open_set_long_union(void) {
+    static int64_t starts[HOURLEDGER_UNION], ends[HOURLEDGER_UNION];
+    RangeSet a = range_set_new(), b = range_set_new();
+    for (int64_t i = 0; i < HOURLEDGER_PLACES; i++) {
+        a.starts[i] = 4 * i;
+        a.ends[i] = 4 * i + 1;
+        b.starts[i] = 4 * i + 2;
+        b.ends[i] = 4 * i + 3;
+    }
+    a.count = b.count = HOURLEDGER_PLACES;
+    const size_t n = HOURLEDGER_UNION;
+    check("a long union", is_count(range_set_union(&a, &b, starts, n, ends, n), 0, n));
+    bool good = true;
+    for (int64_t i = 0; i < HOURLEDGER_UNION; i++) {
+        good = good && starts[i] == 2 * i && ends[i] == 2 * i + 1;
+    }
+    check("a long union: every second key", good);
+    check("a long union into one place less: 3", is_count(range_set_union(&a, &b, starts, n, ends, n - 1), 3, 0));
+}
+
 static void half_open_set_damaged(void) {
     const RangeSet good = range_set_holding(ENTRIES({10, 15, 0}, {20, 25, 0}, {30, 35, 0}));
     range_set_damaged(&good);
@@ -579,6 +642,35 @@ static void inclusive_set_ends(void) {
           range_inclusive_set_holds(&m, ENTRIES({INT64_MIN, INT64_MAX, 0})));
 }
 
+static void inclusive_set_operations(void) {
+    const RangeInclusiveSet a = range_inclusive_set_holding(ENTRIES({0, 2, 0}));
+    const RangeInclusiveSet b = range_inclusive_set_holding(ENTRIES({3, 5, 0}));
+    const RangeInclusiveSet c = range_inclusive_set_holding(ENTRIES({2, 5, 0}));
+    int64_t starts[3] = {91, 92, 93}, ends[3] = {94, 95, 96};
+    check("inclusive, union of {0..=2} and {3..=5}: two ranges",
+          is_count(range_inclusive_set_union(&a, &b, starts, 3, ends, 3), 0, 2));
+    check("inclusive, union of {0..=2} and {3..=5}: 0..=2, 3..=5",
+          starts[0] == 0 && ends[0] == 2 && starts[1] == 3 && ends[1] == 5 && starts[2] == 93 && ends[2] == 96);
+    check("inclusive, union of {0..=2} and {2..=5}: one range",
+          is_count(range_inclusive_set_union(&a, &c, starts, 3, ends, 3), 0, 1));
+    check("inclusive, union of {0..=2} and {2..=5}: 0..=5", starts[0] == 0 && ends[0] == 5 && starts[1] == 3);
+    check("inclusive, intersection of {0..=2} and {2..=5}: one range",
+          is_count(range_inclusive_set_intersection(&a, &c, starts, 3, ends, 3), 0, 1));
+    check("inclusive, intersection of {0..=2} and {2..=5}: 2..=2", starts[0] == 2 && ends[0] == 2);
+    check("inclusive, intersection of {0..=2} and {3..=5}: nothing",
+          is_count(range_inclusive_set_intersection(&a, &b, starts, 0, ends, 0), 0, 0));
+    check("inclusive, total of {0..=2}: 3", is_total(range_inclusive_set_total(&a), 0, 3));
+
+    RangeInclusiveSet all = range_inclusive_set_holding(ENTRIES({INT64_MIN, INT64_MAX, 0}));
+    check("inclusive, union with the full range",
+          is_count(range_inclusive_set_union(&all, &c, starts, 1, ends, 1), 0, 1));
+    check("inclusive, union with the full range: the full range", starts[0] == INT64_MIN && ends[0] == INT64_MAX);
+    check("inclusive, total of the full range: 9", is_total(range_inclusive_set_total(&all), 9, 0));
+    all.ends[0] = INT64_MAX - 1;
+    check("inclusive, total without the greatest key: 2^64 - 1",
+          is_total(range_inclusive_set_total(&all), 0, UINT64_MAX));
+}
+
 static void inclusive_set_damaged(void) {
     const RangeInclusiveSet good = range_inclusive_set_holding(ENTRIES({10, 15, 0}, {20, 25, 0}, {30, 35, 0}));
     range_inclusive_set_damaged(&good);
@@ -611,9 +703,12 @@ int main(void) {
     half_open_set_edits();
     half_open_set_questions();
     half_open_set_full();
+    half_open_set_operations();
+    half_open_set_long_union();
     half_open_set_damaged();
     inclusive_set_cases();
     inclusive_set_ends();
+    inclusive_set_operations();
     inclusive_set_damaged();
     if (failures > 0) {
         printf("%d of %d checks failed\n", failures, checks);

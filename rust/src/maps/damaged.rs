@@ -6,7 +6,7 @@ use crate::report::Report;
 use std::fmt::{Arguments, Debug};
 
 /// The keys of a stored range, from the first up to the one after the last.
-fn span<K: Kind>((start, end): (i64, i64)) -> (i128, i128) {
+pub fn span<K: Kind>((start, end): (i64, i64)) -> (i128, i128) {
     let after = if K::valid((0, 0)) { 1 } else { 0 };
     (start.into(), i128::from(end) + after)
 }

@@ -44,6 +44,11 @@ impl Cells {
         self.bounds.len() - 1
     }
 
+    /// How many keys a cell has.
+    pub fn keys_in(&self, cell: usize) -> u128 {
+        (self.bounds[cell + 1] - self.bounds[cell]) as u128
+    }
+
     /// The range that has the keys of the cells from `from` up to `to`: it is valid if from < to.
     pub fn range<K: Kind>(&self, from: usize, to: usize) -> Option<Ends> {
         K::ends(self.bounds[from], self.bounds[to])
@@ -97,8 +102,16 @@ impl Dense {
         self.0[part].fill(new);
     }
 
+    pub fn count(&self) -> usize {
+        self.0.len()
+    }
+
     pub fn holds(&self, cell: usize) -> Option<u8> {
         self.0[cell]
+    }
+
+    pub fn covers(&self, cell: usize) -> bool {
+        self.holds(cell).is_some()
     }
 
     /// The part of the cells as maximal stretches that hold the same.

@@ -1,5 +1,5 @@
 //! The two kinds of set: our functions of each, and rangemap's type. A set is a map whose values are all 0.
-use crate::ffi::{self, Functions};
+use crate::ffi::{self, Functions, Operations};
 use crate::maps::kind::{Ends, Entry, HalfOpen, Inclusive, Kind};
 use rangemap::{RangeInclusiveSet, RangeSet};
 use std::marker::PhantomData;
@@ -8,9 +8,29 @@ use std::ops::{Range, RangeInclusive};
 /// The sets with the ranges of a kind of map.
 pub struct Set<K>(PhantomData<K>);
 
+/// What only sets have.
+pub trait SetKind: Kind {
+    const OPERATIONS: &'static Operations;
+
+    fn rust_each_in_both(m: &Self::Rust, other: &Self::Rust, each: impl FnMut(Ends));
+    fn rust_each_in_either(m: &Self::Rust, other: &Self::Rust, each: impl FnMut(Ends));
+
+    fn rust_intersection(m: &Self::Rust, other: &Self::Rust) -> Vec<Ends> {
+        let mut ranges = Vec::new();
+        Self::rust_each_in_both(m, other, |r| ranges.push(r));
+        ranges
+    }
+
+    fn rust_union(m: &Self::Rust, other: &Self::Rust) -> Vec<Ends> {
+        let mut ranges = Vec::new();
+        Self::rust_each_in_either(m, other, |r| ranges.push(r));
+        ranges
+    }
+}
+
 /// The two types of rangemap have the same functions. `$range` makes a range, `$ends` takes one apart.
 macro_rules! set_kind {
-    ($map:ty, $name:literal, $ours:expr, $set:ty, $range:expr, $ends:expr) => {
+    ($map:ty, $name:literal, $ours:expr, $operations:expr, $set:ty, $range:expr, $ends:expr) => {
         impl Kind for Set<$map> {
             const NAME: &'static str = $name;
             const DOTS: &'static str = <$map>::DOTS;
@@ -84,6 +104,18 @@ macro_rules! set_kind {
                 m.extend(entries.iter().map(|&(r, _)| $range(r)));
             }
         }
+
+        impl SetKind for Set<$map> {
+            const OPERATIONS: &'static Operations = $operations;
+
+            fn rust_each_in_both(m: &$set, other: &$set, each: impl FnMut(Ends)) {
+                m.intersection(other).map(|r| $ends(&r)).for_each(each);
+            }
+
+            fn rust_each_in_either(m: &$set, other: &$set, each: impl FnMut(Ends)) {
+                m.union(other).map(|r| $ends(&r)).for_each(each);
+            }
+        }
     };
 }
 
@@ -91,6 +123,7 @@ set_kind!(
     HalfOpen,
     "half-open set",
     &ffi::RANGE_SET,
+    &ffi::RANGE_SET_OPERATIONS,
     RangeSet<i64>,
     |r: Ends| r.0..r.1,
     |r: &Range<i64>| (r.start, r.end)
@@ -100,6 +133,7 @@ set_kind!(
     Inclusive,
     "inclusive set",
     &ffi::RANGE_INCLUSIVE_SET,
+    &ffi::RANGE_INCLUSIVE_SET_OPERATIONS,
     RangeInclusiveSet<i64>,
     |r: Ends| r.0..=r.1,
     |r: &RangeInclusive<i64>| (*r.start(), *r.end())
