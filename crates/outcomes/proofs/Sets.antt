@@ -1,5 +1,5 @@
 -- What the outcomes of sets mean, for both kinds, of any two sound sets: the points of a union and of an intersection, their totals, and that neither depends on the order.
-use Prim.Native.Nat.{ℕ, zero, suc, _+_}
+use Prim.Native.Nat.{ℕ, zero, suc, _+_, _-_, _≤_}
 use native.Mathlib.Omega.{arith}
 use mathlib.Core.Path.{_≡_, refl, sym, ap, _∙_}
 use mathlib.Core.Bool.{Bool, true, false, _&&_, _||_, cond}
@@ -14,7 +14,7 @@ use Rattle.span.specs.Operations.{Plain, common, when, united, any, holds, link
 use Rattle.span.proofs.Tests.{both}
 use Rattle.span.proofs.Sets.{common-means, common-plain}
 use Rattle.span.proofs.Union.{holds-united, links-united, at-plain}
-use Rattle.span.proofs.Walks.{common-swap, united-swap}
+use Rattle.span.proofs.Walks.{Spaced, tidy-spaced, common-swap, united-swap, length-common, length-united}
 use Rattle.span.proofs.Total.{total-both}
 use Rattle.key.specs.Range.{Kind}
 use Rattle.key.proofs.Answers.{one-answer}
@@ -22,7 +22,7 @@ use Rattle.outcomes.specs.Stored.{Stored, spans, ranges, noughts}
 use Rattle.outcomes.specs.Outcomes.{Written}
 use Rattle.outcomes.specs.Sets.{plain, SoundSet, unionOf, intersecting, uniting, intersected, joining}
 use Rattle.outcomes.specs.declared.Counted.{Counted}
-use Rattle.outcomes.proofs.Formed.{Formed, formed}
+use Rattle.outcomes.proofs.Formed.{Formed, formed, length-ranges}
 
 -- the ranges of a set have value 0
 plain-spans : (kind : Kind) (ss es : List ℤ) (vs : List ℕ) → noughts vs ≡ true → Plain (spans kind ss es vs)
@@ -37,13 +37,31 @@ plain-take zero xs p = tt
 plain-take (suc n) [] p = tt
 plain-take (suc n) (x ∷ xs) p = (p .0, plain-take n xs (p .1))
 
+pub plain-ranges : (kind : Kind) (m : Stored) → plain m ≡ true → Plain (ranges kind m)
+unfolding ranges plain
+plain-ranges kind m h = plain-take (m .count) (spans kind (m .starts) (m .ends) (m .values)) (plain-spans kind (m .starts) (m .ends) (m .values) h)
+
 module _ (kind : Kind) {m : Stored} (set : SoundSet kind m) where
   set-plain : Plain (ranges kind m)
-  unfolding ranges plain
-  set-plain = plain-take (m .count) (spans kind (m .starts) (m .ends) (m .values)) (plain-spans kind (m .starts) (m .ends) (m .values) (set .plain-too))
+  set-plain = plain-ranges kind m (set .plain-too)
+
+  set-formed : Formed kind (length (m .starts)) m
+  set-formed = formed kind (length (m .starts)) m (set .sound .well)
 
   set-ordered : Ordered 0 (ranges kind m)
-  set-ordered = formed kind (length (m .starts)) m (set .sound .well) .tidy .ordered
+  set-ordered = set-formed .tidy .ordered
+
+  set-spaced : Spaced 0 (ranges kind m)
+  set-spaced = tidy-spaced 0 (ranges kind m) set-ordered (set-formed .tidy .separate) set-plain
+
+  -- it holds no more ranges than it has places
+  set-few : length (ranges kind m) ≤ length (m .starts)
+  set-few =
+      omega (
+        arith,
+        set-formed .held,
+        length-ranges kind (length (m .starts)) m (record { starts = refl; ends = set .sound .ends-as; values = set .sound .values-as }) (set-formed .held),
+      )
 
 -- does a list hold the instant
 abbrev pub covers : List Span → ℕ → Bool
@@ -88,6 +106,14 @@ module _ (kind : Kind) {a b : Stored} (s : SoundSet kind a) (t : SoundSet kind b
   pub union-swaps : unionOf (ranges kind a) (ranges kind b) ≡ unionOf (ranges kind b) (ranges kind a)
   unfolding unionOf
   union-swaps = united-swap (ranges kind a) (ranges kind b) (set-ordered kind s) (set-ordered kind t) (set-plain kind s) (set-plain kind t)
+
+  -- AT MOST 1,023 ranges, and at most 1,024, at 512 places a set
+  pub intersection-few : length (common (ranges kind a) (ranges kind b)) ≤ length (a .starts) + length (b .starts) - 1
+  intersection-few = omega (arith, length-common (ranges kind a) (ranges kind b) (set-spaced kind s) (set-spaced kind t), set-few kind s, set-few kind t)
+
+  pub union-few : length (unionOf (ranges kind a) (ranges kind b)) ≤ length (a .starts) + length (b .starts)
+  unfolding unionOf
+  union-few = omega (arith, length-united (ranges kind a) (ranges kind b), set-few kind s, set-few kind t)
 
   -- TOTALS: those of the union and of the intersection add up to those of the two sets
   pub totals-add : total (unionOf (ranges kind a) (ranges kind b)) + total (common (ranges kind a) (ranges kind b)) ≡ total (ranges kind a) + total (ranges kind b)

@@ -2,43 +2,24 @@
 use Prim.Native.Nat.{ℕ, zero, suc, _-_, _<_}
 use native.Mathlib.Omega.{arith}
 use mathlib.Core.Path.{_≡_, refl, sym, ap, _∙_}
-use mathlib.Core.Bool.{Bool, true, false, _&&_, cond}
+use mathlib.Core.Bool.{Bool, true, false, cond}
 use mathlib.Core.List.{List, [], _∷_, _++_, map}
 use mathlib.Core.Option.{Option, some, none}
-use borrow.Author.Tests.{eqb-true}
-use lib.Dec.{eqb}
-use lib.ListN.{length, take, replicate}
+use lib.ListN.{length, replicate}
 use lib.IntN.{ℤ}
 use Rattle.span.specs.Span.{Span, Ordered, Tidy, at, inside, given}
 use Rattle.span.specs.Operations.{Plain}
-use Rattle.span.proofs.Tests.{both}
 use Rattle.span.proofs.Laws.{at-given, tidy-given, never}
 use Rattle.span.proofs.Sets.{plain-at, at-zero}
 use Rattle.key.specs.Rank.{rank}
 use Rattle.key.specs.Range.{Kind}
-use Rattle.outcomes.specs.Stored.{places, Stored, spans, ranges, filled, storing, noughts, wellFormed}
+use Rattle.outcomes.specs.Stored.{places, Stored, ranges, filled, storing, noughts, wellFormed}
 use Rattle.outcomes.specs.Sets.{plain}
 use Rattle.outcomes.specs.Outcomes.{leaving, editing, edited, inserting, removing}
 use Rattle.outcomes.proofs.Formed.{formed}
 use Rattle.outcomes.proofs.Edits.{done}
+use Rattle.outcomes.proofs.Sets.{plain-ranges}
 use Rattle.sets.specs.Answers.{setInserting, setRemoving}
-
--- the ranges of a set have label 0
-plain-spans : (kind : Kind) (ss es : List ℤ) (vs : List ℕ) → noughts vs ≡ true → Plain (spans kind ss es vs)
-unfolding spans noughts
-plain-spans kind [] es vs h = tt
-plain-spans kind (s ∷ ss) [] vs h = tt
-plain-spans kind (s ∷ ss) (e ∷ es) [] h = tt
-plain-spans kind (s ∷ ss) (e ∷ es) (v ∷ vs) h = let p = both (eqb v 0) (noughts vs) h in (eqb-true v 0 (p .0), plain-spans kind ss es vs (p .1))
-
-plain-take : (n : ℕ) (xs : List Span) → Plain xs → Plain (take n xs)
-plain-take zero xs p = tt
-plain-take (suc n) [] p = tt
-plain-take (suc n) (x ∷ xs) p = (p .0, plain-take n xs (p .1))
-
-pub plain-ranges : (kind : Kind) (m : Stored) → plain m ≡ true → Plain (ranges kind m)
-unfolding ranges plain
-plain-ranges kind m h = plain-take (m .count) _ (plain-spans kind (m .starts) (m .ends) (m .values) h)
 
 -- a label that a set may be given: 0, or none
 abbrev pub Nought : Option ℕ → Type 0

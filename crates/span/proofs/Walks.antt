@@ -1,5 +1,5 @@
 -- Intersection and union of two sets by one walk over both, span by span: what one step of it leaves to be found.
-use Prim.Native.Nat.{ℕ, zero, suc, _+_, _≤_, _<_, min, max}
+use Prim.Native.Nat.{ℕ, zero, suc, _+_, _-_, _≤_, _<_, min, max}
 use native.Mathlib.Omega.{arith}
 use native.Mathlib.Decide.{decLt}
 use mathlib.Core.Path.{_≡_, refl, sym, ap, _∙_}
@@ -253,7 +253,7 @@ length-united [] b = omega arith
 length-united (x ∷ xs) b = omega (arith, length-absorb x (united xs b), length-united xs b)
 
 -- the intersection has fewer spans than the two sets together
-few-common : (n : ℕ) (a b : List Span) → length a + length b ≤ n → Spaced 0 a → Spaced 0 b → length (common a b) ≤ length a + length b
+few-common : (n : ℕ) (a b : List Span) → length a + length b ≤ n → Spaced 0 a → Spaced 0 b → length (common a b) ≤ length a + length b - 1
 few-common n [] b h s t = rw (common-none b) (omega arith)
 few-common n (x ∷ xs) [] h s t = rw (common-no (x ∷ xs) s) (omega arith)
 few-common zero (x ∷ xs) (y ∷ ys) h s t = absurd (omega arith)
@@ -265,5 +265,5 @@ few-common (suc n) (x ∷ xs) (y ∷ ys) h s t =
       | no p ↦ rw (common-right x y xs ys s t (omega arith), length-append) (omega (arith, length-meet x y))
     ]
 
-pub length-common : (a b : List Span) → Spaced 0 a → Spaced 0 b → length (common a b) ≤ length a + length b
+pub length-common : (a b : List Span) → Spaced 0 a → Spaced 0 b → length (common a b) ≤ length a + length b - 1
 length-common a b s t = few-common (length a + length b) a b (omega arith) s t
