@@ -10,6 +10,7 @@ use outcomes::PLACES;
 use outcomes::Range;
 use outcomes::Stretch;
 use outcomes::Told;
+use outcomes::Total;
 use outcomes::count_of;
 use outcomes::order_of;
 use outcomes::range_of;
@@ -312,7 +313,24 @@ fn print_list(kind: RangeKind, starts: [i64; 3], ends: [i64; 3]) {
 
 // ---- one set
 
-// Is empty, len, first, last and the second range.
+fn total(kind: RangeKind, m: Set) -> Total {
+    match kind {
+        RangeKind::HalfOpen => set::numbers::total(&m.count, &m.starts, &m.ends, &m.values),
+        RangeKind::Inclusive => inclusive_set::numbers::total(
+            &m.count,
+            &m.starts,
+            &m.ends,
+            &m.values,
+        ),
+    }
+}
+
+fn print_total(what: u8, r: Total) {
+    print_answer(what, r.answer);
+    print_number(r.total);
+}
+
+// Is empty, len, first, last, the second range and the total.
 fn print_whole(kind: RangeKind, m: Set) {
     print_set(kind, m);
     print_told(
@@ -334,6 +352,7 @@ fn print_whole(kind: RangeKind, m: Set) {
         range_of(stored::last(kind, &m.count, &m.starts, &m.ends, &m.values)),
     );
     print_found(b's', kind, range_of_set(kind, m, 1));
+    print_total(b't', total(kind, m));
     print(b'\n');
 }
 
@@ -416,7 +435,86 @@ fn print_over(kind: RangeKind, m: Set, r: Ends) {
 
 // ---- two sets
 
-// Equality and order.
+fn intersection(
+    kind: RangeKind,
+    a: Set,
+    b: Set,
+    out_starts: &mut [i64],
+    out_ends: &mut [i64],
+) -> Count {
+    match kind {
+        RangeKind::HalfOpen => set::numbers::intersection(
+            &a.count,
+            &a.starts,
+            &a.ends,
+            &a.values,
+            &b.count,
+            &b.starts,
+            &b.ends,
+            &b.values,
+            out_starts,
+            out_ends,
+        ),
+        RangeKind::Inclusive => inclusive_set::numbers::intersection(
+            &a.count,
+            &a.starts,
+            &a.ends,
+            &a.values,
+            &b.count,
+            &b.starts,
+            &b.ends,
+            &b.values,
+            out_starts,
+            out_ends,
+        ),
+    }
+}
+
+fn union(kind: RangeKind, a: Set, b: Set, out_starts: &mut [i64], out_ends: &mut [i64]) -> Count {
+    match kind {
+        RangeKind::HalfOpen => set::numbers::union(
+            &a.count,
+            &a.starts,
+            &a.ends,
+            &a.values,
+            &b.count,
+            &b.starts,
+            &b.ends,
+            &b.values,
+            out_starts,
+            out_ends,
+        ),
+        RangeKind::Inclusive => inclusive_set::numbers::union(
+            &a.count,
+            &a.starts,
+            &a.ends,
+            &a.values,
+            &b.count,
+            &b.starts,
+            &b.ends,
+            &b.values,
+            out_starts,
+            out_ends,
+        ),
+    }
+}
+
+// Both into three places, which hold 0 before.
+fn print_intersection(kind: RangeKind, a: Set, b: Set) {
+    let mut starts = [0i64; 3];
+    let mut ends = [0i64; 3];
+    print_count(b'a', intersection(kind, a, b, &mut starts, &mut ends));
+    print_list(kind, starts, ends);
+}
+
+fn print_union(kind: RangeKind, a: Set, b: Set) {
+    let mut starts = [0i64; 3];
+    let mut ends = [0i64; 3];
+    print_count(b'u', union(kind, a, b, &mut starts, &mut ends));
+    print_list(kind, starts, ends);
+}
+
+// Equality, order, intersection and union.
 fn print_pair(kind: RangeKind, a: Set, b: Set) {
     print_set(kind, a);
     print(b' ');
@@ -449,6 +547,8 @@ fn print_pair(kind: RangeKind, a: Set, b: Set) {
             &b.values,
         )),
     );
+    print_intersection(kind, a, b);
+    print_union(kind, a, b);
     print(b'\n');
 }
 

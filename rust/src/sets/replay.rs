@@ -1,6 +1,8 @@
 //! What crates/test_set has to print, as rangemap answers: every set over four cells, and one that is not well formed.
 //!
 //! A line has a set by its ranges, what it is asked with, and the answers, each behind a letter.
+use super::kind::SetKind;
+use crate::maps::damaged::span;
 use crate::maps::kind::{shown, Ends, Entry, Kind};
 use crate::shown::Key;
 use std::cmp::Ordering;
@@ -43,7 +45,7 @@ fn told(answer: u8, yes: bool) -> String {
     format!("{answer} {}", u8::from(answer == 0 && yes))
 }
 
-impl<K: Kind> Lent<K> {
+impl<K: SetKind> Lent<K> {
     /// Document 01's number, but for 2, 3 and 5: 4, then 1 for a range that is not valid.
     fn refusal(&self, r: Option<Ends>) -> u8 {
         match r {
@@ -77,17 +79,29 @@ impl<K: Kind> Lent<K> {
         format!("{answer} {} {value}", shown::<K>(r))
     }
 
+    fn total(&self) -> String {
+        let entries = K::rust_entries(&self.rust);
+        let spans = entries.iter().map(|entry| span::<K>(entry.0));
+        let total: i128 = spans.map(|(from, to)| to - from).sum();
+        match (self.refusal(None), u64::try_from(total)) {
+            (0, Ok(total)) => format!("0 {total}"),
+            (0, Err(_)) => "9 0".to_string(),
+            (answer, _) => format!("{answer} 0"),
+        }
+    }
+
     fn whole(&self) -> String {
         let rust = &self.rust;
         let answer = self.refusal(None);
         let len = if answer == 0 { K::rust_len(rust) } else { 0 };
         format!(
-            "{} e {} n {answer} {len} f {} l {} s {}",
+            "{} e {} n {answer} {len} f {} l {} s {} t {}",
             self.shown(),
             self.told(None, K::rust_is_empty(rust)),
             self.found(K::rust_first(rust)),
             self.found(K::rust_last(rust)),
             self.found(K::rust_entries(rust).get(1).copied()),
+            self.total(),
         )
     }
 
@@ -148,6 +162,16 @@ impl<K: Kind> Lent<K> {
         )
     }
 
+    fn combined(&self, other: &Self, combine: fn(&K::Rust, &K::Rust) -> Vec<Ends>) -> String {
+        let answer = self.refusal(None).max(other.refusal(None));
+        let ranges = if answer == 0 {
+            combine(&self.rust, &other.rust)
+        } else {
+            Vec::new()
+        };
+        listed::<K>(answer, ranges)
+    }
+
     fn with(&self, other: &Self) -> String {
         let answer = self.refusal(None).max(other.refusal(None));
         // The order plus one.
@@ -158,10 +182,12 @@ impl<K: Kind> Lent<K> {
             Ordering::Greater => 2,
         };
         format!(
-            "{} {} q {} m {answer} {order}",
+            "{} {} q {} m {answer} {order} a {} u {}",
             self.shown(),
             other.shown(),
             told(answer, self.rust == other.rust),
+            self.combined(other, K::rust_intersection),
+            self.combined(other, K::rust_union),
         )
     }
 }
@@ -181,7 +207,7 @@ fn listed<K: Kind>(mut answer: u8, mut ranges: Vec<Ends>) -> String {
     format!("{answer} {count}{ranges}")
 }
 
-fn lines<K: Kind>() -> Vec<String> {
+fn lines<K: SetKind>() -> Vec<String> {
     let sets = sets::<K>();
     let mut lines: Vec<String> = sets.iter().map(Lent::whole).collect();
     for set in &sets {
@@ -197,7 +223,7 @@ fn lines<K: Kind>() -> Vec<String> {
 }
 
 /// What the program has to print.
-pub fn replay<A: Kind, B: Kind>() -> String {
+pub fn replay<A: SetKind, B: SetKind>() -> String {
     let lines = lines::<A>().into_iter().chain(lines::<B>());
     lines.map(|line| line + "\n").collect()
 }
