@@ -20,6 +20,12 @@ pub record Step (kind : Kind) (m : Stored) (k : ℕ) : Type 0 where
   pub past : k + 1 < m .count → place kind m k .hi ≤ place kind m (k + 1) .lo
   pub unlike : k + 1 < m .count → place kind m k .hi ≡ place kind m (k + 1) .lo → place kind m k .label ≡ place kind m (k + 1) .label → ⊥
 
+-- the same of a place that has a next
+pub record Follows (kind : Kind) (m : Stored) (k : ℕ) : Type 0 where
+  pub full : place kind m k .lo < place kind m k .hi
+  pub past : place kind m k .hi ≤ place kind m (k + 1) .lo
+  pub unlike : place kind m k .hi ≡ place kind m (k + 1) .lo → place kind m k .label ≡ place kind m (k + 1) .label → ⊥
+
 -- the keys at place k are i64, as what is read from memory
 pub record Keys (m : Stored) (k : ℕ) : Type 0 where
   pub start-fits : SFits w64 (getD (m .starts) k (pos 0))

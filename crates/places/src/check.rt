@@ -1,55 +1,56 @@
-// The check of a lent map, for both kinds of range. The live places are walked once, and each column of the unused ones once.
+// The check of a lent map of either kind. The live places are walked once, and each column of the unused ones once.
+use key::RangeKind;
 ghost use mathlib.Core.Path.{_≡_};
 ghost use mathlib.Core.Bool.{true};
 ghost use Prim.Native.Nat.{ℕ, _+_, _<_, _≤_};
 ghost use lib.ListN.{length};
 ghost use lib.IntN.{pos};
 ghost use Rattle.key.specs.Decides.{Decides};
-ghost use Rattle.key.specs.Range.{halfOpen, inclusive};
+ghost use Rattle.key.specs.Rank.{rank};
+ghost use Rattle.key.specs.Range.{halfOpen, inclusive, kindOf};
 ghost use Rattle.outcomes.specs.Stored.{stored, wellFormed, AllFit};
-ghost use Rattle.places.specs.Check.{Step, Steps, Keys, Spare, Unused};
+ghost use Rattle.places.specs.Check.{Follows, Steps, Keys, Spare, Unused};
 
-// Whether the half-open range at `k` is not empty, and the next one may follow it.
-fn step(starts: &[i64], ends: &[i64], values: &[u8], count: usize, k: usize) -> bool
-    requires { ⌜ (k < count) × (count ≤ length (now starts)) × (length (now ends) ≡ length (now starts)) × (length (now values) ≡ length (now starts)) ⌝ }
-    ensures { λ r. ⌜ Decides r (Step halfOpen (stored count (now (starts .entry)) (now (ends .entry)) (now (values .entry))) k) ⌝ }
-    ensures { λ _. ⌜ Keys (stored count (now (starts .entry)) (now (ends .entry)) (now (values .entry))) k ⌝ }
+// The greatest key at which the next range may not begin: the end of a half-open range before one of the same value, else the key before its end.
+fn bar(end: i64, value: u8, next: u8) -> i64
+    requires { ⌜ 0 < rank end ⌝ }
+    ensures { λ r. ⌜ (value ≡ next → rank r ≡ rank end) × ((value ≡ next → ⊥) → rank r + 1 ≡ rank end) ⌝ }
+{
+    if value == next {
+        return end;
+    }
+    key::prev(end)
+}
+
+// Whether the half-open range at `k` is not empty, and the next one may follow it. A good map passes both tests, so no branch is ever mistaken.
+fn half_open(starts: &[i64], ends: &[i64], values: &[u8], k: usize) -> bool
+    requires { ⌜ (k + 1 < length (now starts)) × (length (now ends) ≡ length (now starts)) × (length (now values) ≡ length (now starts)) ⌝ }
+    ensures { λ r. ⌜ ((n : ℕ) → Decides r (Follows halfOpen (stored n (now (starts .entry)) (now (ends .entry)) (now (values .entry))) k)) ⌝ }
+    ensures { λ _. ⌜ ((n : ℕ) → Keys (stored n (now (starts .entry)) (now (ends .entry)) (now (values .entry))) k) ⌝ }
 {
     let end = ends[k];
     if starts[k] >= end {
         return false;
     }
     let n = k + 1;
-    if n >= count {
-        return true;
-    }
     let next = starts[n];
-    if next < end {
-        return false;
-    }
-    // Both values are read before the test, so that its two halves are one branch, which a good map never takes.
-    let value = values[k];
-    let other = values[n];
-    if next == end && value == other {
+    if next <= bar(end, values[k], values[n]) {
         return false;
     }
     true
 }
 
 // The same for an inclusive range. One is added to the end only where a later key was seen.
-fn step_inclusive(starts: &[i64], ends: &[i64], values: &[u8], count: usize, k: usize) -> bool
-    requires { ⌜ (k < count) × (count ≤ length (now starts)) × (length (now ends) ≡ length (now starts)) × (length (now values) ≡ length (now starts)) ⌝ }
-    ensures { λ r. ⌜ Decides r (Step inclusive (stored count (now (starts .entry)) (now (ends .entry)) (now (values .entry))) k) ⌝ }
-    ensures { λ _. ⌜ Keys (stored count (now (starts .entry)) (now (ends .entry)) (now (values .entry))) k ⌝ }
+fn inclusive(starts: &[i64], ends: &[i64], values: &[u8], k: usize) -> bool
+    requires { ⌜ (k + 1 < length (now starts)) × (length (now ends) ≡ length (now starts)) × (length (now values) ≡ length (now starts)) ⌝ }
+    ensures { λ r. ⌜ ((n : ℕ) → Decides r (Follows inclusive (stored n (now (starts .entry)) (now (ends .entry)) (now (values .entry))) k)) ⌝ }
+    ensures { λ _. ⌜ ((n : ℕ) → Keys (stored n (now (starts .entry)) (now (ends .entry)) (now (values .entry))) k) ⌝ }
 {
     let end = ends[k];
     if starts[k] > end {
         return false;
     }
     let n = k + 1;
-    if n >= count {
-        return true;
-    }
     let next = starts[n];
     if next <= end {
         return false;
@@ -62,36 +63,58 @@ fn step_inclusive(starts: &[i64], ends: &[i64], values: &[u8], count: usize, k: 
     true
 }
 
-// Whether the live places are tidy: no range empty or reversed, all ascending without overlap, none joining the next.
-fn tidy(starts: &[i64], ends: &[i64], values: &[u8], count: usize) -> bool
-    requires { ⌜ (count ≤ length (now starts)) × (length (now ends) ≡ length (now starts)) × (length (now values) ≡ length (now starts)) ⌝ }
-    ensures { λ r. ⌜ Decides r (Steps halfOpen (stored count (now (starts .entry)) (now (ends .entry)) (now (values .entry)))) ⌝ }
-    ensures { λ r. ⌜ (r ≡ true → (k : ℕ) → k < count → Keys (stored count (now (starts .entry)) (now (ends .entry)) (now (values .entry))) k) ⌝ }
+// The same for a range of either kind.
+fn step(kind: RangeKind, starts: &[i64], ends: &[i64], values: &[u8], k: usize) -> bool
+    requires { ⌜ (k + 1 < length (now starts)) × (length (now ends) ≡ length (now starts)) × (length (now values) ≡ length (now starts)) ⌝ }
+    ensures { λ r. ⌜ ((n : ℕ) → Decides r (Follows (kindOf kind) (stored n (now (starts .entry)) (now (ends .entry)) (now (values .entry))) k)) ⌝ }
+    ensures { λ _. ⌜ ((n : ℕ) → Keys (stored n (now (starts .entry)) (now (ends .entry)) (now (values .entry))) k) ⌝ }
 {
-    let mut k = 0;
-    while k < count {
-        if !step(starts, ends, values, count, k) {
-            return false;
-        }
-        k += 1;
+    match kind {
+        RangeKind::HalfOpen => half_open(starts, ends, values, k),
+        RangeKind::Inclusive => inclusive(starts, ends, values, k),
     }
-    true
 }
 
-// The same for inclusive ranges.
-fn tidy_inclusive(starts: &[i64], ends: &[i64], values: &[u8], count: usize) -> bool
+// Whether a range is not empty.
+fn full(kind: RangeKind, start: i64, end: i64) -> bool
+    ensures { λ r. ⌜ Decides r (rank start < kindOf kind .past end) ⌝ }
+{
+    match kind {
+        RangeKind::HalfOpen => {
+            if start < end {
+                return true;
+            }
+            false
+        }
+        RangeKind::Inclusive => {
+            if start <= end {
+                return true;
+            }
+            false
+        }
+    }
+}
+
+// Whether the live places are tidy: no range empty or reversed, all ascending without overlap, none joining the next. The last has no next.
+fn tidy(kind: RangeKind, starts: &[i64], ends: &[i64], values: &[u8], count: usize) -> bool
     requires { ⌜ (count ≤ length (now starts)) × (length (now ends) ≡ length (now starts)) × (length (now values) ≡ length (now starts)) ⌝ }
-    ensures { λ r. ⌜ Decides r (Steps inclusive (stored count (now (starts .entry)) (now (ends .entry)) (now (values .entry)))) ⌝ }
+    ensures { λ r. ⌜ Decides r (Steps (kindOf kind) (stored count (now (starts .entry)) (now (ends .entry)) (now (values .entry)))) ⌝ }
     ensures { λ r. ⌜ (r ≡ true → (k : ℕ) → k < count → Keys (stored count (now (starts .entry)) (now (ends .entry)) (now (values .entry))) k) ⌝ }
 {
+    if count == 0 {
+        return true;
+    }
+    let last = count - 1;
     let mut k = 0;
-    while k < count {
-        if !step_inclusive(starts, ends, values, count, k) {
+    while k < last {
+        if !step(kind, starts, ends, values, k) {
             return false;
         }
         k += 1;
     }
-    true
+    let start = starts[last];
+    let end = ends[last];
+    full(kind, start, end)
 }
 
 // Whether all keys from a place on are 0. With no early return the loop takes several places at a time.
@@ -148,26 +171,20 @@ fn unused(starts: &[i64], ends: &[i64], values: &[u8], count: usize) -> bool
     true
 }
 
-// Whether a map of half-open ranges is well formed.
-pub fn well_formed(starts: &[i64], ends: &[i64], values: &[u8], count: usize) -> bool
+// Whether a map is well formed.
+pub fn well_formed(
+    kind: RangeKind,
+    starts: &[i64],
+    ends: &[i64],
+    values: &[u8],
+    count: usize,
+) -> bool
     requires { ⌜ (length (now ends) ≡ length (now starts)) × (length (now values) ≡ length (now starts)) ⌝ }
-    ensures { λ r. ⌜ r ≡ wellFormed halfOpen (length (now (starts .entry))) (stored count (now (starts .entry)) (now (ends .entry)) (now (values .entry))) ⌝ }
+    ensures { λ r. ⌜ r ≡ wellFormed (kindOf kind) (length (now (starts .entry))) (stored count (now (starts .entry)) (now (ends .entry)) (now (values .entry))) ⌝ }
     ensures { λ r. ⌜ (r ≡ true → AllFit (now (starts .entry)) × AllFit (now (ends .entry))) ⌝ }
 {
     if !unused(starts, ends, values, count) {
         return false;
     }
-    tidy(starts, ends, values, count)
-}
-
-// Whether a map of inclusive ranges is well formed.
-pub fn well_formed_inclusive(starts: &[i64], ends: &[i64], values: &[u8], count: usize) -> bool
-    requires { ⌜ (length (now ends) ≡ length (now starts)) × (length (now values) ≡ length (now starts)) ⌝ }
-    ensures { λ r. ⌜ r ≡ wellFormed inclusive (length (now (starts .entry))) (stored count (now (starts .entry)) (now (ends .entry)) (now (values .entry))) ⌝ }
-    ensures { λ r. ⌜ (r ≡ true → AllFit (now (starts .entry)) × AllFit (now (ends .entry))) ⌝ }
-{
-    if !unused(starts, ends, values, count) {
-        return false;
-    }
-    tidy_inclusive(starts, ends, values, count)
+    tidy(kind, starts, ends, values, count)
 }

@@ -1,5 +1,6 @@
 // Whether a map is a set: the values of all its places are 0. And the check of a lent set, for both kinds of range.
 use crate::check;
+use key::RangeKind;
 use outcomes::PLACES;
 ghost use mathlib.Core.Path.{_≡_};
 ghost use mathlib.Core.Bool.{true};
@@ -36,7 +37,7 @@ pub fn is_set(
     if !plain(values) {
         return false;
     }
-    check::well_formed(starts, ends, values, count)
+    check::well_formed(RangeKind::HalfOpen, starts, ends, values, count)
 }
 
 // Whether a lent set of inclusive ranges is as it must be.
@@ -52,5 +53,5 @@ pub fn is_inclusive_set(
     if !plain(values) {
         return false;
     }
-    check::well_formed_inclusive(starts, ends, values, count)
+    check::well_formed(RangeKind::Inclusive, starts, ends, values, count)
 }

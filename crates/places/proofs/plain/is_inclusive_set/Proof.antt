@@ -19,8 +19,8 @@ returns c =
     let m = stored (a .count) (a .starts .now) (a .ends .now) (a .values .now) in
     (no-set inclusive m (sym (c .before .plain .ensures) ∙ not-true _ (c .if1 .taken)), λ e. never e)
 
-well-formed-inclusive-requires : tie.Need-well-formed-inclusive-requires
-well-formed-inclusive-requires c κs = search needs
+well-formed-requires : tie.Need-well-formed-requires
+well-formed-requires c κs = search needs
 
 returns-2 : tie.Need-returns-2
 returns-2 c =
@@ -28,7 +28,7 @@ returns-2 c =
     let a = s .args in
     let m = stored (a .count) (a .starts .now) (a .ends .now) (a .values .now) in
     let p = c .before .before .before .before .before .plain .ensures in
-    set-answers inclusive m _ (omega arith) (omega arith) (omega arith) (sym p ∙ not-false _ (c .before .before .before .before .if1 .left)) (c .well-formed-inclusive .ensures .0) (c .well-formed-inclusive .ensures .1)
+    set-answers inclusive m _ (omega arith) (omega arith) (omega arith) (sym p ∙ not-false _ (c .before .before .before .before .if1 .left)) (c .well-formed .ensures .0) (c .well-formed .ensures .1)
 
 pub is-inclusive-set-spec : {M : Type 1} → statement M
-is-inclusive-set-spec = tie.close (tie.spec plain-requires returns well-formed-inclusive-requires returns-2)
+is-inclusive-set-spec = tie.close (tie.spec plain-requires returns well-formed-requires returns-2)
