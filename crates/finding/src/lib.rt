@@ -12,7 +12,7 @@ ghost use mathlib.Core.Path.{_≡_};
 ghost use Rattle.key.specs.Range.{kindOf};
 ghost use Rattle.outcomes.specs.Stored.{lent};
 ghost use Rattle.outcomes.specs.Outcomes.{containing, gapsIn, lookup, meeting, overlapping};
-ghost use Rattle.gaps.specs.Walk.{wrote};
+ghost use Rattle.lists.specs.Lists.{wrote};
 
 // The range that holds the key, and its value.
 pub fn get_key_value<'a>(

@@ -17,7 +17,9 @@ use Rattle.outcomes.specs.Outcomes.{over, writing, uncovered}
 use Rattle.outcomes.specs.declared.Counted.the-variants as Counted
 use Rattle.outcomes.proofs.Storing.{map-take, map-drop}
 use Rattle.outcomes.proofs.Formed.{Formed, Shaped, formed, length-ranges, getD-ranges}
-use Rattle.gaps.specs.Walk.{wrote, startsOf, endsOf, Puts, walked, bare, rest, found, Places, First}
+use Rattle.lists.specs.Lists.{wrote, Puts}
+use Rattle.lists.proofs.Answering as answering
+use Rattle.gaps.specs.Walk.{walked, bare, rest, found, Places, First}
 use Rattle.gaps.proofs.Walk.{Ahead, walked-gaps}
 
 -- a gap does not depend on values
@@ -48,13 +50,6 @@ ahead-drop c p d xs f = elim (decLt p (length xs)) [
   | no h ↦ rw (drop-of-length-le xs {i = p} (omega arith)) tt
 ]
 
-not-le : {a b : ℕ} → (a ≤ b → ⊥) → b < a
-not-le {a} {b} h = elim (decLt b a) [ yes p ↦ p | no p ↦ absurd (h (omega arith)) ]
-
--- a lent list with stores in its first places
-sets-over : (vs l : List ℤ) → length vs ≤ length l → sets l 0 vs ≡ over vs l
-sets-over vs l h = let n : 0 + length vs ≡ length vs = omega arith in rw n at (sets-eq vs l 0 (omega arith))
-
 -- the outer range is empty or reversed
 pub answers-empty : (kind : Kind) (m : Stored) (s e : ℤ) (os oe : List ℤ) → kind .past e ≤ rank s → wrote (Counted.Refused 1) os oe ≡ uncovered kind m s e os oe
 unfolding uncovered
@@ -64,18 +59,6 @@ answers-empty kind m s e os oe h = rw (le-leb (kind .past e) (rank s) h)
 real-range : (kind : Kind) (m : Stored) (s e : ℤ) (os oe : List ℤ) → rank s < kind .past e → writing kind (gaps (rank s) (kind .past e) (ranges kind m)) os oe ≡ uncovered kind m s e os oe
 unfolding uncovered
 real-range kind m s e os oe h = rw (lt-leb (kind .past e) (rank s) h)
-
-module _ (kind : Kind) (xs : List Span) (os oe : List ℤ) where
-  writes-none : min (length os) (length oe) < length xs → wrote (Counted.Refused 3) os oe ≡ writing kind xs os oe
-  unfolding writing
-  writes-none h = rw (lt-ltb (min (length os) (length oe)) (length xs) h)
-
-  writes-all : length xs ≤ length os → length xs ≤ length oe → wrote (Counted.Count (length xs)) (sets os 0 (startsOf xs)) (sets oe 0 (endsOf kind xs)) ≡ writing kind xs os oe
-  unfolding writing
-  writes-all h i =
-      let a = sets-over (startsOf xs) os (omega (arith, length-map xs (λ (x : Span). keyAt (x .lo)))) in
-      let b = sets-over (endsOf kind xs) oe (omega (arith, length-map xs (λ (x : Span). kind .ending (x .hi)))) in
-      rw (a, b, le-ltb (min (length os) (length oe)) (length xs) (omega arith))
 
 -- of a well-formed map
 module _ (kind : Kind) {m : Stored} (sound : Sound kind m) where
@@ -115,13 +98,11 @@ module _ (kind : Kind) {m : Stored} (sound : Sound kind m) where
   module _ {p : ℕ} (s e : ℤ) (first : First kind (m .ends) (m .count) (rank s) p) (real : rank s < kind .past e) (os oe : List ℤ) {r : ℕ} (room : r ≡ min (length os) (length oe)) where
     pub answers-short : (length (found kind (m .starts) (m .ends) (m .count) p s e) ≤ r → ⊥) → wrote (Counted.Refused 3) os oe ≡ uncovered kind m s e os oe
     answers-short h =
-        let more = rw (finds-gaps first (kind .past e) real, room) at h in
-        writes-none kind _ os oe (not-le more) ∙ real-range kind m s e os oe real
+        answering.answers-short kind _ os oe room (rw (finds-gaps first (kind .past e) real) at h) ∙ real-range kind m s e os oe real
 
     pub answers-done : {n : ℕ} {os₁ oe₁ : List ℤ} → length (found kind (m .starts) (m .ends) (m .count) p s e) ≤ r
         → (n ≡ length (found kind (m .starts) (m .ends) (m .count) p s e)) × Puts kind 0 (found kind (m .starts) (m .ends) (m .count) p s e) os oe os₁ oe₁
         → wrote (Counted.Count n) os₁ oe₁ ≡ uncovered kind m s e os oe
     answers-done h w =
         let finds = finds-gaps first (kind .past e) real in
-        let fits = rw (finds, room) at h in
-        rw (w .0, w .1 .starts, w .1 .ends, finds) (writes-all kind _ os oe (omega (arith, fits)) (omega (arith, fits)) ∙ real-range kind m s e os oe real)
+        answering.answers-done kind _ os oe room (rw finds at h) (rw finds at w) ∙ real-range kind m s e os oe real

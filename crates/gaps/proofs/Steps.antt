@@ -17,7 +17,8 @@ use Rattle.key.specs.Range.{Kind, inclusive, rangeOf}
 use Rattle.key.proofs.Laws.{rank-back, rank-prev, key-rank, toZ-fit}
 use Rattle.key.proofs.Lawful.{Lawful}
 use Rattle.outcomes.proofs.Formed.{length-spans, getD-spans}
-use Rattle.gaps.specs.Walk.{startsOf, endsOf, Room, Puts, gap, walked, bare, rest, Places}
+use Rattle.lists.specs.Lists.{startsOf, endsOf, Room, Puts}
+use Rattle.gaps.specs.Walk.{gap, walked, bare, rest, Places}
 use Rattle.gaps.proofs.Walk.{gap-yes, gap-no, length-gap, length-walked, walked-none, walked-stop, walked-last, walked-on}
 
 -- the loop is at place k, the cursor at rank c, and so many gaps were found

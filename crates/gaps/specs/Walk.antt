@@ -2,7 +2,7 @@
 use Prim.Native.Nat.{ℕ, _+_, _≤_, _<_}
 use mathlib.Core.Path.{_≡_}
 use mathlib.Core.Bool.{cond}
-use mathlib.Core.List.{List, [], _∷_, _++_, map}
+use mathlib.Core.List.{List, [], _∷_, _++_}
 use lib.Dec.{leb}
 use lib.ListN.{length, getD, take, drop, replicate}
 use lib.Seq.{sets}
@@ -13,28 +13,6 @@ use Rattle.key.specs.Range.{Kind}
 use Rattle.outcomes.specs.Stored.{spans}
 use Rattle.outcomes.specs.Outcomes.{Written}
 use Rattle.outcomes.specs.declared.Counted.{Counted}
-
--- what a door answers, and what the two lent lists hold then
-abbrev pub wrote : Counted → List ℤ → List ℤ → Written
-wrote r ss es = record { answer = r; starts = ss; ends = es }
-
--- the starts that are written for gaps
-abbrev pub startsOf : List Span → List ℤ
-startsOf xs = map (λ (x : Span). keyAt (x .lo)) xs
-
--- the ends that are written for them
-abbrev pub endsOf : Kind → List Span → List ℤ
-endsOf kind xs = map (λ (x : Span). kind .ending (x .hi)) xs
-
--- from place n on, two lent lists have room for gaps
-pub record Room (n : ℕ) (xs : List Span) (os oe : List ℤ) : Type 0 where
-  pub starts : n + length xs ≤ length os
-  pub ends : n + length xs ≤ length oe
-
--- with the gaps written there, the lists os and oe become os₁ and oe₁
-pub record Puts (kind : Kind) (n : ℕ) (xs : List Span) (os oe os₁ oe₁ : List ℤ) : Type 0 where
-  pub starts : os₁ ≡ sets os n (startsOf xs)
-  pub ends : oe₁ ≡ sets oe n (endsOf kind xs)
 
 -- the gap from c up to d, if there is one
 unfoldable pub gap : ℕ → ℕ → List Span

@@ -1,7 +1,7 @@
 // Gaps among inclusive ranges, start..=end. One is added to an end only where a later key was seen, so the greatest key may be an end.
 use crate::between;
-use crate::put;
-use crate::shorter;
+use lists::put;
+use lists::shorter;
 use outcomes::Counted;
 use outcomes::EMPTY_RANGE;
 use outcomes::TOO_SHORT;
@@ -15,7 +15,8 @@ ghost use Rattle.key.specs.Range.{inclusive};
 ghost use Rattle.outcomes.specs.Stored.{Sound, stored};
 ghost use Rattle.outcomes.specs.Outcomes.{uncovered};
 ghost use Rattle.places.specs.Search.{Ascends};
-ghost use Rattle.gaps.specs.Walk.{wrote, Room, Puts, gap, found, Places, First};
+ghost use Rattle.lists.specs.Lists.{wrote, Room, Puts};
+ghost use Rattle.gaps.specs.Walk.{gap, found, Places, First};
 
 // How many gaps the places from `from` on leave between start and end.
 fn counted(starts: &[i64], ends: &[i64], count: usize, from: usize, start: i64, end: i64) -> usize

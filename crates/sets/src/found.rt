@@ -10,7 +10,7 @@ use places::plain::plain;
 ghost use mathlib.Core.Path.{_≡_};
 ghost use Rattle.key.specs.Range.{kindOf};
 ghost use Rattle.outcomes.specs.Stored.{lent};
-ghost use Rattle.gaps.specs.Walk.{wrote};
+ghost use Rattle.lists.specs.Lists.{wrote};
 ghost use Rattle.sets.specs.Answers.{setContaining, setGaps, setLookup, setMeeting, setOverlapping};
 
 // The range that holds the key.

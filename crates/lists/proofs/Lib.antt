@@ -1,0 +1,2 @@
+-- Answering: what is answered, and what the slices hold then.
+pub mod Answering
