@@ -15,8 +15,8 @@ pub struct Side {
 }
 
 // On the left: a range that starts before the new one is joined where the values are equal, and kept up to it where they are not.
-pub fn left_of(first: i64, value: u8, start: i64, new: u8) -> Side
-    ensures { λ r. ⌜ LeftSide first start value new (r .kept) (r .key) ⌝ }
+pub fn left_of(first: i64, below: u8, start: i64, new: u8) -> Side
+    ensures { λ r. ⌜ LeftSide first start below new (r .kept) (r .key) ⌝ }
 {
     if start <= first {
         return Side {
@@ -24,7 +24,7 @@ pub fn left_of(first: i64, value: u8, start: i64, new: u8) -> Side
             key: start,
         };
     }
-    if value == new {
+    if below == new {
         return Side {
             kept: false,
             key: first,
@@ -37,8 +37,8 @@ pub fn left_of(first: i64, value: u8, start: i64, new: u8) -> Side
 }
 
 // On the right: a range that ends after the new one is joined where the values are equal, and kept after it where they are not.
-pub fn right_of(last: i64, value: u8, end: i64, new: u8) -> Side
-    ensures { λ r. ⌜ RightSide end last value new (r .kept) (r .key) ⌝ }
+pub fn right_of(last: i64, above: u8, end: i64, new: u8) -> Side
+    ensures { λ r. ⌜ RightSide end last above new (r .kept) (r .key) ⌝ }
 {
     if last <= end {
         return Side {
@@ -46,7 +46,7 @@ pub fn right_of(last: i64, value: u8, end: i64, new: u8) -> Side
             key: end,
         };
     }
-    if value == new {
+    if above == new {
         return Side {
             kept: false,
             key: last,
