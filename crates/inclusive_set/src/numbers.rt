@@ -318,7 +318,8 @@ pub fn intersection<'a, 'b>(
 ) -> Count
     ensures { λ r. ⌜ Listed r (now («out_starts» .exit)) (now («out_ends» .exit)) (intersecting inclusive (lent (count .entry) (starts .entry) (ends .entry) (values .entry)) (lent (count2 .entry) (starts2 .entry) (ends2 .entry) (values2 .entry)) (now («out_starts» .entry)) (now («out_ends» .entry))) ⌝ }
 {
-    count_of(intersection::inclusive::intersection(
+    count_of(intersection::intersection(
+        RangeKind::Inclusive,
         count,
         starts,
         ends,
@@ -346,7 +347,8 @@ pub fn union<'a, 'b>(
 ) -> Count
     ensures { λ r. ⌜ Listed r (now («out_starts» .exit)) (now («out_ends» .exit)) (uniting inclusive (lent (count .entry) (starts .entry) (ends .entry) (values .entry)) (lent (count2 .entry) (starts2 .entry) (ends2 .entry) (values2 .entry)) (now («out_starts» .entry)) (now («out_ends» .entry))) ⌝ }
 {
-    count_of(union::inclusive::union(
+    count_of(union::union(
+        RangeKind::Inclusive,
         count,
         starts,
         ends,
@@ -368,5 +370,5 @@ pub fn total<'a>(
 ) -> Total
     ensures { λ r. ⌜ r ≡ totalOf (totalling inclusive (lent (count .entry) (starts .entry) (ends .entry) (values .entry))) ⌝ }
 {
-    total_of(total::inclusive::total(count, starts, ends, values))
+    total_of(total::total(RangeKind::Inclusive, count, starts, ends, values))
 }

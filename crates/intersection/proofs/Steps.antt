@@ -14,10 +14,13 @@ use Rattle.span.specs.Span.{Span, span, keep}
 use Rattle.span.specs.Operations.{common}
 use Rattle.span.proofs.Walks.{Spaced, meet, common-left, common-right, common-none, common-no, length-common}
 use Rattle.key.specs.Rank.{rank, keyAt}
-use Rattle.pairs.specs.Kind.{kindOf, wide}
+use Rattle.key.specs.Range.{kindOf}
+use Rattle.key.specs.declared.RangeKind.{RangeKind}
+use Rattle.pairs.specs.Kind.{wide}
 use Rattle.pairs.specs.Sides.{rows, rest, Side}
 use Rattle.pairs.proofs.Columns.{length-rows, spaced-rows, spaced-rest, rest-more, rest-none, rest-all}
-use Rattle.pairs.proofs.Writing.{Going, going-step}
+use Rattle.pairs.specs.Lists.{Going}
+use Rattle.pairs.proofs.Writing.{going-step}
 use Rattle.intersection.specs.Found.{shared, sharedFrom, Stepped}
 use Rattle.intersection.specs.declared.Overlap.{Overlap}
 
@@ -39,40 +42,40 @@ module _ (w s e t f : ℕ) (xs ys : List Span) (a : Spaced 0 (span s (w + e) 0 �
       ≡ cond (ltb (max s t) (w + min e f)) (span (max s t) (w + min e f) 0 ∷ common (span s (w + e) 0 ∷ xs) ys) (common (span s (w + e) 0 ∷ xs) ys)
   step-right h = common-right (span s (w + e) 0) (span t (w + f) 0) xs ys a b (omega arith) ∙ rw (meet-is) (cons-or (ltb (max s t) (w + min e f)) (span (max s t) (w + min e f) 0) _)
 
-module _ (closed : Bool) {sa ea sb eb : List ℤ} {na nb : ℕ} (a : Side (kindOf closed) sa ea na) (b : Side (kindOf closed) sb eb nb) where
+module _ (kind : RangeKind) {sa ea sb eb : List ℤ} {na nb : ℕ} (a : Side (kindOf kind) sa ea na) (b : Side (kindOf kind) sb eb nb) where
   -- at most as many as the sets have together
-  pub most : length (shared closed sa ea na sb eb nb) ≤ na + nb
-  most = omega (arith, length-common (rows (kindOf closed) sa ea na) (rows (kindOf closed) sb eb nb) (spaced-rows (kindOf closed) a) (spaced-rows (kindOf closed) b), length-rows (kindOf closed) a, length-rows (kindOf closed) b)
+  pub most : length (shared kind sa ea na sb eb nb) ≤ na + nb
+  most = omega (arith, length-common (rows (kindOf kind) sa ea na) (rows (kindOf kind) sb eb nb) (spaced-rows (kindOf kind) a) (spaced-rows (kindOf kind) b), length-rows (kindOf kind) a, length-rows (kindOf kind) b)
 
   -- from the first places on it is all
-  pub found-all : shared closed sa ea na sb eb nb ≡ sharedFrom closed sa ea na 0 sb eb nb 0
-  found-all = rw (rest-all (kindOf closed) a, rest-all (kindOf closed) b)
+  pub found-all : shared kind sa ea na sb eb nb ≡ sharedFrom kind sa ea na 0 sb eb nb 0
+  found-all = rw (rest-all (kindOf kind) a, rest-all (kindOf kind) b)
 
   -- past the end of either nothing is found
-  pub found-none : (i j : ℕ) → na ≤ i → sharedFrom closed sa ea na i sb eb nb j ≡ []
-  found-none i j h = rw (rest-none (kindOf closed) a i h) (common-none _)
+  pub found-none : (i j : ℕ) → na ≤ i → sharedFrom kind sa ea na i sb eb nb j ≡ []
+  found-none i j h = rw (rest-none (kindOf kind) a i h) (common-none _)
 
-  pub found-no : (i j : ℕ) → nb ≤ j → sharedFrom closed sa ea na i sb eb nb j ≡ []
-  found-no i j h = rw (rest-none (kindOf closed) b j h) (common-no _ (spaced-rest (kindOf closed) a i))
+  pub found-no : (i j : ℕ) → nb ≤ j → sharedFrom kind sa ea na i sb eb nb j ≡ []
+  found-no i j h = rw (rest-none (kindOf kind) b j h) (common-no _ (spaced-rest (kindOf kind) a i))
 
   -- A STEP: s and t are the ranks of the starts at hand, e and f those of the ends
   module _ {i j s e t f : ℕ} (p : i < na) (q : j < nb) (s-is : s ≡ rank (getD sa i (pos 0))) (e-is : e ≡ rank (getD ea i (pos 0))) (t-is : t ≡ rank (getD sb j (pos 0))) (f-is : f ≡ rank (getD eb j (pos 0))) where
-    found-by : (left : Bool) → left ≡ ltb e f → sharedFrom closed sa ea na i sb eb nb j
-        ≡ cond (ltb (max s t) (wide closed + min e f)) (span (max s t) (wide closed + min e f) 0 ∷ sharedFrom closed sa ea na (i + boolByte left) sb eb nb (j + boolByte (not left))) (sharedFrom closed sa ea na (i + boolByte left) sb eb nb (j + boolByte (not left)))
+    found-by : (left : Bool) → left ≡ ltb e f → sharedFrom kind sa ea na i sb eb nb j
+        ≡ cond (ltb (max s t) (wide kind + min e f)) (span (max s t) (wide kind + min e f) 0 ∷ sharedFrom kind sa ea na (i + boolByte left) sb eb nb (j + boolByte (not left))) (sharedFrom kind sa ea na (i + boolByte left) sb eb nb (j + boolByte (not left)))
     found-by true h =
-        let x = rest-more closed a i p s-is e-is in
-        let y = rest-more closed b j q t-is f-is in
+        let x = rest-more kind a i p s-is e-is in
+        let y = rest-more kind b j q t-is f-is in
         let n : j + 0 ≡ j = omega arith in
-        rw (n, x, y) (step-left (wide closed) s e t f _ _ (rw x at (spaced-rest (kindOf closed) a i)) (rw y at (spaced-rest (kindOf closed) b j)) (ltb-true e f (sym h)))
+        rw (n, x, y) (step-left (wide kind) s e t f _ _ (rw x at (spaced-rest (kindOf kind) a i)) (rw y at (spaced-rest (kindOf kind) b j)) (ltb-true e f (sym h)))
     found-by false h =
-        let x = rest-more closed a i p s-is e-is in
-        let y = rest-more closed b j q t-is f-is in
+        let x = rest-more kind a i p s-is e-is in
+        let y = rest-more kind b j q t-is f-is in
         let n : i + 0 ≡ i = omega arith in
-        rw (n, x, y) (step-right (wide closed) s e t f _ _ (rw x at (spaced-rest (kindOf closed) a i)) (rw y at (spaced-rest (kindOf closed) b j)) (ltb-false e f (sym h)))
+        rw (n, x, y) (step-right (wide kind) s e t f _ _ (rw x at (spaced-rest (kindOf kind) a i)) (rw y at (spaced-rest (kindOf kind) b j)) (ltb-false e f (sym h)))
 
-    found-step : {lo hi : ℕ} (left found : Bool) → left ≡ ltb e f → lo ≡ max s t → hi ≡ min e f → found ≡ ltb lo (wide closed + hi)
-        → sharedFrom closed sa ea na i sb eb nb j
-        ≡ cond found (span lo (wide closed + hi) 0 ∷ sharedFrom closed sa ea na (i + boolByte left) sb eb nb (j + boolByte (not left))) (sharedFrom closed sa ea na (i + boolByte left) sb eb nb (j + boolByte (not left)))
+    found-step : {lo hi : ℕ} (left found : Bool) → left ≡ ltb e f → lo ≡ max s t → hi ≡ min e f → found ≡ ltb lo (wide kind + hi)
+        → sharedFrom kind sa ea na i sb eb nb j
+        ≡ cond found (span lo (wide kind + hi) 0 ∷ sharedFrom kind sa ea na (i + boolByte left) sb eb nb (j + boolByte (not left))) (sharedFrom kind sa ea na (i + boolByte left) sb eb nb (j + boolByte (not left)))
     found-step left found l lo hi g = rw (g, lo, hi) (found-by left l)
 
 -- THE OUTPUT after a step: the open range was written, and is now what was found, or the same
@@ -81,22 +84,22 @@ open-step : (found : Bool) (w lo hi s e lo₁ hi₁ : ℕ) (all more : List Span
 open-step true w lo hi s e lo₁ hi₁ all more a l h = rw (a, l, h)
 open-step false w lo hi s e lo₁ hi₁ all more a l h = rw (a, l, h)
 
-module _ (closed : Bool) {sa ea sb eb : List ℤ} {na nb : ℕ} (a : Side (kindOf closed) sa ea na) (b : Side (kindOf closed) sb eb nb) (r : Overlap) {i j : ℕ} (p : i < na) (q : j < nb) (e : Stepped closed sa ea i sb eb j r) where
-  pub step-found : sharedFrom closed sa ea na i sb eb nb j
-      ≡ cond (r .found) (span (rank (r .start)) (wide closed + rank (r .end)) 0 ∷ sharedFrom closed sa ea na (i + boolByte (r .left)) sb eb nb (j + boolByte (not (r .left)))) (sharedFrom closed sa ea na (i + boolByte (r .left)) sb eb nb (j + boolByte (not (r .left))))
-  step-found = found-step closed a b p q refl refl refl refl (r .left) (r .found) (e .left) (e .start) (e .end) (e .found)
+module _ (kind : RangeKind) {sa ea sb eb : List ℤ} {na nb : ℕ} (a : Side (kindOf kind) sa ea na) (b : Side (kindOf kind) sb eb nb) (r : Overlap) {i j : ℕ} (p : i < na) (q : j < nb) (e : Stepped kind sa ea i sb eb j r) where
+  pub step-found : sharedFrom kind sa ea na i sb eb nb j
+      ≡ cond (r .found) (span (rank (r .start)) (wide kind + rank (r .end)) 0 ∷ sharedFrom kind sa ea na (i + boolByte (r .left)) sb eb nb (j + boolByte (not (r .left)))) (sharedFrom kind sa ea na (i + boolByte (r .left)) sb eb nb (j + boolByte (not (r .left))))
+  step-found = found-step kind a b p q refl refl refl refl (r .left) (r .found) (e .left) (e .start) (e .end) (e .found)
 
   -- the first that is found; and none yet
-  pub first-found : {goal : List Span} → r .found ≡ true → goal ≡ sharedFrom closed sa ea na i sb eb nb j
-      → goal ≡ span (rank (r .start)) (wide closed + rank (r .end)) 0 ∷ sharedFrom closed sa ea na (i + boolByte (r .left)) sb eb nb (j + boolByte (not (r .left)))
+  pub first-found : {goal : List Span} → r .found ≡ true → goal ≡ sharedFrom kind sa ea na i sb eb nb j
+      → goal ≡ span (rank (r .start)) (wide kind + rank (r .end)) 0 ∷ sharedFrom kind sa ea na (i + boolByte (r .left)) sb eb nb (j + boolByte (not (r .left)))
   first-found f g = g ∙ (rw f at step-found)
 
-  pub none-found : {goal : List Span} → r .found ≡ false → goal ≡ sharedFrom closed sa ea na i sb eb nb j → goal ≡ sharedFrom closed sa ea na (i + boolByte (r .left)) sb eb nb (j + boolByte (not (r .left)))
+  pub none-found : {goal : List Span} → r .found ≡ false → goal ≡ sharedFrom kind sa ea na i sb eb nb j → goal ≡ sharedFrom kind sa ea na (i + boolByte (r .left)) sb eb nb (j + boolByte (not (r .left)))
   none-found f g = g ∙ (rw f at step-found)
 
   pub going-found : {os oe os₁ oe₁ os₂ oe₂ : List ℤ} {goal : List Span} {at : ℕ} (lo hi lo₁ hi₁ : ℕ)
-      → Going (kindOf closed) os oe goal at (span lo (wide closed + hi) 0 ∷ sharedFrom closed sa ea na i sb eb nb j) os₁ oe₁
-      → lo₁ ≡ cond (r .found) (rank (r .start)) lo → hi₁ ≡ cond (r .found) (rank (r .end)) hi → os₂ ≡ set os₁ at (keyAt lo) → oe₂ ≡ set oe₁ at (kindOf closed .ending (wide closed + hi))
-      → Going (kindOf closed) os oe goal (at + boolByte (r .found)) (span lo₁ (wide closed + hi₁) 0 ∷ sharedFrom closed sa ea na (i + boolByte (r .left)) sb eb nb (j + boolByte (not (r .left)))) os₂ oe₂
+      → Going (kindOf kind) os oe goal at (span lo (wide kind + hi) 0 ∷ sharedFrom kind sa ea na i sb eb nb j) os₁ oe₁
+      → lo₁ ≡ cond (r .found) (rank (r .start)) lo → hi₁ ≡ cond (r .found) (rank (r .end)) hi → os₂ ≡ set os₁ at (keyAt lo) → oe₂ ≡ set oe₁ at (kindOf kind .ending (wide kind + hi))
+      → Going (kindOf kind) os oe goal (at + boolByte (r .found)) (span lo₁ (wide kind + hi₁) 0 ∷ sharedFrom kind sa ea na (i + boolByte (r .left)) sb eb nb (j + boolByte (not (r .left)))) os₂ oe₂
   going-found lo hi lo₁ hi₁ g l h s t =
-      going-step (kindOf closed) g (r .found) (span lo (wide closed + hi) 0) (open-step (r .found) (wide closed) lo hi (rank (r .start)) (rank (r .end)) lo₁ hi₁ _ _ step-found l h) (omega arith) s t
+      going-step (kindOf kind) g (r .found) (span lo (wide kind + hi) 0) (open-step (r .found) (wide kind) lo hi (rank (r .start)) (rank (r .end)) lo₁ hi₁ _ _ step-found l h) (omega arith) s t

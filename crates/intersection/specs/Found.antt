@@ -1,7 +1,6 @@
 -- What the walk finds from two places on, in two sets that are lent as columns.
 use Prim.Native.Nat.{ℕ, _+_, min, max}
 use mathlib.Core.Path.{_≡_}
-use mathlib.Core.Bool.{Bool}
 use mathlib.Core.List.{List}
 use lib.Dec.{ltb}
 use lib.ListN.{getD}
@@ -9,25 +8,27 @@ use lib.IntN.{ℤ, pos}
 use Rattle.span.specs.Span.{Span, span}
 use Rattle.span.specs.Operations.{common}
 use Rattle.key.specs.Rank.{rank}
-use Rattle.pairs.specs.Kind.{kindOf, wide}
+use Rattle.key.specs.Range.{kindOf}
+use Rattle.key.specs.declared.RangeKind.{RangeKind}
+use Rattle.pairs.specs.Kind.{wide}
 use Rattle.pairs.specs.Sides.{rows, rest}
 use Rattle.intersection.specs.declared.Overlap.{Overlap}
 
 -- what the two sets have in common
-abbrev pub shared : Bool → List ℤ → List ℤ → ℕ → List ℤ → List ℤ → ℕ → List Span
-shared closed sa ea na sb eb nb = common (rows (kindOf closed) sa ea na) (rows (kindOf closed) sb eb nb)
+abbrev pub shared : RangeKind → List ℤ → List ℤ → ℕ → List ℤ → List ℤ → ℕ → List Span
+shared kind sa ea na sb eb nb = common (rows (kindOf kind) sa ea na) (rows (kindOf kind) sb eb nb)
 
 -- what they have in common from place i of the first and place j of the second on
-abbrev pub sharedFrom : Bool → List ℤ → List ℤ → ℕ → ℕ → List ℤ → List ℤ → ℕ → ℕ → List Span
-sharedFrom closed sa ea na i sb eb nb j = common (rest (kindOf closed) sa ea na i) (rest (kindOf closed) sb eb nb j)
+abbrev pub sharedFrom : RangeKind → List ℤ → List ℤ → ℕ → ℕ → List ℤ → List ℤ → ℕ → ℕ → List Span
+sharedFrom kind sa ea na i sb eb nb j = common (rest (kindOf kind) sa ea na i) (rest (kindOf kind) sb eb nb j)
 
 -- the range that is open
-abbrev pub piece : Bool → ℤ → ℤ → Span
-piece closed s e = span (rank s) (wide closed + rank e) 0
+abbrev pub piece : RangeKind → ℤ → ℤ → Span
+piece kind s e = span (rank s) (wide kind + rank e) 0
 
 -- a step at places i and j: from the greater start to the lesser end, if that has a key; the range that ends first goes, and the second of two that end alike
-pub record Stepped (closed : Bool) (sa ea : List ℤ) (i : ℕ) (sb eb : List ℤ) (j : ℕ) (r : Overlap) : Type 0 where
+pub record Stepped (kind : RangeKind) (sa ea : List ℤ) (i : ℕ) (sb eb : List ℤ) (j : ℕ) (r : Overlap) : Type 0 where
   pub start : rank (r .start) ≡ max (rank (getD sa i (pos 0))) (rank (getD sb j (pos 0)))
   pub end : rank (r .end) ≡ min (rank (getD ea i (pos 0))) (rank (getD eb j (pos 0)))
-  pub found : r .found ≡ ltb (rank (r .start)) (wide closed + rank (r .end))
+  pub found : r .found ≡ ltb (rank (r .start)) (wide kind + rank (r .end))
   pub left : r .left ≡ ltb (rank (getD ea i (pos 0))) (rank (getD eb j (pos 0)))

@@ -1,27 +1,26 @@
 // INTERSECTION of two sets: the common points as maximal ranges, from operations.rs. One walk over both sets with two positions; the range that ends first goes.
 // Nothing is written before it is known that the lent lists are long enough; the ranges are counted for that only where there may be too many.
-// `closed` says which kind of range the sets hold: is the end in the range.
+use gaps::put;
+use gaps::shorter;
+use key::RangeKind;
 use outcomes::Counted;
+use outcomes::NOT_FORMED;
+use outcomes::PLACES;
 use outcomes::TOO_SHORT;
+use pairs::is_set_of;
 use pairs::meets;
 use pairs::pick;
-use pairs::put;
 use pairs::roomy;
-use pairs::shorter;
-
-pub mod half_open;
-pub mod inclusive;
-
 ghost use mathlib.Core.Path.{_≡_};
 ghost use mathlib.Core.List.{_∷_};
 ghost use Prim.Native.Nat.{_≤_, _<_};
 ghost use lib.ListN.{length};
 ghost use Rattle.key.specs.Decides.{Decides};
-ghost use Rattle.outcomes.specs.Stored.{stored};
-ghost use Rattle.outcomes.specs.Sets.{SoundSet, intersected};
-ghost use Rattle.pairs.specs.Kind.{kindOf};
+ghost use Rattle.outcomes.specs.Stored.{lent, stored};
+ghost use Rattle.outcomes.specs.Sets.{SoundSet, intersected, intersecting};
+ghost use Rattle.key.specs.Range.{kindOf};
 ghost use Rattle.pairs.specs.Sides.{Side};
-ghost use Rattle.pairs.specs.Lists.{wrote, Room, Puts};
+ghost use Rattle.gaps.specs.Walk.{wrote, Room, Puts};
 ghost use Rattle.intersection.specs.Found.{shared, sharedFrom, piece, Stepped};
 
 // A step of the walk: what the two ranges at hand have in common, whether that is anything, and whether the left one goes.
@@ -34,7 +33,7 @@ struct Overlap {
 
 // The step at places `i` and `j`.
 fn step(
-    closed: bool,
+    kind: RangeKind,
     starts_a: &[i64],
     ends_a: &[i64],
     i: usize,
@@ -43,7 +42,7 @@ fn step(
     j: usize,
 ) -> Overlap
     requires { ⌜ (i < length (now «starts_a»)) × (i < length (now «ends_a»)) × (j < length (now «starts_b»)) × (j < length (now «ends_b»)) ⌝ }
-    ensures { λ r. ⌜ Stepped closed (now («starts_a» .entry)) (now («ends_a» .entry)) i (now («starts_b» .entry)) (now («ends_b» .entry)) j r ⌝ }
+    ensures { λ r. ⌜ Stepped kind (now («starts_a» .entry)) (now («ends_a» .entry)) i (now («starts_b» .entry)) (now («ends_b» .entry)) j r ⌝ }
 {
     let start_a = starts_a[i];
     let start_b = starts_b[j];
@@ -54,14 +53,14 @@ fn step(
     Overlap {
         start,
         end,
-        found: meets(closed, start, end),
+        found: meets(kind, start, end),
         left: end_a < end_b,
     }
 }
 
 // How many ranges the two sets have in common.
 fn counted(
-    closed: bool,
+    kind: RangeKind,
     starts_a: &[i64],
     ends_a: &[i64],
     count_a: usize,
@@ -69,14 +68,14 @@ fn counted(
     ends_b: &[i64],
     count_b: usize,
 ) -> usize
-    requires { ⌜ Side (kindOf closed) (now «starts_a») (now «ends_a») «count_a» × Side (kindOf closed) (now «starts_b») (now «ends_b») «count_b» ⌝ }
-    ensures { λ r. ⌜ r ≡ length (shared closed (now («starts_a» .entry)) (now («ends_a» .entry)) «count_a» (now («starts_b» .entry)) (now («ends_b» .entry)) «count_b») ⌝ }
+    requires { ⌜ Side (kindOf kind) (now «starts_a») (now «ends_a») «count_a» × Side (kindOf kind) (now «starts_b») (now «ends_b») «count_b» ⌝ }
+    ensures { λ r. ⌜ r ≡ length (shared kind (now («starts_a» .entry)) (now («ends_a» .entry)) «count_a» (now («starts_b» .entry)) (now («ends_b» .entry)) «count_b») ⌝ }
 {
     let mut n = 0;
     let mut i = 0;
     let mut j = 0;
     while i < count_a && j < count_b {
-        let s = step(closed, starts_a, ends_a, i, starts_b, ends_b, j);
+        let s = step(kind, starts_a, ends_a, i, starts_b, ends_b, j);
         i += s.left as usize;
         j += !s.left as usize;
         n += s.found as usize;
@@ -87,7 +86,7 @@ fn counted(
 // Writes the range from `start` to `end`, and all that the sets have in common from places `i` and `j` on.
 // Each step writes the open range, and a range that is found becomes the open one: so no branch depends on the keys.
 fn write_from(
-    closed: bool,
+    kind: RangeKind,
     starts_a: &[i64],
     ends_a: &[i64],
     count_a: usize,
@@ -101,11 +100,11 @@ fn write_from(
     out_starts: &mut [i64],
     out_ends: &mut [i64],
 ) -> usize
-    requires { ⌜ Side (kindOf closed) (now «starts_a») (now «ends_a») «count_a» × Side (kindOf closed) (now «starts_b») (now «ends_b») «count_b»
+    requires { ⌜ Side (kindOf kind) (now «starts_a») (now «ends_a») «count_a» × Side (kindOf kind) (now «starts_b») (now «ends_b») «count_b»
         × («from_a» ≤ «count_a») × («from_b» ≤ «count_b»)
-        × Room 0 (piece closed start end ∷ sharedFrom closed (now «starts_a») (now «ends_a») «count_a» «from_a» (now «starts_b») (now «ends_b») «count_b» «from_b») (now «out_starts») (now «out_ends») ⌝ }
-    ensures { λ r. ⌜ (r ≡ length (piece closed start end ∷ sharedFrom closed (now («starts_a» .entry)) (now («ends_a» .entry)) «count_a» «from_a» (now («starts_b» .entry)) (now («ends_b» .entry)) «count_b» «from_b»))
-        × Puts (kindOf closed) 0 (piece closed start end ∷ sharedFrom closed (now («starts_a» .entry)) (now («ends_a» .entry)) «count_a» «from_a» (now («starts_b» .entry)) (now («ends_b» .entry)) «count_b» «from_b»)
+        × Room 0 (piece kind start end ∷ sharedFrom kind (now «starts_a») (now «ends_a») «count_a» «from_a» (now «starts_b») (now «ends_b») «count_b» «from_b») (now «out_starts») (now «out_ends») ⌝ }
+    ensures { λ r. ⌜ (r ≡ length (piece kind start end ∷ sharedFrom kind (now («starts_a» .entry)) (now («ends_a» .entry)) «count_a» «from_a» (now («starts_b» .entry)) (now («ends_b» .entry)) «count_b» «from_b»))
+        × Puts (kindOf kind) 0 (piece kind start end ∷ sharedFrom kind (now («starts_a» .entry)) (now («ends_a» .entry)) «count_a» «from_a» (now («starts_b» .entry)) (now («ends_b» .entry)) «count_b» «from_b»)
         (now («out_starts» .entry)) (now («out_ends» .entry)) (now («out_starts» .exit)) (now («out_ends» .exit)) ⌝ }
 {
     let mut at = 0;
@@ -115,7 +114,7 @@ fn write_from(
     let mut hi = end;
     while i < count_a && j < count_b {
         put(out_starts, out_ends, at, lo, hi);
-        let s = step(closed, starts_a, ends_a, i, starts_b, ends_b, j);
+        let s = step(kind, starts_a, ends_a, i, starts_b, ends_b, j);
         i += s.left as usize;
         j += !s.left as usize;
         at += s.found as usize;
@@ -128,7 +127,7 @@ fn write_from(
 
 // Writes what the sets have in common, and answers how many ranges that is. The first is looked for, and then the rest is written.
 fn write(
-    closed: bool,
+    kind: RangeKind,
     starts_a: &[i64],
     ends_a: &[i64],
     count_a: usize,
@@ -138,21 +137,21 @@ fn write(
     out_starts: &mut [i64],
     out_ends: &mut [i64],
 ) -> usize
-    requires { ⌜ Side (kindOf closed) (now «starts_a») (now «ends_a») «count_a» × Side (kindOf closed) (now «starts_b») (now «ends_b») «count_b»
-        × Room 0 (shared closed (now «starts_a») (now «ends_a») «count_a» (now «starts_b») (now «ends_b») «count_b») (now «out_starts») (now «out_ends») ⌝ }
-    ensures { λ r. ⌜ (r ≡ length (shared closed (now («starts_a» .entry)) (now («ends_a» .entry)) «count_a» (now («starts_b» .entry)) (now («ends_b» .entry)) «count_b»))
-        × Puts (kindOf closed) 0 (shared closed (now («starts_a» .entry)) (now («ends_a» .entry)) «count_a» (now («starts_b» .entry)) (now («ends_b» .entry)) «count_b»)
+    requires { ⌜ Side (kindOf kind) (now «starts_a») (now «ends_a») «count_a» × Side (kindOf kind) (now «starts_b») (now «ends_b») «count_b»
+        × Room 0 (shared kind (now «starts_a») (now «ends_a») «count_a» (now «starts_b») (now «ends_b») «count_b») (now «out_starts») (now «out_ends») ⌝ }
+    ensures { λ r. ⌜ (r ≡ length (shared kind (now («starts_a» .entry)) (now («ends_a» .entry)) «count_a» (now («starts_b» .entry)) (now («ends_b» .entry)) «count_b»))
+        × Puts (kindOf kind) 0 (shared kind (now («starts_a» .entry)) (now («ends_a» .entry)) «count_a» (now («starts_b» .entry)) (now («ends_b» .entry)) «count_b»)
         (now («out_starts» .entry)) (now («out_ends» .entry)) (now («out_starts» .exit)) (now («out_ends» .exit)) ⌝ }
 {
     let mut i = 0;
     let mut j = 0;
     while i < count_a && j < count_b {
-        let s = step(closed, starts_a, ends_a, i, starts_b, ends_b, j);
+        let s = step(kind, starts_a, ends_a, i, starts_b, ends_b, j);
         i += s.left as usize;
         j += !s.left as usize;
         if s.found {
             return write_from(
-                closed,
+                kind,
                 starts_a,
                 ends_a,
                 count_a,
@@ -173,7 +172,7 @@ fn write(
 
 // Whether `room` places are enough. Two sets have fewer ranges in common than they have together, so mostly none is counted.
 fn fits(
-    closed: bool,
+    kind: RangeKind,
     starts_a: &[i64],
     ends_a: &[i64],
     count_a: usize,
@@ -182,21 +181,21 @@ fn fits(
     count_b: usize,
     room: usize,
 ) -> bool
-    requires { ⌜ Side (kindOf closed) (now «starts_a») (now «ends_a») «count_a» × Side (kindOf closed) (now «starts_b») (now «ends_b») «count_b» ⌝ }
-    ensures { λ r. ⌜ Decides r (length (shared closed (now («starts_a» .entry)) (now («ends_a» .entry)) «count_a» (now («starts_b» .entry)) (now («ends_b» .entry)) «count_b») ≤ room) ⌝ }
+    requires { ⌜ Side (kindOf kind) (now «starts_a») (now «ends_a») «count_a» × Side (kindOf kind) (now «starts_b») (now «ends_b») «count_b» ⌝ }
+    ensures { λ r. ⌜ Decides r (length (shared kind (now («starts_a» .entry)) (now («ends_a» .entry)) «count_a» (now («starts_b» .entry)) (now («ends_b» .entry)) «count_b») ≤ room) ⌝ }
 {
     if roomy(count_a, count_b, room) {
         return true;
     }
-    if room < counted(closed, starts_a, ends_a, count_a, starts_b, ends_b, count_b) {
+    if room < counted(kind, starts_a, ends_a, count_a, starts_b, ends_b, count_b) {
         return false;
     }
     true
 }
 
-// THE INNER DOOR, for both kinds. The values are lent as a part of the sets, and none is read.
-pub fn intersection(
-    closed: bool,
+// THE INNER DOOR: the sets must be sound. The values are lent as a part of the sets, and none is read.
+pub fn intersection_unchecked(
+    kind: RangeKind,
     count_a: usize,
     starts_a: &[i64],
     ends_a: &[i64],
@@ -208,13 +207,13 @@ pub fn intersection(
     out_starts: &mut [i64],
     out_ends: &mut [i64],
 ) -> Counted
-    requires { ⌜ SoundSet (kindOf closed) (stored «count_a» (now «starts_a») (now «ends_a») (now «values_a»)) × SoundSet (kindOf closed) (stored «count_b» (now «starts_b») (now «ends_b») (now «values_b»)) ⌝ }
+    requires { ⌜ SoundSet (kindOf kind) (stored «count_a» (now «starts_a») (now «ends_a») (now «values_a»)) × SoundSet (kindOf kind) (stored «count_b» (now «starts_b») (now «ends_b») (now «values_b»)) ⌝ }
     ensures { λ r. ⌜ wrote r (now («out_starts» .exit)) (now («out_ends» .exit))
-        ≡ intersected (kindOf closed) (stored «count_a» (now («starts_a» .entry)) (now («ends_a» .entry)) (now («values_a» .entry))) (stored «count_b» (now («starts_b» .entry)) (now («ends_b» .entry)) (now («values_b» .entry))) (now («out_starts» .entry)) (now («out_ends» .entry)) ⌝ }
+        ≡ intersected (kindOf kind) (stored «count_a» (now («starts_a» .entry)) (now («ends_a» .entry)) (now («values_a» .entry))) (stored «count_b» (now («starts_b» .entry)) (now («ends_b» .entry)) (now («values_b» .entry))) (now («out_starts» .entry)) (now («out_ends» .entry)) ⌝ }
 {
     let room = shorter(out_starts.len(), out_ends.len());
     if !fits(
-        closed,
+        kind,
         starts_a,
         ends_a,
         count_a,
@@ -226,7 +225,7 @@ pub fn intersection(
         return Counted::Refused(TOO_SHORT);
     }
     let n = write(
-        closed,
+        kind,
         starts_a,
         ends_a,
         count_a,
@@ -237,4 +236,41 @@ pub fn intersection(
         out_ends,
     );
     Counted::Count(n)
+}
+
+// Any two sets are taken: the first is checked, then the second.
+pub fn intersection<'a, 'b>(
+    kind: RangeKind,
+    count_a: &'a usize,
+    starts_a: &'a [i64; PLACES],
+    ends_a: &'a [i64; PLACES],
+    values_a: &'a [u8; PLACES],
+    count_b: &'b usize,
+    starts_b: &'b [i64; PLACES],
+    ends_b: &'b [i64; PLACES],
+    values_b: &'b [u8; PLACES],
+    out_starts: &mut [i64],
+    out_ends: &mut [i64],
+) -> Counted
+    ensures { λ r. ⌜ wrote r (now («out_starts» .exit)) (now («out_ends» .exit)) ≡ intersecting (kindOf kind) (lent («count_a» .entry) («starts_a» .entry) («ends_a» .entry) («values_a» .entry)) (lent («count_b» .entry) («starts_b» .entry) («ends_b» .entry) («values_b» .entry)) (now («out_starts» .entry)) (now («out_ends» .entry)) ⌝ }
+{
+    if !is_set_of(kind, *count_a, starts_a, ends_a, values_a) {
+        return Counted::Refused(NOT_FORMED);
+    }
+    if !is_set_of(kind, *count_b, starts_b, ends_b, values_b) {
+        return Counted::Refused(NOT_FORMED);
+    }
+    intersection_unchecked(
+        kind,
+        *count_a,
+        starts_a,
+        ends_a,
+        values_a,
+        *count_b,
+        starts_b,
+        ends_b,
+        values_b,
+        out_starts,
+        out_ends,
+    )
 }

@@ -13,12 +13,13 @@ use Rattle.span.specs.Span.{Span, span}
 use Rattle.span.specs.Operations.{Plain}
 use Rattle.span.proofs.Walks.{Spaced, spaced-from, tidy-spaced}
 use Rattle.key.specs.Rank.{rank}
-use Rattle.key.specs.Range.{Kind, rangeOf}
+use Rattle.key.specs.Range.{Kind, kindOf, rangeOf}
+use Rattle.key.specs.declared.RangeKind.{RangeKind}
 use Rattle.outcomes.specs.Stored.{spans}
 use Rattle.outcomes.proofs.Formed.{length-spans, getD-spans}
-use Rattle.pairs.specs.Kind.{kindOf, wide}
+use Rattle.pairs.specs.Kind.{wide}
 use Rattle.pairs.specs.Sides.{rows, rest, Side}
-use Rattle.pairs.proofs.Closed.{past-is}
+use Rattle.pairs.proofs.Kinded.{past-is}
 
 -- a walk over two sides goes one place on in one of the two, and in no other
 pub one-goes : (left : Bool) → (boolByte left ≤ 1) × (boolByte left + boolByte (not left) ≡ 1)
@@ -78,6 +79,6 @@ module _ (kind : Kind) {ss es : List ℤ} {n : ℕ} (side : Side kind ss es n) w
       drop-cons (rows kind ss es n) k (span 0 0 0) (omega (arith, length-rows)) ∙ rw (getD-take n (spans kind ss es (replicate (length ss) 0)) k (span 0 0 0) h, here, getD-noughts (length ss) k, add-one)
 
 -- the range at a place, by the ranks of its keys
-pub rest-more : (closed : Bool) {ss es : List ℤ} {n : ℕ} → Side (kindOf closed) ss es n → (k : ℕ) {s e : ℕ} → k < n → s ≡ rank (getD ss k (pos 0)) → e ≡ rank (getD es k (pos 0))
-    → rest (kindOf closed) ss es n k ≡ span s (wide closed + e) 0 ∷ rest (kindOf closed) ss es n (k + 1)
-rest-more closed {es = es} side k h p q = place-more (kindOf closed) side k h ∙ rw (past-is closed (getD es k (pos 0)), p, q)
+pub rest-more : (kind : RangeKind) {ss es : List ℤ} {n : ℕ} → Side (kindOf kind) ss es n → (k : ℕ) {s e : ℕ} → k < n → s ≡ rank (getD ss k (pos 0)) → e ≡ rank (getD es k (pos 0))
+    → rest (kindOf kind) ss es n k ≡ span s (wide kind + e) 0 ∷ rest (kindOf kind) ss es n (k + 1)
+rest-more kind {es = es} side k h p q = place-more (kindOf kind) side k h ∙ rw (past-is kind (getD es k (pos 0)), p, q)

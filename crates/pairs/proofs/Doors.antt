@@ -19,8 +19,8 @@ use Rattle.outcomes.specs.Outcomes.{over, writing}
 use Rattle.outcomes.specs.Sets.{plain, SoundSet}
 use Rattle.outcomes.specs.declared.Counted.the-variants as Counted
 use Rattle.outcomes.proofs.Formed.{Formed, formed}
+use Rattle.gaps.specs.Walk.{wrote, startsOf, endsOf, Room, Puts}
 use Rattle.pairs.specs.Sides.{rows, Side}
-use Rattle.pairs.specs.Lists.{wrote, startsOf, endsOf, Room, Puts}
 
 -- a lent list with stores in its first places
 sets-over : (vs l : List ℤ) → length vs ≤ length l → sets l 0 vs ≡ over vs l

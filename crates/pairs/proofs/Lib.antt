@@ -1,5 +1,5 @@
--- Closed (the kind as a bool), Columns (a side, place by place), Writing (the output, place by place), Doors (what the doors answer).
-pub mod Closed
+-- Kinded (the kind, in what the code answers and stores), Columns (a side, place by place), Writing (the output, place by place), Doors (what the doors answer).
+pub mod Kinded
 pub mod Columns
 pub mod Writing
 pub mod Doors

@@ -13,19 +13,8 @@ use lib.ListN.{length-set}
 use Rattle.span.specs.Span.{Span}
 use Rattle.key.specs.Rank.{keyAt}
 use Rattle.key.specs.Range.{Kind}
-use Rattle.pairs.specs.Lists.{startsOf, endsOf, Room, Puts}
-
--- so many were counted, and those are still to be
-pub record Counting (goal : List Span) (at : ℕ) (todo : List Span) : Type 0 where
-  pub sum : at + length todo ≡ length goal
-
--- so many are written, and those are still to be, from there on
-pub record Going (kind : Kind) (os oe : List ℤ) (goal : List Span) (at : ℕ) (todo : List Span) (os₁ oe₁ : List ℤ) : Type 0 where
-  pub count : Counting goal at todo
-  pub starts-as : length os₁ ≡ length os
-  pub ends-as : length oe₁ ≡ length oe
-  pub starts : sets os₁ at (startsOf todo) ≡ sets os 0 (startsOf goal)
-  pub ends : sets oe₁ at (endsOf kind todo) ≡ sets oe 0 (endsOf kind goal)
+use Rattle.gaps.specs.Walk.{startsOf, endsOf, Room, Puts}
+use Rattle.pairs.specs.Lists.{Counting, Going}
 
 -- one range more is counted, or none
 pub counting-step : {goal : List Span} {at : ℕ} {todo : List Span} (fresh : Bool) (x : Span) {more : List Span} → Counting goal at todo → todo ≡ cond fresh (x ∷ more) more → Counting goal (at + boolByte fresh) more

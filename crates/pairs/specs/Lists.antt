@@ -1,33 +1,22 @@
--- A list of ranges that is written into two lent lists, of starts and of ends.
-use Prim.Native.Nat.{ℕ, _+_, _≤_}
+-- A list of ranges while it is written into two lent lists, one by one: what was written, and what is still to be. `Room` and `Puts` are those of the crate `gaps`.
+use Prim.Native.Nat.{ℕ, _+_}
 use mathlib.Core.Path.{_≡_}
-use mathlib.Core.List.{List, map}
+use mathlib.Core.List.{List}
 use lib.ListN.{length}
 use lib.Seq.{sets}
 use lib.IntN.{ℤ}
 use Rattle.span.specs.Span.{Span}
-use Rattle.key.specs.Rank.{keyAt}
 use Rattle.key.specs.Range.{Kind}
-use Rattle.outcomes.specs.Outcomes.{Written}
-use Rattle.outcomes.specs.declared.Counted.{Counted}
+use Rattle.gaps.specs.Walk.{startsOf, endsOf}
 
--- what a door answers, and what the two lent lists hold then
-abbrev pub wrote : Counted → List ℤ → List ℤ → Written
-wrote r ss es = record { answer = r; starts = ss; ends = es }
+-- so many were counted, and those are still to be
+pub record Counting (goal : List Span) (at : ℕ) (todo : List Span) : Type 0 where
+  pub sum : at + length todo ≡ length goal
 
--- the starts and the ends that are written for ranges
-abbrev pub startsOf : List Span → List ℤ
-startsOf xs = map (λ (x : Span). keyAt (x .lo)) xs
-
-abbrev pub endsOf : Kind → List Span → List ℤ
-endsOf kind xs = map (λ (x : Span). kind .ending (x .hi)) xs
-
--- from place n on, two lent lists have room for ranges
-pub record Room (n : ℕ) (xs : List Span) (os oe : List ℤ) : Type 0 where
-  pub starts : n + length xs ≤ length os
-  pub ends : n + length xs ≤ length oe
-
--- with the ranges written there, the lists os and oe become os₁ and oe₁
-pub record Puts (kind : Kind) (n : ℕ) (xs : List Span) (os oe os₁ oe₁ : List ℤ) : Type 0 where
-  pub starts : os₁ ≡ sets os n (startsOf xs)
-  pub ends : oe₁ ≡ sets oe n (endsOf kind xs)
+-- so many are written, and those are still to be, from there on
+pub record Going (kind : Kind) (os oe : List ℤ) (goal : List Span) (at : ℕ) (todo : List Span) (os₁ oe₁ : List ℤ) : Type 0 where
+  pub count : Counting goal at todo
+  pub starts-as : length os₁ ≡ length os
+  pub ends-as : length oe₁ ≡ length oe
+  pub starts : sets os₁ at (startsOf todo) ≡ sets os 0 (startsOf goal)
+  pub ends : sets oe₁ at (endsOf kind todo) ≡ sets oe 0 (endsOf kind goal)

@@ -1,21 +1,53 @@
-// What the walks over two sets share. A walk has no branch that depends on the keys: what would be a branch is a choice of two values,
+// What the walks over two sets share, for either kind of range. A walk has no branch that depends on the keys: what would be a branch is a choice of two values,
 // since no processor foresees which of two sets comes next.
+use key::RangeKind;
+use outcomes::PLACES;
+use places::plain;
 ghost use mathlib.Core.Path.{_≡_};
 ghost use mathlib.Core.Bool.{true, cond};
-ghost use Prim.Native.Nat.{_+_, _≤_, _<_, min};
+ghost use Prim.Native.Nat.{_+_, _≤_};
 ghost use lib.Dec.{ltb};
-ghost use lib.ListN.{length, set};
 ghost use Rattle.key.specs.Rank.{rank};
+ghost use Rattle.key.specs.Range.{kindOf};
+ghost use Rattle.outcomes.specs.Stored.{stored};
+ghost use Rattle.outcomes.specs.Sets.{formedSet, SoundSet};
 ghost use Rattle.pairs.specs.Kind.{wide};
 
-// Whether a range from `start` to `end` has a key: the one comparison in which the two kinds differ.
-pub fn meets(closed: bool, start: i64, end: i64) -> bool
-    ensures { λ r. ⌜ r ≡ ltb (rank start) (wide closed + rank end) ⌝ }
+// Whether a lent set is as it must be.
+pub fn is_set_of(
+    kind: RangeKind,
+    count: usize,
+    starts: &[i64; PLACES],
+    ends: &[i64; PLACES],
+    values: &[u8; PLACES],
+) -> bool
+    ensures { λ r. ⌜ r ≡ formedSet (kindOf kind) (stored count (now (starts .entry)) (now (ends .entry)) (now (values .entry))) ⌝ }
+    ensures { λ r. ⌜ (r ≡ true → SoundSet (kindOf kind) (stored count (now (starts .entry)) (now (ends .entry)) (now (values .entry)))) ⌝ }
 {
-    if closed {
-        return start <= end;
+    match kind {
+        RangeKind::HalfOpen => plain::is_set(count, starts, ends, values),
+        RangeKind::Inclusive => plain::is_inclusive_set(count, starts, ends, values),
     }
-    start < end
+}
+
+// Whether a range from `start` to `end` has a key: the one comparison in which the two kinds differ.
+pub fn meets(kind: RangeKind, start: i64, end: i64) -> bool
+    ensures { λ r. ⌜ r ≡ ltb (rank start) (wide kind + rank end) ⌝ }
+{
+    match kind {
+        RangeKind::HalfOpen => start < end,
+        RangeKind::Inclusive => start <= end,
+    }
+}
+
+// How far past its end a range reaches: 1 if the end is in it.
+pub fn width(kind: RangeKind) -> u64
+    ensures { λ r. ⌜ r ≡ wide kind ⌝ }
+{
+    match kind {
+        RangeKind::HalfOpen => 0,
+        RangeKind::Inclusive => 1,
+    }
 }
 
 // One of two keys.
@@ -23,16 +55,6 @@ pub fn pick(yes: bool, a: i64, b: i64) -> i64
     ensures { λ r. ⌜ rank r ≡ cond yes (rank a) (rank b) ⌝ }
 {
     if yes {
-        return a;
-    }
-    b
-}
-
-// The lesser of two lengths: a lent list of ranges is as long as the shorter of its two slices.
-pub fn shorter(a: usize, b: usize) -> usize
-    ensures { λ r. ⌜ r ≡ min a b ⌝ }
-{
-    if a < b {
         return a;
     }
     b
@@ -46,13 +68,4 @@ pub fn roomy(count_a: usize, count_b: usize, room: usize) -> bool
         return false;
     }
     count_b <= room - count_a
-}
-
-// Writes a range into place `n` of the two lent lists.
-pub fn put(out_starts: &mut [i64], out_ends: &mut [i64], n: usize, start: i64, end: i64)
-    requires { ⌜ (n < length (now «out_starts»)) × (n < length (now «out_ends»)) ⌝ }
-    ensures { λ _. ⌜ (now («out_starts» .exit) ≡ set (now («out_starts» .entry)) n start) × (now («out_ends» .exit) ≡ set (now («out_ends» .entry)) n end) ⌝ }
-{
-    out_starts[n] = start;
-    out_ends[n] = end;
 }

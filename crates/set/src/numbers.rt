@@ -294,7 +294,8 @@ pub fn intersection<'a, 'b>(
 ) -> Count
     ensures { λ r. ⌜ Listed r (now («out_starts» .exit)) (now («out_ends» .exit)) (intersecting halfOpen (lent (count .entry) (starts .entry) (ends .entry) (values .entry)) (lent (count2 .entry) (starts2 .entry) (ends2 .entry) (values2 .entry)) (now («out_starts» .entry)) (now («out_ends» .entry))) ⌝ }
 {
-    count_of(intersection::half_open::intersection(
+    count_of(intersection::intersection(
+        RangeKind::HalfOpen,
         count,
         starts,
         ends,
@@ -322,7 +323,8 @@ pub fn union<'a, 'b>(
 ) -> Count
     ensures { λ r. ⌜ Listed r (now («out_starts» .exit)) (now («out_ends» .exit)) (uniting halfOpen (lent (count .entry) (starts .entry) (ends .entry) (values .entry)) (lent (count2 .entry) (starts2 .entry) (ends2 .entry) (values2 .entry)) (now («out_starts» .entry)) (now («out_ends» .entry))) ⌝ }
 {
-    count_of(union::half_open::union(
+    count_of(union::union(
+        RangeKind::HalfOpen,
         count,
         starts,
         ends,
@@ -344,5 +346,5 @@ pub fn total<'a>(
 ) -> Total
     ensures { λ r. ⌜ r ≡ totalOf (totalling halfOpen (lent (count .entry) (starts .entry) (ends .entry) (values .entry))) ⌝ }
 {
-    total_of(total::half_open::total(count, starts, ends, values))
+    total_of(total::total(RangeKind::HalfOpen, count, starts, ends, values))
 }

@@ -1,28 +1,27 @@
 // UNION of two sets: the points of either, ascending and disjoint, from operations.rs. One walk over both sets with two positions; the range that starts first is taken.
 // Ranges that overlap become one. Ranges that only touch stay apart, as in the Rust.
 // Nothing is written before it is known that the lent lists are long enough; the ranges are counted for that only where there may be too many.
-// `closed` says which kind of range the sets hold: is the end in the range.
+use gaps::put;
+use gaps::shorter;
+use key::RangeKind;
 use outcomes::Counted;
+use outcomes::NOT_FORMED;
+use outcomes::PLACES;
 use outcomes::TOO_SHORT;
+use pairs::is_set_of;
 use pairs::meets;
 use pairs::pick;
-use pairs::put;
 use pairs::roomy;
-use pairs::shorter;
-
-pub mod half_open;
-pub mod inclusive;
-
 ghost use mathlib.Core.Path.{_≡_};
 ghost use Prim.Native.Nat.{_+_, _≤_, _<_};
 ghost use lib.ListN.{length};
 ghost use Rattle.key.specs.Decides.{Decides};
 ghost use Rattle.key.specs.Rank.{rank};
-ghost use Rattle.outcomes.specs.Stored.{stored};
-ghost use Rattle.outcomes.specs.Sets.{SoundSet, joining};
-ghost use Rattle.pairs.specs.Kind.{kindOf};
+ghost use Rattle.outcomes.specs.Stored.{lent, stored};
+ghost use Rattle.outcomes.specs.Sets.{SoundSet, joining, uniting};
+ghost use Rattle.key.specs.Range.{kindOf};
 ghost use Rattle.pairs.specs.Sides.{Side};
-ghost use Rattle.pairs.specs.Lists.{wrote, Room, Puts};
+ghost use Rattle.gaps.specs.Walk.{wrote, Room, Puts};
 ghost use Rattle.union.specs.Found.{either, openFrom, Opened, Next};
 
 // A range that is taken, and whether it is the left set's.
@@ -73,7 +72,7 @@ fn next(
 
 // How many ranges there are where the range from `start` to `end` is open.
 fn counted_from(
-    closed: bool,
+    kind: RangeKind,
     starts_a: &[i64],
     ends_a: &[i64],
     count_a: usize,
@@ -85,9 +84,9 @@ fn counted_from(
     start: i64,
     end: i64,
 ) -> usize
-    requires { ⌜ Side (kindOf closed) (now «starts_a») (now «ends_a») «count_a» × Side (kindOf closed) (now «starts_b») (now «ends_b») «count_b»
-        × Opened closed (rank start) (rank end) (now «starts_a») (now «ends_a») «count_a» «from_a» (now «starts_b») (now «ends_b») «count_b» «from_b» ⌝ }
-    ensures { λ r. ⌜ r ≡ length (openFrom closed (rank start) (rank end) (now («starts_a» .entry)) (now («ends_a» .entry)) «count_a» «from_a» (now («starts_b» .entry)) (now («ends_b» .entry)) «count_b» «from_b») ⌝ }
+    requires { ⌜ Side (kindOf kind) (now «starts_a») (now «ends_a») «count_a» × Side (kindOf kind) (now «starts_b») (now «ends_b») «count_b»
+        × Opened kind (rank start) (rank end) (now «starts_a») (now «ends_a») «count_a» «from_a» (now «starts_b») (now «ends_b») «count_b» «from_b» ⌝ }
+    ensures { λ r. ⌜ r ≡ length (openFrom kind (rank start) (rank end) (now («starts_a» .entry)) (now («ends_a» .entry)) «count_a» «from_a» (now («starts_b» .entry)) (now («ends_b» .entry)) «count_b» «from_b») ⌝ }
 {
     let total = count_a + count_b;
     let mut n = 0;
@@ -97,7 +96,7 @@ fn counted_from(
     let mut hi = end;
     while i + j < total {
         let t = next(starts_a, ends_a, count_a, i, starts_b, ends_b, count_b, j);
-        let joins = meets(closed, t.start, hi);
+        let joins = meets(kind, t.start, hi);
         i += t.left as usize;
         j += !t.left as usize;
         n += !joins as usize;
@@ -110,7 +109,7 @@ fn counted_from(
 // Writes the ranges, where the range from `start` to `end` is open. Each step writes the open range; the next one makes it longer, or becomes the open one:
 // so no branch depends on the keys.
 fn write_from(
-    closed: bool,
+    kind: RangeKind,
     starts_a: &[i64],
     ends_a: &[i64],
     count_a: usize,
@@ -124,11 +123,11 @@ fn write_from(
     out_starts: &mut [i64],
     out_ends: &mut [i64],
 ) -> usize
-    requires { ⌜ Side (kindOf closed) (now «starts_a») (now «ends_a») «count_a» × Side (kindOf closed) (now «starts_b») (now «ends_b») «count_b»
-        × Opened closed (rank start) (rank end) (now «starts_a») (now «ends_a») «count_a» «from_a» (now «starts_b») (now «ends_b») «count_b» «from_b»
-        × Room 0 (openFrom closed (rank start) (rank end) (now «starts_a») (now «ends_a») «count_a» «from_a» (now «starts_b») (now «ends_b») «count_b» «from_b») (now «out_starts») (now «out_ends») ⌝ }
-    ensures { λ r. ⌜ (r ≡ length (openFrom closed (rank start) (rank end) (now («starts_a» .entry)) (now («ends_a» .entry)) «count_a» «from_a» (now («starts_b» .entry)) (now («ends_b» .entry)) «count_b» «from_b»))
-        × Puts (kindOf closed) 0 (openFrom closed (rank start) (rank end) (now («starts_a» .entry)) (now («ends_a» .entry)) «count_a» «from_a» (now («starts_b» .entry)) (now («ends_b» .entry)) «count_b» «from_b»)
+    requires { ⌜ Side (kindOf kind) (now «starts_a») (now «ends_a») «count_a» × Side (kindOf kind) (now «starts_b») (now «ends_b») «count_b»
+        × Opened kind (rank start) (rank end) (now «starts_a») (now «ends_a») «count_a» «from_a» (now «starts_b») (now «ends_b») «count_b» «from_b»
+        × Room 0 (openFrom kind (rank start) (rank end) (now «starts_a») (now «ends_a») «count_a» «from_a» (now «starts_b») (now «ends_b») «count_b» «from_b») (now «out_starts») (now «out_ends») ⌝ }
+    ensures { λ r. ⌜ (r ≡ length (openFrom kind (rank start) (rank end) (now («starts_a» .entry)) (now («ends_a» .entry)) «count_a» «from_a» (now («starts_b» .entry)) (now («ends_b» .entry)) «count_b» «from_b»))
+        × Puts (kindOf kind) 0 (openFrom kind (rank start) (rank end) (now («starts_a» .entry)) (now («ends_a» .entry)) «count_a» «from_a» (now («starts_b» .entry)) (now («ends_b» .entry)) «count_b» «from_b»)
         (now («out_starts» .entry)) (now («out_ends» .entry)) (now («out_starts» .exit)) (now («out_ends» .exit)) ⌝ }
 {
     let total = count_a + count_b;
@@ -140,7 +139,7 @@ fn write_from(
     while i + j < total {
         put(out_starts, out_ends, at, lo, hi);
         let t = next(starts_a, ends_a, count_a, i, starts_b, ends_b, count_b, j);
-        let same = meets(closed, t.start, hi);
+        let same = meets(kind, t.start, hi);
         i += t.left as usize;
         j += !t.left as usize;
         at += !same as usize;
@@ -153,7 +152,7 @@ fn write_from(
 
 // How many ranges the union has.
 fn counted(
-    closed: bool,
+    kind: RangeKind,
     starts_a: &[i64],
     ends_a: &[i64],
     count_a: usize,
@@ -161,15 +160,15 @@ fn counted(
     ends_b: &[i64],
     count_b: usize,
 ) -> usize
-    requires { ⌜ Side (kindOf closed) (now «starts_a») (now «ends_a») «count_a» × Side (kindOf closed) (now «starts_b») (now «ends_b») «count_b» ⌝ }
-    ensures { λ r. ⌜ r ≡ length (either closed (now («starts_a» .entry)) (now («ends_a» .entry)) «count_a» (now («starts_b» .entry)) (now («ends_b» .entry)) «count_b») ⌝ }
+    requires { ⌜ Side (kindOf kind) (now «starts_a») (now «ends_a») «count_a» × Side (kindOf kind) (now «starts_b») (now «ends_b») «count_b» ⌝ }
+    ensures { λ r. ⌜ r ≡ length (either kind (now («starts_a» .entry)) (now («ends_a» .entry)) «count_a» (now («starts_b» .entry)) (now («ends_b» .entry)) «count_b») ⌝ }
 {
     if count_a + count_b == 0 {
         return 0;
     }
     let t = next(starts_a, ends_a, count_a, 0, starts_b, ends_b, count_b, 0);
     counted_from(
-        closed,
+        kind,
         starts_a,
         ends_a,
         count_a,
@@ -185,7 +184,7 @@ fn counted(
 
 // Writes the union, and answers how many ranges it has.
 fn write(
-    closed: bool,
+    kind: RangeKind,
     starts_a: &[i64],
     ends_a: &[i64],
     count_a: usize,
@@ -195,10 +194,10 @@ fn write(
     out_starts: &mut [i64],
     out_ends: &mut [i64],
 ) -> usize
-    requires { ⌜ Side (kindOf closed) (now «starts_a») (now «ends_a») «count_a» × Side (kindOf closed) (now «starts_b») (now «ends_b») «count_b»
-        × Room 0 (either closed (now «starts_a») (now «ends_a») «count_a» (now «starts_b») (now «ends_b») «count_b») (now «out_starts») (now «out_ends») ⌝ }
-    ensures { λ r. ⌜ (r ≡ length (either closed (now («starts_a» .entry)) (now («ends_a» .entry)) «count_a» (now («starts_b» .entry)) (now («ends_b» .entry)) «count_b»))
-        × Puts (kindOf closed) 0 (either closed (now («starts_a» .entry)) (now («ends_a» .entry)) «count_a» (now («starts_b» .entry)) (now («ends_b» .entry)) «count_b»)
+    requires { ⌜ Side (kindOf kind) (now «starts_a») (now «ends_a») «count_a» × Side (kindOf kind) (now «starts_b») (now «ends_b») «count_b»
+        × Room 0 (either kind (now «starts_a») (now «ends_a») «count_a» (now «starts_b») (now «ends_b») «count_b») (now «out_starts») (now «out_ends») ⌝ }
+    ensures { λ r. ⌜ (r ≡ length (either kind (now («starts_a» .entry)) (now («ends_a» .entry)) «count_a» (now («starts_b» .entry)) (now («ends_b» .entry)) «count_b»))
+        × Puts (kindOf kind) 0 (either kind (now («starts_a» .entry)) (now («ends_a» .entry)) «count_a» (now («starts_b» .entry)) (now («ends_b» .entry)) «count_b»)
         (now («out_starts» .entry)) (now («out_ends» .entry)) (now («out_starts» .exit)) (now («out_ends» .exit)) ⌝ }
 {
     if count_a + count_b == 0 {
@@ -206,7 +205,7 @@ fn write(
     }
     let t = next(starts_a, ends_a, count_a, 0, starts_b, ends_b, count_b, 0);
     write_from(
-        closed,
+        kind,
         starts_a,
         ends_a,
         count_a,
@@ -224,7 +223,7 @@ fn write(
 
 // Whether `room` places are enough. The union has at most as many ranges as the two sets, so mostly none is counted.
 fn fits(
-    closed: bool,
+    kind: RangeKind,
     starts_a: &[i64],
     ends_a: &[i64],
     count_a: usize,
@@ -233,21 +232,21 @@ fn fits(
     count_b: usize,
     room: usize,
 ) -> bool
-    requires { ⌜ Side (kindOf closed) (now «starts_a») (now «ends_a») «count_a» × Side (kindOf closed) (now «starts_b») (now «ends_b») «count_b» ⌝ }
-    ensures { λ r. ⌜ Decides r (length (either closed (now («starts_a» .entry)) (now («ends_a» .entry)) «count_a» (now («starts_b» .entry)) (now («ends_b» .entry)) «count_b») ≤ room) ⌝ }
+    requires { ⌜ Side (kindOf kind) (now «starts_a») (now «ends_a») «count_a» × Side (kindOf kind) (now «starts_b») (now «ends_b») «count_b» ⌝ }
+    ensures { λ r. ⌜ Decides r (length (either kind (now («starts_a» .entry)) (now («ends_a» .entry)) «count_a» (now («starts_b» .entry)) (now («ends_b» .entry)) «count_b») ≤ room) ⌝ }
 {
     if roomy(count_a, count_b, room) {
         return true;
     }
-    if room < counted(closed, starts_a, ends_a, count_a, starts_b, ends_b, count_b) {
+    if room < counted(kind, starts_a, ends_a, count_a, starts_b, ends_b, count_b) {
         return false;
     }
     true
 }
 
-// THE INNER DOOR, for both kinds. The values are lent as a part of the sets, and none is read.
-pub fn union(
-    closed: bool,
+// THE INNER DOOR: the sets must be sound. The values are lent as a part of the sets, and none is read.
+pub fn union_unchecked(
+    kind: RangeKind,
     count_a: usize,
     starts_a: &[i64],
     ends_a: &[i64],
@@ -259,13 +258,13 @@ pub fn union(
     out_starts: &mut [i64],
     out_ends: &mut [i64],
 ) -> Counted
-    requires { ⌜ SoundSet (kindOf closed) (stored «count_a» (now «starts_a») (now «ends_a») (now «values_a»)) × SoundSet (kindOf closed) (stored «count_b» (now «starts_b») (now «ends_b») (now «values_b»)) ⌝ }
+    requires { ⌜ SoundSet (kindOf kind) (stored «count_a» (now «starts_a») (now «ends_a») (now «values_a»)) × SoundSet (kindOf kind) (stored «count_b» (now «starts_b») (now «ends_b») (now «values_b»)) ⌝ }
     ensures { λ r. ⌜ wrote r (now («out_starts» .exit)) (now («out_ends» .exit))
-        ≡ joining (kindOf closed) (stored «count_a» (now («starts_a» .entry)) (now («ends_a» .entry)) (now («values_a» .entry))) (stored «count_b» (now («starts_b» .entry)) (now («ends_b» .entry)) (now («values_b» .entry))) (now («out_starts» .entry)) (now («out_ends» .entry)) ⌝ }
+        ≡ joining (kindOf kind) (stored «count_a» (now («starts_a» .entry)) (now («ends_a» .entry)) (now («values_a» .entry))) (stored «count_b» (now («starts_b» .entry)) (now («ends_b» .entry)) (now («values_b» .entry))) (now («out_starts» .entry)) (now («out_ends» .entry)) ⌝ }
 {
     let room = shorter(out_starts.len(), out_ends.len());
     if !fits(
-        closed,
+        kind,
         starts_a,
         ends_a,
         count_a,
@@ -277,7 +276,7 @@ pub fn union(
         return Counted::Refused(TOO_SHORT);
     }
     let n = write(
-        closed,
+        kind,
         starts_a,
         ends_a,
         count_a,
@@ -288,4 +287,41 @@ pub fn union(
         out_ends,
     );
     Counted::Count(n)
+}
+
+// Any two sets are taken: the first is checked, then the second.
+pub fn union<'a, 'b>(
+    kind: RangeKind,
+    count_a: &'a usize,
+    starts_a: &'a [i64; PLACES],
+    ends_a: &'a [i64; PLACES],
+    values_a: &'a [u8; PLACES],
+    count_b: &'b usize,
+    starts_b: &'b [i64; PLACES],
+    ends_b: &'b [i64; PLACES],
+    values_b: &'b [u8; PLACES],
+    out_starts: &mut [i64],
+    out_ends: &mut [i64],
+) -> Counted
+    ensures { λ r. ⌜ wrote r (now («out_starts» .exit)) (now («out_ends» .exit)) ≡ uniting (kindOf kind) (lent («count_a» .entry) («starts_a» .entry) («ends_a» .entry) («values_a» .entry)) (lent («count_b» .entry) («starts_b» .entry) («ends_b» .entry) («values_b» .entry)) (now («out_starts» .entry)) (now («out_ends» .entry)) ⌝ }
+{
+    if !is_set_of(kind, *count_a, starts_a, ends_a, values_a) {
+        return Counted::Refused(NOT_FORMED);
+    }
+    if !is_set_of(kind, *count_b, starts_b, ends_b, values_b) {
+        return Counted::Refused(NOT_FORMED);
+    }
+    union_unchecked(
+        kind,
+        *count_a,
+        starts_a,
+        ends_a,
+        values_a,
+        *count_b,
+        starts_b,
+        ends_b,
+        values_b,
+        out_starts,
+        out_ends,
+    )
 }

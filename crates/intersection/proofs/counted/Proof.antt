@@ -4,7 +4,8 @@ use native.Mathlib.Omega.{arith}
 use mathlib.Core.Bool.{not}
 use borrow.Author.Tests.{ltb-true, ltb-false}
 use mir.Val.{boolByte}
-use Rattle.pairs.proofs.Writing.{Counting, counting-step, counting-done}
+use Rattle.pairs.specs.Lists.{Counting}
+use Rattle.pairs.proofs.Writing.{counting-step, counting-done}
 use Rattle.pairs.proofs.Columns.{one-goes}
 use Rattle.intersection.specs.Found.{shared, sharedFrom}
 use Rattle.intersection.proofs.Steps.{most, found-all, found-none, found-no, step-found}
@@ -12,14 +13,14 @@ use Rattle.intersection.proofs.counted.Statement.{statement}
 use Rattle.intersection.proofs.counted.Tie as tie
 
 abbrev Inv-loop : tie.InvT-loop
-Inv-loop closed starts-a ends-a count-a starts-b ends-b count-b n₀ i₀ j₀ n i j =
-    (i ≤ count-a) × (j ≤ count-b) × Counting (shared closed starts-a ends-a count-a starts-b ends-b count-b) n (sharedFrom closed starts-a ends-a count-a i starts-b ends-b count-b j)
+Inv-loop kind starts-a ends-a count-a starts-b ends-b count-b n₀ i₀ j₀ n i j =
+    (i ≤ count-a) × (j ≤ count-b) × Counting (shared kind starts-a ends-a count-a starts-b ends-b count-b) n (sharedFrom kind starts-a ends-a count-a i starts-b ends-b count-b j)
 
 abbrev μ-loop : tie.MeasureT-loop
-μ-loop closed starts-a ends-a count-a starts-b ends-b count-b n₀ i₀ j₀ n i j = (count-a - i) + (count-b - j)
+μ-loop kind starts-a ends-a count-a starts-b ends-b count-b n₀ i₀ j₀ n i j = (count-a - i) + (count-b - j)
 
 loop-holds : tie.Need-loop-holds Inv-loop μ-loop
-loop-holds c = (omega arith, omega arith, record { sum = rw (found-all (c .args .closed) (c .pre .0) (c .pre .1)) (omega arith) })
+loop-holds c = (omega arith, omega arith, record { sum = rw (found-all (c .args .kind) (c .pre .0) (c .pre .1)) (omega arith) })
 
 -- the second test, as a fact
 right : (c : tie.Then1 Inv-loop μ-loop) → c .before .before .loop .j < c .before .before .before .args .count-b
@@ -45,19 +46,19 @@ cast-n c = tt
 
 -- what is found by the step
 found : (c : tie.After-step Inv-loop μ-loop) → let l = c .before .before .before .loop in let a = c .before .before .before .before .args in
-    Counting (shared (a .closed) (a .starts-a .now) (a .ends-a .now) (a .count-a) (a .starts-b .now) (a .ends-b .now) (a .count-b)) (l .n + boolByte (c .step .result .found))
-    (sharedFrom (a .closed) (a .starts-a .now) (a .ends-a .now) (a .count-a) (l .i + boolByte (c .step .result .left)) (a .starts-b .now) (a .ends-b .now) (a .count-b) (l .j + boolByte (not (c .step .result .left))))
+    Counting (shared (a .kind) (a .starts-a .now) (a .ends-a .now) (a .count-a) (a .starts-b .now) (a .ends-b .now) (a .count-b)) (l .n + boolByte (c .step .result .found))
+    (sharedFrom (a .kind) (a .starts-a .now) (a .ends-a .now) (a .count-a) (l .i + boolByte (c .step .result .left)) (a .starts-b .now) (a .ends-b .now) (a .count-b) (l .j + boolByte (not (c .step .result .left))))
 found c =
     let l = c .before .before .before .loop in
     let s = c .before .before .before .before in
     counting-step (c .step .result .found) _ (l .inv .2)
-    (step-found (s .args .closed) (s .pre .0) (s .pre .1) (c .step .result) (omega arith) (right (c .before)) (c .step .ensures))
+    (step-found (s .args .kind) (s .pre .0) (s .pre .1) (c .step .result) (omega arith) (right (c .before)) (c .step .ensures))
 
 add-n : tie.Need-add-n Inv-loop μ-loop
 add-n c =
     let s = c .before .before .before .before .before .before .before in
     let f = found (c .before .before .before) in
-    omega (arith, f .sum, most (s .args .closed) (s .pre .0) (s .pre .1), s .pre .0 .held, s .pre .1 .held)
+    omega (arith, f .sum, most (s .args .kind) (s .pre .0) (s .pre .1), s .pre .0 .held, s .pre .1 .held)
 
 loop-less : tie.Need-loop-less Inv-loop μ-loop
 loop-less c = omega (arith, one-goes (c .before .before .before .step .result .left), right (c .before .before .before .before))
@@ -71,13 +72,13 @@ returns : tie.Need-returns Inv-loop μ-loop
 returns c =
     let s = c .before .before .before in
     let l = c .before .before .loop in
-    counting-done (l .inv .2) (found-no (s .args .closed) (s .pre .0) (s .pre .1) (l .i) (l .j) (ltb-false _ _ (c .if1 .left)))
+    counting-done (l .inv .2) (found-no (s .args .kind) (s .pre .0) (s .pre .1) (l .i) (l .j) (ltb-false _ _ (c .if1 .left)))
 
 returns-2 : tie.Need-returns-2 Inv-loop μ-loop
 returns-2 c =
     let s = c .before .before in
     let l = c .before .loop in
-    counting-done (l .inv .2) (found-none (s .args .closed) (s .pre .0) (s .pre .1) (l .i) (l .j) (omega arith))
+    counting-done (l .inv .2) (found-none (s .args .kind) (s .pre .0) (s .pre .1) (l .i) (l .j) (omega arith))
 
 pub counted-spec : {M : Type 1} → statement M
 counted-spec =

@@ -10,7 +10,7 @@ roomy-requires : tie.Need-roomy-requires
 roomy-requires c κs = search needs
 
 returns : tie.Need-returns
-returns c = let s = c .before .before in holds (omega (arith, most (s .args .closed) (s .pre .0) (s .pre .1), c .before .roomy .ensures (c .if1 .taken)))
+returns c = let s = c .before .before in holds (omega (arith, most (s .args .kind) (s .pre .0) (s .pre .1), c .before .roomy .ensures (c .if1 .taken)))
 
 counted-requires : tie.Need-counted-requires
 counted-requires c κs = search needs

@@ -2,7 +2,7 @@
 use native.Mathlib.Omega.{arith}
 use lib.ListN.{getD}
 use lib.IntN.{pos}
-use Rattle.pairs.proofs.Closed.{greater-rank, lesser-rank, lt-test}
+use Rattle.pairs.proofs.Kinded.{greater-rank, lesser-rank, lt-test}
 use Rattle.intersection.proofs.step.Statement.{statement}
 use Rattle.intersection.proofs.step.Tie as tie
 

@@ -7,7 +7,7 @@ use lib.ListN.{length}
 use borrow.Author.Tests.{ltb-true, ltb-false}
 use mir.Val.{boolByte}
 use Rattle.key.proofs.Laws.{rank-back}
-use Rattle.pairs.specs.Kind.{kindOf}
+use Rattle.key.specs.Range.{kindOf}
 use Rattle.pairs.proofs.Writing.{first-room, first-written, none-written}
 use Rattle.pairs.proofs.Columns.{one-goes}
 use Rattle.intersection.specs.Found.{shared, sharedFrom}
@@ -16,15 +16,15 @@ use Rattle.intersection.proofs.write.Statement.{statement}
 use Rattle.intersection.proofs.write.Tie as tie
 
 abbrev Inv-loop : tie.InvT-loop
-Inv-loop closed starts-a ends-a count-a starts-b ends-b count-b out-starts₀ out-ends₀ i₀ j₀ out-starts out-ends i j =
+Inv-loop kind starts-a ends-a count-a starts-b ends-b count-b out-starts₀ out-ends₀ i₀ j₀ out-starts out-ends i j =
     (i ≤ count-a) × (j ≤ count-b) × (out-starts ≡ out-starts₀) × (out-ends ≡ out-ends₀)
-    × (shared closed starts-a ends-a count-a starts-b ends-b count-b ≡ sharedFrom closed starts-a ends-a count-a i starts-b ends-b count-b j)
+    × (shared kind starts-a ends-a count-a starts-b ends-b count-b ≡ sharedFrom kind starts-a ends-a count-a i starts-b ends-b count-b j)
 
 abbrev μ-loop : tie.MeasureT-loop
-μ-loop closed starts-a ends-a count-a starts-b ends-b count-b out-starts₀ out-ends₀ i₀ j₀ out-starts out-ends i j = (count-a - i) + (count-b - j)
+μ-loop kind starts-a ends-a count-a starts-b ends-b count-b out-starts₀ out-ends₀ i₀ j₀ out-starts out-ends i j = (count-a - i) + (count-b - j)
 
 loop-holds : tie.Need-loop-holds Inv-loop μ-loop
-loop-holds c = (omega arith, omega arith, refl, refl, found-all (c .args .closed) (c .pre .0) (c .pre .1))
+loop-holds c = (omega arith, omega arith, refl, refl, found-all (c .args .kind) (c .pre .0) (c .pre .1))
 
 -- what both tests say
 left-in : (c : tie.Then1 Inv-loop μ-loop) → c .before .before .loop .i < c .before .before .before .args .count-a
@@ -60,8 +60,8 @@ write-from-requires c κs =
     let st = c .before .before .before .before .before .before .before in
     let l = st .before .before .before .loop in
     let s = st .before .before .before .before in
-    let f = first-found (s .args .closed) (s .pre .0) (s .pre .1) (st .step .result) (left-in (st .before)) (right-in (st .before)) (st .step .ensures) (c .before .before .before .before .if2 .taken) (l .inv .4) in
-    (s .pre .0, s .pre .1, on-a st, on-b st, simp rank-back (first-room (kindOf (s .args .closed)) (l .inv .2) (l .inv .3) f (s .pre .2)))
+    let f = first-found (s .args .kind) (s .pre .0) (s .pre .1) (st .step .result) (left-in (st .before)) (right-in (st .before)) (st .step .ensures) (c .before .before .before .before .if2 .taken) (l .inv .4) in
+    (s .pre .0, s .pre .1, on-a st, on-b st, simp rank-back (first-room (kindOf (s .args .kind)) (l .inv .2) (l .inv .3) f (s .pre .2)))
 
 same-length : tie.Need-same-length Inv-loop μ-loop
 same-length c = omega (arith, ap length (c .before .before .before .before .before .before .before .before .before .before .before .before .before .loop .inv .2))
@@ -74,8 +74,8 @@ returns c =
     let st = c .before .before .before .before .before .before .before .before .before .before in
     let l = st .before .before .before .loop in
     let s = st .before .before .before .before in
-    let f = first-found (s .args .closed) (s .pre .0) (s .pre .1) (st .step .result) (left-in (st .before)) (right-in (st .before)) (st .step .ensures) (c .before .before .before .before .before .before .before .if2 .taken) (l .inv .4) in
-    first-written (kindOf (s .args .closed)) (l .inv .2) (l .inv .3) f (simp rank-back at (c .before .before .write-from .ensures))
+    let f = first-found (s .args .kind) (s .pre .0) (s .pre .1) (st .step .result) (left-in (st .before)) (right-in (st .before)) (st .step .ensures) (c .before .before .before .before .before .before .before .if2 .taken) (l .inv .4) in
+    first-written (kindOf (s .args .kind)) (l .inv .2) (l .inv .3) f (simp rank-back at (c .before .before .write-from .ensures))
 
 loop-less : tie.Need-loop-less Inv-loop μ-loop
 loop-less c = omega (arith, one-goes (c .before .before .before .step .result .left), left-in (c .before .before .before .before), right-in (c .before .before .before .before))
@@ -85,7 +85,7 @@ loop-again c =
     let st = c .before .before .before in
     let l = st .before .before .before .loop in
     let s = st .before .before .before .before in
-    (on-a st, on-b st, l .inv .2, l .inv .3, none-found (s .args .closed) (s .pre .0) (s .pre .1) (st .step .result) (left-in (st .before)) (right-in (st .before)) (st .step .ensures) (c .if2 .left) (l .inv .4))
+    (on-a st, on-b st, l .inv .2, l .inv .3, none-found (s .args .kind) (s .pre .0) (s .pre .1) (st .step .result) (left-in (st .before)) (right-in (st .before)) (st .step .ensures) (c .if2 .left) (l .inv .4))
 
 same-length-3 : tie.Need-same-length-3 Inv-loop μ-loop
 same-length-3 c = omega (arith, ap length (c .before .before .loop .inv .2))
@@ -97,7 +97,7 @@ returns-2 : tie.Need-returns-2 Inv-loop μ-loop
 returns-2 c =
     let l = c .before .before .loop in
     let s = c .before .before .before in
-    none-written (kindOf (s .args .closed)) (l .inv .2) (l .inv .3) (l .inv .4) (found-no (s .args .closed) (s .pre .0) (s .pre .1) (l .i) (l .j) (ltb-false _ _ (c .if1 .left)))
+    none-written (kindOf (s .args .kind)) (l .inv .2) (l .inv .3) (l .inv .4) (found-no (s .args .kind) (s .pre .0) (s .pre .1) (l .i) (l .j) (ltb-false _ _ (c .if1 .left)))
 
 same-length-5 : tie.Need-same-length-5 Inv-loop μ-loop
 same-length-5 c = omega (arith, ap length (c .before .loop .inv .2))
@@ -109,7 +109,7 @@ returns-3 : tie.Need-returns-3 Inv-loop μ-loop
 returns-3 c =
     let l = c .before .loop in
     let s = c .before .before in
-    none-written (kindOf (s .args .closed)) (l .inv .2) (l .inv .3) (l .inv .4) (found-none (s .args .closed) (s .pre .0) (s .pre .1) (l .i) (l .j) (omega arith))
+    none-written (kindOf (s .args .kind)) (l .inv .2) (l .inv .3) (l .inv .4) (found-none (s .args .kind) (s .pre .0) (s .pre .1) (l .i) (l .j) (omega arith))
 
 pub write-spec : {M : Type 1} → statement M
 write-spec =

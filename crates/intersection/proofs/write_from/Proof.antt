@@ -11,9 +11,11 @@ use mir.Val.{boolByte}
 use Rattle.span.specs.Span.{Span, span}
 use Rattle.key.specs.Rank.{bitRank}
 use Rattle.key.proofs.Laws.{rank-back}
-use Rattle.pairs.specs.Kind.{kindOf, wide}
-use Rattle.pairs.proofs.Closed.{put-start, put-end}
-use Rattle.pairs.proofs.Writing.{Going, going-first, going-room, going-last}
+use Rattle.key.specs.Range.{kindOf}
+use Rattle.pairs.specs.Kind.{wide}
+use Rattle.pairs.proofs.Kinded.{put-start, put-end}
+use Rattle.pairs.specs.Lists.{Going}
+use Rattle.pairs.proofs.Writing.{going-first, going-room, going-last}
 use Rattle.pairs.proofs.Columns.{one-goes}
 use Rattle.intersection.specs.Found.{sharedFrom}
 use Rattle.intersection.proofs.Steps.{found-none, found-no, going-found}
@@ -21,16 +23,16 @@ use Rattle.intersection.proofs.write_from.Statement.{statement}
 use Rattle.intersection.proofs.write_from.Tie as tie
 
 abbrev Inv-loop : tie.InvT-loop
-Inv-loop closed starts-a ends-a count-a from-a starts-b ends-b count-b from-b start end out-starts₀ out-ends₀ at₀ i₀ j₀ lo₀ hi₀ out-starts out-ends at i j lo hi =
+Inv-loop kind starts-a ends-a count-a from-a starts-b ends-b count-b from-b start end out-starts₀ out-ends₀ at₀ i₀ j₀ lo₀ hi₀ out-starts out-ends at i j lo hi =
     (i ≤ count-a) × (j ≤ count-b)
-    × Going (kindOf closed) out-starts₀ out-ends₀ (span (bitRank start) (wide closed + bitRank end) 0 ∷ sharedFrom closed starts-a ends-a count-a from-a starts-b ends-b count-b from-b)
-    at (span (bitRank lo) (wide closed + bitRank hi) 0 ∷ sharedFrom closed starts-a ends-a count-a i starts-b ends-b count-b j) out-starts out-ends
+    × Going (kindOf kind) out-starts₀ out-ends₀ (span (bitRank start) (wide kind + bitRank end) 0 ∷ sharedFrom kind starts-a ends-a count-a from-a starts-b ends-b count-b from-b)
+    at (span (bitRank lo) (wide kind + bitRank hi) 0 ∷ sharedFrom kind starts-a ends-a count-a i starts-b ends-b count-b j) out-starts out-ends
 
 abbrev μ-loop : tie.MeasureT-loop
-μ-loop closed starts-a ends-a count-a from-a starts-b ends-b count-b from-b start end out-starts₀ out-ends₀ at₀ i₀ j₀ lo₀ hi₀ out-starts out-ends at i j lo hi = (count-a - i) + (count-b - j)
+μ-loop kind starts-a ends-a count-a from-a starts-b ends-b count-b from-b start end out-starts₀ out-ends₀ at₀ i₀ j₀ lo₀ hi₀ out-starts out-ends at i j lo hi = (count-a - i) + (count-b - j)
 
 loop-holds : tie.Need-loop-holds Inv-loop μ-loop
-loop-holds c = (c .pre .2, c .pre .3, going-first (kindOf (c .args .closed)))
+loop-holds c = (c .pre .2, c .pre .3, going-first (kindOf (c .args .kind)))
 
 -- what both tests say; and there is a place for the open range
 pub record Inside (c : tie.Then1 Inv-loop μ-loop) : Type 0 where
@@ -42,7 +44,7 @@ pub record Inside (c : tie.Then1 Inv-loop μ-loop) : Type 0 where
 inside : (c : tie.Then1 Inv-loop μ-loop) → Inside c
 inside c =
     let s = c .before .before .before in
-    let r = going-room (kindOf (s .args .closed)) (c .before .before .loop .inv .2) (omega arith) (s .pre .4) in
+    let r = going-room (kindOf (s .args .kind)) (c .before .before .loop .inv .2) (omega arith) (s .pre .4) in
     record { left = omega arith; right = ltb-true _ _ (c .if1 .taken); room = r; fits = omega (arith, r) }
 
 put-requires : tie.Need-put-requires Inv-loop μ-loop
@@ -94,15 +96,15 @@ loop-again c =
     let j : l .j + boolByte (not (st .step .result .left)) ≤ s .args .count-b = omega (arith, one, h .right) in (
       i,
       j,
-      going-found (s .args .closed) (s .pre .0) (s .pre .1) (st .step .result) (h .left) (h .right) (st .step .ensures) (bitRank (l .lo)) (bitRank (l .hi)) _ _ (l .inv .2)
-          (simp rank-back at (c .before .before .pick .ensures)) (simp rank-back at (c .pick2 .ensures)) (put-start (l .out-starts) (l .at) (l .lo) (w .0)) (put-end (s .args .closed) (l .out-ends) (l .at) (l .hi) (w .1)),
+      going-found (s .args .kind) (s .pre .0) (s .pre .1) (st .step .result) (h .left) (h .right) (st .step .ensures) (bitRank (l .lo)) (bitRank (l .hi)) _ _ (l .inv .2)
+          (simp rank-back at (c .before .before .pick .ensures)) (simp rank-back at (c .pick2 .ensures)) (put-start (l .out-starts) (l .at) (l .lo) (w .0)) (put-end (s .args .kind) (l .out-ends) (l .at) (l .hi) (w .1)),
     )
 
 put-requires-2 : tie.Need-put-requires-2 Inv-loop μ-loop
-put-requires-2 c κs = let s = c .before .before .before .before in going-room (kindOf (s .args .closed)) (c .before .before .before .loop .inv .2) (omega arith) (s .pre .4)
+put-requires-2 c κs = let s = c .before .before .before .before in going-room (kindOf (s .args .kind)) (c .before .before .before .loop .inv .2) (omega arith) (s .pre .4)
 
 add-result : tie.Need-add-result Inv-loop μ-loop
-add-result c = let s = c .before .before .before .before .before .before .before in omega (arith, going-room (kindOf (s .args .closed)) (c .before .before .before .before .before .before .loop .inv .2) (omega arith) (s .pre .4))
+add-result c = let s = c .before .before .before .before .before .before .before in omega (arith, going-room (kindOf (s .args .kind)) (c .before .before .before .before .before .before .loop .inv .2) (omega arith) (s .pre .4))
 
 same-length : tie.Need-same-length Inv-loop μ-loop
 same-length c = omega arith
@@ -116,9 +118,9 @@ returns c =
     let s = c .before .before .before .before .before .before .before in
     let a = s .args in
     let w = c .before .before .put2 .ensures in
-    let none : sharedFrom (a .closed) (a .starts-a .now) (a .ends-a .now) (a .count-a) (l .i) (a .starts-b .now) (a .ends-b .now) (a .count-b) (l .j) ≡ [] =
-    ⊎-elim (λ h. found-no (a .closed) (s .pre .0) (s .pre .1) (l .i) (l .j) (ltb-false _ _ (h .1 .left))) (λ h. found-none (a .closed) (s .pre .0) (s .pre .1) (l .i) (l .j) (omega (arith, h .left))) (c .before .before .before .before .before .loop-test .came) in
-    going-last (kindOf (a .closed)) (l .inv .2) (span (bitRank (l .lo)) (wide (a .closed) + bitRank (l .hi)) 0) (ap (λ (m : List Span). span (bitRank (l .lo)) (wide (a .closed) + bitRank (l .hi)) 0 ∷ m) none) (put-start (l .out-starts) (l .at) (l .lo) (w .0)) (put-end (a .closed) (l .out-ends) (l .at) (l .hi) (w .1))
+    let none : sharedFrom (a .kind) (a .starts-a .now) (a .ends-a .now) (a .count-a) (l .i) (a .starts-b .now) (a .ends-b .now) (a .count-b) (l .j) ≡ [] =
+    ⊎-elim (λ h. found-no (a .kind) (s .pre .0) (s .pre .1) (l .i) (l .j) (ltb-false _ _ (h .1 .left))) (λ h. found-none (a .kind) (s .pre .0) (s .pre .1) (l .i) (l .j) (omega (arith, h .left))) (c .before .before .before .before .before .loop-test .came) in
+    going-last (kindOf (a .kind)) (l .inv .2) (span (bitRank (l .lo)) (wide (a .kind) + bitRank (l .hi)) 0) (ap (λ (m : List Span). span (bitRank (l .lo)) (wide (a .kind) + bitRank (l .hi)) 0 ∷ m) none) (put-start (l .out-starts) (l .at) (l .lo) (w .0)) (put-end (a .kind) (l .out-ends) (l .at) (l .hi) (w .1))
 
 pub write-from-spec : {M : Type 1} → statement M
 write-from-spec =

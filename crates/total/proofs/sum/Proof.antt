@@ -2,24 +2,23 @@
 use Prim.Native.Nat.{_+_, _-_, _≤_}
 use native.Mathlib.Omega.{arith}
 use mathlib.Core.Path.{_≡_, refl}
-use mir.Val.{boolByte}
 use Rattle.span.specs.Operations.{total}
 use Rattle.key.proofs.Laws.{rank-back}
-use Rattle.pairs.specs.Kind.{kindOf}
+use Rattle.key.specs.Range.{kindOf}
 use Rattle.pairs.specs.Sides.{rest}
 use Rattle.total.specs.Sum.{sumOf}
-use Rattle.total.proofs.Laws.{wide-byte, sum-none, sum-all, length-at, sum-more}
+use Rattle.total.proofs.Laws.{sum-none, sum-all, length-at, sum-more}
 use Rattle.total.proofs.sum.Statement.{statement}
 use Rattle.total.proofs.sum.Tie as tie
 
 abbrev Inv-loop : tie.InvT-loop
-Inv-loop closed starts ends count total₀ k₀ sum k = (k ≤ count) × (sum + total (rest (kindOf closed) starts ends count k) ≡ sumOf closed starts ends count)
+Inv-loop kind starts ends count total₀ k₀ sum k = (k ≤ count) × (sum + total (rest (kindOf kind) starts ends count k) ≡ sumOf kind starts ends count)
 
 abbrev μ-loop : tie.MeasureT-loop
-μ-loop closed starts ends count total₀ k₀ sum k = count - k
+μ-loop kind starts ends count total₀ k₀ sum k = count - k
 
 loop-holds : tie.Need-loop-holds Inv-loop μ-loop
-loop-holds c = (omega arith, omega (arith, sum-all (c .args .closed) (c .pre .0)))
+loop-holds c = (omega arith, omega (arith, sum-all (c .args .kind) (c .pre .0)))
 
 mul-apart : tie.Need-mul-apart Inv-loop μ-loop
 mul-apart c = omega arith
@@ -37,19 +36,19 @@ apart-requires : tie.Need-apart-requires Inv-loop μ-loop
 apart-requires c κs =
     let s = c .before .before .before .before in
     let l = c .before .before .before .loop in
-    simp rank-back (length-at (s .args .closed) (s .pre .0) (l .k) (omega arith) refl refl)
+    simp rank-back (length-at (s .args .kind) (s .pre .0) (l .k) (omega arith) refl refl)
 
-cast-total : tie.Need-cast-total Inv-loop μ-loop
-cast-total c = tt
+width-requires : tie.Need-width-requires Inv-loop μ-loop
+width-requires c κs = tt
 
 -- what the step adds
-adds : (c : tie.After-apart Inv-loop μ-loop) → let s = c .before .before .before .before .before in let l = c .before .before .before .before .loop in
-    total (rest (kindOf (s .args .closed)) (s .args .starts .now) (s .args .ends .now) (s .args .count) (l .k)) ≡ (c .apart .result + boolByte (s .args .closed)) + total (rest (kindOf (s .args .closed)) (s .args .starts .now) (s .args .ends .now) (s .args .count) (l .k + 1))
+adds : (c : tie.After-width Inv-loop μ-loop) → let s = c .before .before .before .before .before .before in let l = c .before .before .before .before .before .loop in
+    total (rest (kindOf (s .args .kind)) (s .args .starts .now) (s .args .ends .now) (s .args .count) (l .k)) ≡ (c .before .apart .result + c .width .result) + total (rest (kindOf (s .args .kind)) (s .args .starts .now) (s .args .ends .now) (s .args .count) (l .k + 1))
 adds c =
-    let s = c .before .before .before .before .before in
-    let l = c .before .before .before .before .loop in
-    let e = simp rank-back at (c .apart .ensures) in
-    rw (wide-byte (s .args .closed), e) (sum-more (s .args .closed) (s .pre .0) (l .k) (omega arith) refl refl)
+    let s = c .before .before .before .before .before .before in
+    let l = c .before .before .before .before .before .loop in
+    let e = simp rank-back at (c .before .apart .ensures) in
+    rw (c .width .ensures, e) (sum-more (s .args .kind) (s .pre .0) (l .k) (omega arith) refl refl)
 
 add-total : tie.Need-add-total Inv-loop μ-loop
 add-total c = omega (arith, adds c)
@@ -70,7 +69,7 @@ returns : tie.Need-returns Inv-loop μ-loop
 returns c =
     let s = c .before .before in
     let l = c .before .loop in
-    omega (arith, sum-none (s .args .closed) (s .pre .0) (l .k) (omega arith))
+    omega (arith, sum-none (s .args .kind) (s .pre .0) (l .k) (omega arith))
 
 pub sum-spec : {M : Type 1} → statement M
 sum-spec =
@@ -84,7 +83,7 @@ sum-spec =
     mul-apart-2
     shared-slice-copy-out-apart-2
     apart-requires
-    cast-total
+    width-requires
     add-total
     add-total-2
     add-k

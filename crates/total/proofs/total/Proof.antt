@@ -1,31 +1,24 @@
 -- `total::total` meets its contract.
-use Prim.Native.Nat.{_<_}
-use native.Mathlib.Omega.{arith}
-use Rattle.key.specs.Rank.{keys}
-use Rattle.pairs.specs.Kind.{kindOf}
-use Rattle.pairs.proofs.Doors.{side}
-use Rattle.total.specs.Sum.{sumOf}
-use Rattle.total.proofs.Laws.{below, answers-over, answers-total}
+use mathlib.Core.Path.{sym, _∙_}
+use borrow.Author.Needs.{needs}
+use borrow.Author.Tests.{not-true, not-false}
+use Rattle.outcomes.specs.Sets.{totalling}
 use Rattle.total.proofs.total.Statement.{statement}
 use Rattle.total.proofs.total.Tie as tie
 
-full-requires : tie.Need-full-requires
-full-requires c κs = let s = c .before in side (kindOf (s .args .closed)) (s .pre)
+is-set-of-requires : tie.Need-is-set-of-requires
+is-set-of-requires c κs = search needs
 
 returns : tie.Need-returns
-returns c = let s = c .before .before .before in answers-over (s .args .closed) (s .pre) (c .before .full .ensures .right (c .if1 .taken))
+unfolding totalling
+returns c = rw (sym (c .before .is-set-of .ensures .0) ∙ not-true _ (c .if1 .taken))
 
--- a u64 holds the total
-fits : (c : tie.Else1) → let a = c .before .before .before .args in sumOf (a .closed) (a .starts .now) (a .ends .now) (a .count) < keys
-fits c = below (c .before .full .ensures .wrong (c .if1 .left))
-
-sum-requires : tie.Need-sum-requires
-sum-requires c κs = let s = c .before .before .before in (side (kindOf (s .args .closed)) (s .pre), fits c)
+total-unchecked-requires : tie.Need-total-unchecked-requires
+total-unchecked-requires c κs = let f = c .before .before .before in f .before .is-set-of .ensures .1 (not-false _ (f .if1 .left))
 
 returns-2 : tie.Need-returns-2
-returns-2 c =
-    let s = c .before .before .before .before in
-    answers-total (s .args .closed) (s .pre) (fits (c .before)) (c .sum .ensures)
+unfolding totalling
+returns-2 c = let f = c .before .before .before .before in rw (sym (f .before .is-set-of .ensures .0) ∙ not-false _ (f .if1 .left)) (c .total-unchecked .ensures)
 
 pub total-spec : {M : Type 1} → statement M
-total-spec = tie.close (tie.spec full-requires returns sum-requires returns-2)
+total-spec = tie.close (tie.spec is-set-of-requires returns total-unchecked-requires returns-2)

@@ -11,7 +11,7 @@ add-if1 : tie.Need-add-if1
 add-if1 c = omega arith
 
 returns : tie.Need-returns
-returns c = let s = c .before in sym (ap length (either-none (s .args .closed) (s .pre .0) (s .pre .1) (c .if1 .taken)))
+returns c = let s = c .before in sym (ap length (either-none (s .args .kind) (s .pre .0) (s .pre .1) (c .if1 .taken)))
 
 next-requires : tie.Need-next-requires
 next-requires c κs = omega arith
@@ -26,13 +26,13 @@ counted-from-requires : tie.Need-counted-from-requires
 counted-from-requires c κs =
     let x = c .before .before .before .before in
     let s = x .before .before in
-    (s .pre .0, s .pre .1, simp rank-back (first-open (s .args .closed) (s .pre .0) (s .pre .1) (x .next .result) (x .next .ensures) .1))
+    (s .pre .0, s .pre .1, simp rank-back (first-open (s .args .kind) (s .pre .0) (s .pre .1) (x .next .result) (x .next .ensures) .1))
 
 returns-2 : tie.Need-returns-2
 returns-2 c =
     let x = c .before .before .before .before .before in
     let s = x .before .before in
-    (simp rank-back at (c .counted-from .ensures)) ∙ sym (ap length (first-open (s .args .closed) (s .pre .0) (s .pre .1) (x .next .result) (x .next .ensures) .0))
+    (simp rank-back at (c .counted-from .ensures)) ∙ sym (ap length (first-open (s .args .kind) (s .pre .0) (s .pre .1) (x .next .result) (x .next .ensures) .0))
 
 pub counted-spec : {M : Type 1} → statement M
 counted-spec =

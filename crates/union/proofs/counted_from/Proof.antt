@@ -6,8 +6,9 @@ use mathlib.Core.Bool.{not}
 use mir.Val.{boolByte}
 use Rattle.key.specs.Rank.{bitRank}
 use Rattle.key.proofs.Laws.{rank-back}
-use Rattle.pairs.proofs.Closed.{greater-bits}
-use Rattle.pairs.proofs.Writing.{Counting, counting-one}
+use Rattle.pairs.proofs.Kinded.{greater-bits}
+use Rattle.pairs.specs.Lists.{Counting}
+use Rattle.pairs.proofs.Writing.{counting-one}
 use Rattle.pairs.proofs.Columns.{one-goes}
 use Rattle.union.specs.Found.{openFrom, Opened}
 use Rattle.union.proofs.Steps.{still-open, counting-on, open-last}
@@ -15,12 +16,12 @@ use Rattle.union.proofs.counted_from.Statement.{statement}
 use Rattle.union.proofs.counted_from.Tie as tie
 
 abbrev Inv-loop : tie.InvT-loop
-Inv-loop closed starts-a ends-a count-a from-a starts-b ends-b count-b from-b start end total n₀ i₀ j₀ lo₀ hi₀ n i j lo hi =
-    (n ≤ i + j) × Opened closed (bitRank lo) (bitRank hi) starts-a ends-a count-a i starts-b ends-b count-b j
-    × Counting (openFrom closed (bitRank start) (bitRank end) starts-a ends-a count-a from-a starts-b ends-b count-b from-b) n (openFrom closed (bitRank lo) (bitRank hi) starts-a ends-a count-a i starts-b ends-b count-b j)
+Inv-loop kind starts-a ends-a count-a from-a starts-b ends-b count-b from-b start end total n₀ i₀ j₀ lo₀ hi₀ n i j lo hi =
+    (n ≤ i + j) × Opened kind (bitRank lo) (bitRank hi) starts-a ends-a count-a i starts-b ends-b count-b j
+    × Counting (openFrom kind (bitRank start) (bitRank end) starts-a ends-a count-a from-a starts-b ends-b count-b from-b) n (openFrom kind (bitRank lo) (bitRank hi) starts-a ends-a count-a i starts-b ends-b count-b j)
 
 abbrev μ-loop : tie.MeasureT-loop
-μ-loop closed starts-a ends-a count-a from-a starts-b ends-b count-b from-b start end total n₀ i₀ j₀ lo₀ hi₀ n i j lo hi = (count-a + count-b) - (i + j)
+μ-loop kind starts-a ends-a count-a from-a starts-b ends-b count-b from-b start end total n₀ i₀ j₀ lo₀ hi₀ n i j lo hi = (count-a + count-b) - (i + j)
 
 add-total : tie.Need-add-total Inv-loop μ-loop
 add-total c = omega arith
@@ -87,8 +88,8 @@ loop-again c =
     let h = inside x in
     let few : l .n + boolByte (not (m .meets .result)) ≤ (l .i + boolByte (x .next .result .left)) + (l .j + boolByte (not (x .next .result .left))) = omega (arith, one-goes (m .meets .result), h .places, h .few) in (
       few,
-      still-open (s .args .closed) (s .pre .0) (s .pre .1) (l .inv .1) (x .next .result) t (m .meets .result) p q g,
-      counting-on (s .args .closed) (s .pre .0) (s .pre .1) (l .inv .1) (x .next .result) t (m .meets .result) p q g (l .inv .2),
+      still-open (s .args .kind) (s .pre .0) (s .pre .1) (l .inv .1) (x .next .result) t (m .meets .result) p q g,
+      counting-on (s .args .kind) (s .pre .0) (s .pre .1) (l .inv .1) (x .next .result) t (m .meets .result) p q g (l .inv .2),
     )
 
 add-result : tie.Need-add-result Inv-loop μ-loop
@@ -98,7 +99,7 @@ returns : tie.Need-returns Inv-loop μ-loop
 returns c =
     let s = c .before .before in
     let l = c .before .loop in
-    counting-one (l .inv .2) (open-last (s .args .closed) (s .pre .0) (s .pre .1) (omega arith) (l .inv .1))
+    counting-one (l .inv .2) (open-last (s .args .kind) (s .pre .0) (s .pre .1) (omega arith) (l .inv .1))
 
 pub counted-from-spec : {M : Type 1} → statement M
 counted-from-spec =

@@ -4,7 +4,7 @@ use mathlib.Core.Path.{refl}
 use mir.Syntax.{w64}
 use mir.Val.{ofZ}
 use Rattle.key.proofs.Laws.{rank-back}
-use Rattle.pairs.proofs.Closed.{lt-test}
+use Rattle.pairs.proofs.Kinded.{lt-test}
 use Rattle.union.proofs.Steps.{next-left, next-right, next-both}
 use Rattle.union.proofs.next.Statement.{statement}
 use Rattle.union.proofs.next.Tie as tie

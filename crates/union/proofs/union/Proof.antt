@@ -1,39 +1,32 @@
 -- `union::union` meets its contract.
-use Prim.Native.Nat.{_≤_}
-use lib.ListN.{length}
+use mathlib.Core.Path.{sym, _∙_}
 use borrow.Author.Needs.{needs}
 use borrow.Author.Tests.{not-true, not-false}
-use Rattle.pairs.specs.Kind.{kindOf}
-use Rattle.pairs.proofs.Doors.{side, answers-short, enough, answers-done}
-use Rattle.union.specs.Found.{either}
-use Rattle.union.proofs.Answers.{answered}
+use Rattle.outcomes.specs.Sets.{uniting}
 use Rattle.union.proofs.union.Statement.{statement}
 use Rattle.union.proofs.union.Tie as tie
 
-shorter-requires : tie.Need-shorter-requires
-shorter-requires c κs = search needs
-
-fits-requires : tie.Need-fits-requires
-fits-requires c κs = let s = c .before .before .before in (side (kindOf (s .args .closed)) (s .pre .0), side (kindOf (s .args .closed)) (s .pre .1))
+is-set-of-requires : tie.Need-is-set-of-requires
+is-set-of-requires c κs = search needs
 
 returns : tie.Need-returns
-returns c =
-    let s = c .before .before .before .before .before in
-    let a = s .args in
-    answered (a .closed) (s .pre .0) (s .pre .1) (a .out-starts .now) (a .out-ends .now)
-    (answers-short (kindOf (a .closed)) _ (a .out-starts .now) (a .out-ends .now) (c .before .before .shorter .ensures) (c .before .fits2 .ensures .wrong (not-true _ (c .if1 .taken))))
+unfolding uniting
+returns c = rw (sym (c .before .is-set-of .ensures .0) ∙ not-true _ (c .if1 .taken))
 
--- the ranges fit
-room : (c : tie.Else1) → let a = c .before .before .before .before .before .args in
-    length (either (a .closed) (a .starts-a .now) (a .ends-a .now) (a .count-a) (a .starts-b .now) (a .ends-b .now) (a .count-b)) ≤ c .before .before .shorter .result
-room c = c .before .fits2 .ensures .right (not-false _ (c .if1 .left))
+is-set-of-requires-2 : tie.Need-is-set-of-requires-2
+is-set-of-requires-2 c κs = search needs
 
-write-requires : tie.Need-write-requires
-write-requires c κs =
-    let f = c .before .before in
-    let s = f .before .before .before .before .before in
-    let a = s .args in
-    (side (kindOf (a .closed)) (s .pre .0), side (kindOf (a .closed)) (s .pre .1), enough (kindOf (a .closed)) _ (a .out-starts .now) (a .out-ends .now) (f .before .before .shorter .ensures) (room f))
+returns-2 : tie.Need-returns-2
+unfolding uniting
+returns-2 c =
+    let first = c .before .before .before in
+    rw (sym (first .before .is-set-of .ensures .0) ∙ not-false _ (first .if1 .left), sym (c .before .is-set-of2 .ensures .0) ∙ not-true _ (c .if2 .taken))
+
+union-unchecked-requires : tie.Need-union-unchecked-requires
+union-unchecked-requires c κs =
+    let second = c .before .before .before .before .before .before .before .before in
+    let first = second .before .before .before in
+    (first .before .is-set-of .ensures .1 (not-false _ (first .if1 .left)), second .before .is-set-of2 .ensures .1 (not-false _ (second .if2 .left)))
 
 same-length : tie.Need-same-length
 same-length c = search needs
@@ -41,22 +34,22 @@ same-length c = search needs
 same-length-2 : tie.Need-same-length-2
 same-length-2 c = search needs
 
-returns-2 : tie.Need-returns-2
-returns-2 c =
-    let f = c .before .before .before .before .before in
-    let s = f .before .before .before .before .before in
-    let a = s .args in
-    answered (a .closed) (s .pre .0) (s .pre .1) (a .out-starts .now) (a .out-ends .now)
-    (answers-done (kindOf (a .closed)) _ (a .out-starts .now) (a .out-ends .now) (f .before .before .shorter .ensures) (room f) (c .before .before .write .ensures))
+returns-3 : tie.Need-returns-3
+unfolding uniting
+returns-3 c =
+    let second = c .before .before .before .before .before .before .before .before .before .before .before in
+    let first = second .before .before .before in
+    rw (sym (first .before .is-set-of .ensures .0) ∙ not-false _ (first .if1 .left), sym (second .before .is-set-of2 .ensures .0) ∙ not-false _ (second .if2 .left)) (c .before .before .union-unchecked .ensures)
 
 pub union-spec : {M : Type 1} → statement M
 union-spec =
     tie.close
     (tie.spec
-    shorter-requires
-    fits-requires
+    is-set-of-requires
     returns
-    write-requires
+    is-set-of-requires-2
+    returns-2
+    union-unchecked-requires
     same-length
     same-length-2
-    returns-2)
+    returns-3)

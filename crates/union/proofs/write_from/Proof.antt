@@ -8,9 +8,11 @@ use Rattle.span.specs.Span.{span}
 use Rattle.span.proofs.Walks.{absorb-some}
 use Rattle.key.specs.Rank.{bitRank}
 use Rattle.key.proofs.Laws.{rank-back}
-use Rattle.pairs.specs.Kind.{kindOf, wide}
-use Rattle.pairs.proofs.Closed.{greater-bits, put-start, put-end}
-use Rattle.pairs.proofs.Writing.{Going, going-first, going-room, going-last}
+use Rattle.key.specs.Range.{kindOf}
+use Rattle.pairs.specs.Kind.{wide}
+use Rattle.pairs.proofs.Kinded.{greater-bits, put-start, put-end}
+use Rattle.pairs.specs.Lists.{Going}
+use Rattle.pairs.proofs.Writing.{going-first, going-room, going-last}
 use Rattle.pairs.proofs.Columns.{one-goes}
 use Rattle.union.specs.Found.{openFrom, Opened}
 use Rattle.union.proofs.Steps.{still-open, going-on, open-last}
@@ -18,19 +20,19 @@ use Rattle.union.proofs.write_from.Statement.{statement}
 use Rattle.union.proofs.write_from.Tie as tie
 
 abbrev Inv-loop : tie.InvT-loop
-Inv-loop closed starts-a ends-a count-a from-a starts-b ends-b count-b from-b start end out-starts₀ out-ends₀ total at₀ i₀ j₀ lo₀ hi₀ out-starts out-ends at i j lo hi =
-    Opened closed (bitRank lo) (bitRank hi) starts-a ends-a count-a i starts-b ends-b count-b j
-    × Going (kindOf closed) out-starts₀ out-ends₀ (openFrom closed (bitRank start) (bitRank end) starts-a ends-a count-a from-a starts-b ends-b count-b from-b)
-    at (openFrom closed (bitRank lo) (bitRank hi) starts-a ends-a count-a i starts-b ends-b count-b j) out-starts out-ends
+Inv-loop kind starts-a ends-a count-a from-a starts-b ends-b count-b from-b start end out-starts₀ out-ends₀ total at₀ i₀ j₀ lo₀ hi₀ out-starts out-ends at i j lo hi =
+    Opened kind (bitRank lo) (bitRank hi) starts-a ends-a count-a i starts-b ends-b count-b j
+    × Going (kindOf kind) out-starts₀ out-ends₀ (openFrom kind (bitRank start) (bitRank end) starts-a ends-a count-a from-a starts-b ends-b count-b from-b)
+    at (openFrom kind (bitRank lo) (bitRank hi) starts-a ends-a count-a i starts-b ends-b count-b j) out-starts out-ends
 
 abbrev μ-loop : tie.MeasureT-loop
-μ-loop closed starts-a ends-a count-a from-a starts-b ends-b count-b from-b start end out-starts₀ out-ends₀ total at₀ i₀ j₀ lo₀ hi₀ out-starts out-ends at i j lo hi = (count-a + count-b) - (i + j)
+μ-loop kind starts-a ends-a count-a from-a starts-b ends-b count-b from-b start end out-starts₀ out-ends₀ total at₀ i₀ j₀ lo₀ hi₀ out-starts out-ends at i j lo hi = (count-a + count-b) - (i + j)
 
 add-total : tie.Need-add-total Inv-loop μ-loop
 add-total c = omega arith
 
 loop-holds : tie.Need-loop-holds Inv-loop μ-loop
-loop-holds c = (c .pre .2, going-first (kindOf (c .args .closed)))
+loop-holds c = (c .pre .2, going-first (kindOf (c .args .kind)))
 
 add-loop : tie.Need-add-loop Inv-loop μ-loop
 add-loop c = omega arith
@@ -45,7 +47,7 @@ record Inside (c : tie.In-loop Inv-loop μ-loop) : Type 0 where
 inside : (c : tie.In-loop Inv-loop μ-loop) → Inside c
 inside c =
     let s = c .before .before in
-    let r = going-room (kindOf (s .args .closed)) (c .before .loop .inv .1) (absorb-some _ _) (s .pre .3) in
+    let r = going-room (kindOf (s .args .kind)) (c .before .loop .inv .1) (absorb-some _ _) (s .pre .3) in
     record { within = omega arith; fits = omega arith; room = r; at-fits = omega (arith, r) }
 
 put-requires : tie.Need-put-requires Inv-loop μ-loop
@@ -120,18 +122,23 @@ loop-again c =
     let p = simp rank-back at (m .meets .ensures) in
     let q = simp rank-back at (c .before .before .pick .ensures) in
     let g = greater-bits (l .hi) (x .next .result .end) (c .max .ensures) in (
-      still-open (s .args .closed) (s .pre .0) (s .pre .1) (l .inv .0) (x .next .result) t (m .meets .result) p q g,
-      going-on (s .args .closed) (s .pre .0) (s .pre .1) (l .inv .0) (x .next .result) t (m .meets .result) p q g (l .inv .1)
-          (put-start (l .out-starts) (l .at) (l .lo) (w .0)) (put-end (s .args .closed) (l .out-ends) (l .at) (l .hi) (w .1)),
+      still-open (s .args .kind) (s .pre .0) (s .pre .1) (l .inv .0) (x .next .result) t (m .meets .result) p q g,
+      going-on (s .args .kind) (s .pre .0) (s .pre .1) (l .inv .0) (x .next .result) t (m .meets .result) p q g (l .inv .1)
+          (put-start (l .out-starts) (l .at) (l .lo) (w .0)) (put-end (s .args .kind) (l .out-ends) (l .at) (l .hi) (w .1)),
     )
 
+-- there is a place for the last range
+last-room : (c : tie.After-loop Inv-loop μ-loop) → (c .before .loop .at < length (c .before .loop .out-starts)) × (c .before .loop .at < length (c .before .loop .out-ends))
+last-room c = let s = c .before .before in going-room (kindOf (s .args .kind)) (c .before .loop .inv .1) (absorb-some _ _) (s .pre .3)
+
+last-fits : (c : tie.After-loop Inv-loop μ-loop) → c .before .loop .at + 1 < 2 ^ 64
+last-fits c = omega (arith, last-room c)
+
 put-requires-2 : tie.Need-put-requires-2 Inv-loop μ-loop
-put-requires-2 c κs = let s = c .before .before .before .before in going-room (kindOf (s .args .closed)) (c .before .before .before .loop .inv .1) (absorb-some _ _) (s .pre .3)
+put-requires-2 c κs = last-room (c .before .before)
 
 add-result : tie.Need-add-result Inv-loop μ-loop
-add-result c =
-    let s = c .before .before .before .before .before .before .before in
-    omega (arith, going-room (kindOf (s .args .closed)) (c .before .before .before .before .before .before .loop .inv .1) (absorb-some _ _) (s .pre .3))
+add-result c = record { fits = last-fits (c .before .before .before .before .before) }
 
 same-length : tie.Need-same-length Inv-loop μ-loop
 same-length c = omega arith
@@ -145,8 +152,8 @@ returns c =
     let s = c .before .before .before .before .before .before .before in
     let a = s .args in
     let w = c .before .before .put2 .ensures in
-    going-last (kindOf (a .closed)) (l .inv .1) (span (bitRank (l .lo)) (wide (a .closed) + bitRank (l .hi)) 0) (open-last (a .closed) (s .pre .0) (s .pre .1) (omega arith) (l .inv .0))
-    (put-start (l .out-starts) (l .at) (l .lo) (w .0)) (put-end (a .closed) (l .out-ends) (l .at) (l .hi) (w .1))
+    going-last (kindOf (a .kind)) (l .inv .1) (span (bitRank (l .lo)) (wide (a .kind) + bitRank (l .hi)) 0) (open-last (a .kind) (s .pre .0) (s .pre .1) (omega arith) (l .inv .0))
+    (put-start (l .out-starts) (l .at) (l .lo) (w .0)) (put-end (a .kind) (l .out-ends) (l .at) (l .hi) (w .1))
 
 pub write-from-spec : {M : Type 1} → statement M
 write-from-spec =

@@ -1,4 +1,4 @@
--- The kind of range as a bool: both kinds differ by one in how far past its end a range reaches.
+-- The kind of range that the code names: both kinds differ by one in how far past its end a range reaches.
 use Prim.Native.Nat.{ℕ, suc, _+_, min, max}
 use native.Mathlib.Omega.{arith}
 use mathlib.Core.Path.{_≡_, refl, sym, ap, _∙_}
@@ -13,18 +13,16 @@ use mir.Syntax.{w64}
 use mir.Val.{SFits, toZ, ofZ}
 use mir.Facts.{toZ-ofZ}
 use Rattle.key.specs.Rank.{rank, bitRank, keyAt, lesser, greater}
-use Rattle.key.specs.Range.{Kind}
+use Rattle.key.specs.Range.{kindOf}
+use Rattle.key.specs.declared.RangeKind.{RangeKind}
+use Rattle.key.specs.declared.RangeKind.the-variants as RangeKind
 use Rattle.key.proofs.Laws.{rank-lt, rank-ge, rank-le, rank-gt, rank-back, rank-lesser, rank-greater, key-rank, toZ-fit}
-use Rattle.key.proofs.Lawful.{Lawful, half-open, inclusive-too}
-use Rattle.pairs.specs.Kind.{kindOf, wide}
+use Rattle.key.proofs.Lawful.{lawful}
+use Rattle.pairs.specs.Kind.{wide}
 
-pub lawful : (closed : Bool) → Lawful (kindOf closed)
-lawful true = inclusive-too
-lawful false = half-open
-
-pub past-is : (closed : Bool) (e : ℤ) → kindOf closed .past e ≡ wide closed + rank e
-past-is true e = omega arith
-past-is false e = omega arith
+pub past-is : (kind : RangeKind) (e : ℤ) → kindOf kind .past e ≡ wide kind + rank e
+past-is RangeKind.HalfOpen e = omega arith
+past-is RangeKind.Inclusive e = omega arith
 
 -- a test is what it decides
 by-answer : (s : Bool) {t : Bool} → (s ≡ true → t ≡ true) → (s ≡ false → t ≡ false) → s ≡ t
@@ -40,20 +38,20 @@ le-test m n = by-answer (leZ (toZ w64 m) (toZ w64 n))
     (λ e. let h = rank-gt m n e in le-ltb (bitRank m) (suc (bitRank n)) (omega arith))
 
 -- what `meets` answers, by the kind
-pub meets-closed : (closed : Bool) (s e : ℤ) → closed ≡ true → leZ (toZ w64 (ofZ w64 s)) (toZ w64 (ofZ w64 e)) ≡ ltb (rank s) (wide closed + rank e)
-meets-closed closed s e h = let one : 1 + rank e ≡ suc (rank e) = omega arith in rw (h, one) (le-test (ofZ w64 s) (ofZ w64 e))
+pub meets-open : (s e : ℤ) → ltZ (toZ w64 (ofZ w64 s)) (toZ w64 (ofZ w64 e)) ≡ ltb (rank s) (0 + rank e)
+meets-open s e = let none : 0 + rank e ≡ rank e = omega arith in rw none (lt-test (ofZ w64 s) (ofZ w64 e))
 
-pub meets-open : (closed : Bool) (s e : ℤ) → closed ≡ false → ltZ (toZ w64 (ofZ w64 s)) (toZ w64 (ofZ w64 e)) ≡ ltb (rank s) (wide closed + rank e)
-meets-open closed s e h = let none : 0 + rank e ≡ rank e = omega arith in rw (h, none) (lt-test (ofZ w64 s) (ofZ w64 e))
+pub meets-closed : (s e : ℤ) → leZ (toZ w64 (ofZ w64 s)) (toZ w64 (ofZ w64 e)) ≡ ltb (rank s) (1 + rank e)
+meets-closed s e = let one : 1 + rank e ≡ suc (rank e) = omega arith in rw one (le-test (ofZ w64 s) (ofZ w64 e))
 
 -- a key as the code stores it, by its rank: as a start, and as an end
 start-bits : (b : ℕ) → toZ w64 b ≡ keyAt (bitRank b)
 start-bits b = sym (ap keyAt (sym (rank-back b)) ∙ key-rank (toZ-fit b))
 
-end-bits : (closed : Bool) (b : ℕ) → toZ w64 b ≡ kindOf closed .ending (wide closed + bitRank b)
-end-bits closed b =
-    let p : kindOf closed .past (toZ w64 b) ≡ wide closed + bitRank b = rw (rank-back b) at (past-is closed (toZ w64 b)) in
-    sym (ap (kindOf closed .ending) (sym p) ∙ lawful closed .back (toZ-fit b))
+end-bits : (kind : RangeKind) (b : ℕ) → toZ w64 b ≡ kindOf kind .ending (wide kind + bitRank b)
+end-bits kind b =
+    let p : kindOf kind .past (toZ w64 b) ≡ wide kind + bitRank b = rw (rank-back b) at (past-is kind (toZ w64 b)) in
+    sym (ap (kindOf kind .ending) (sym p) ∙ lawful kind .back (toZ-fit b))
 
 -- the greater and the lesser of two keys that were read, by their ranks
 pub greater-rank : {r : ℤ} (a b : ℤ) → r ≡ greater (toZ w64 (ofZ w64 a)) (toZ w64 (ofZ w64 b)) → rank (toZ w64 (ofZ w64 r)) ≡ max (rank a) (rank b)
@@ -66,8 +64,8 @@ lesser-rank {r} a b e = rank-back (ofZ w64 r) ∙ ap rank e ∙ rank-lesser (toZ
 pub put-start : (l : List ℤ) {l₁ : List ℤ} (n b : ℕ) → l₁ ≡ set l n (toZ w64 b) → l₁ ≡ set l n (keyAt (bitRank b))
 put-start l n b e = rw (← start-bits b) e
 
-pub put-end : (closed : Bool) (l : List ℤ) {l₁ : List ℤ} (n b : ℕ) → l₁ ≡ set l n (toZ w64 b) → l₁ ≡ set l n (kindOf closed .ending (wide closed + bitRank b))
-put-end closed l n b e = rw (← end-bits closed b) e
+pub put-end : (kind : RangeKind) (l : List ℤ) {l₁ : List ℤ} (n b : ℕ) → l₁ ≡ set l n (toZ w64 b) → l₁ ≡ set l n (kindOf kind .ending (wide kind + bitRank b))
+put-end kind l n b e = rw (← end-bits kind b) e
 
 -- of a local and a key that was read
 pub greater-bits : {r : ℤ} (m : ℕ) (b : ℤ) → r ≡ greater (toZ w64 m) (toZ w64 (ofZ w64 b)) → rank r ≡ max (bitRank m) (rank b)

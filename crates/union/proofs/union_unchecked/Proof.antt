@@ -1,0 +1,62 @@
+-- `union::union_unchecked` meets its contract.
+use Prim.Native.Nat.{_≤_}
+use lib.ListN.{length}
+use borrow.Author.Needs.{needs}
+use borrow.Author.Tests.{not-true, not-false}
+use Rattle.key.specs.Range.{kindOf}
+use Rattle.pairs.proofs.Doors.{side, answers-short, enough, answers-done}
+use Rattle.union.specs.Found.{either}
+use Rattle.union.proofs.Answers.{answered}
+use Rattle.union.proofs.union_unchecked.Statement.{statement}
+use Rattle.union.proofs.union_unchecked.Tie as tie
+
+shorter-requires : tie.Need-shorter-requires
+shorter-requires c κs = search needs
+
+fits-requires : tie.Need-fits-requires
+fits-requires c κs = let s = c .before .before .before in (side (kindOf (s .args .kind)) (s .pre .0), side (kindOf (s .args .kind)) (s .pre .1))
+
+returns : tie.Need-returns
+returns c =
+    let s = c .before .before .before .before .before in
+    let a = s .args in
+    answered (a .kind) (s .pre .0) (s .pre .1) (a .out-starts .now) (a .out-ends .now)
+    (answers-short (kindOf (a .kind)) _ (a .out-starts .now) (a .out-ends .now) (c .before .before .shorter .ensures) (c .before .fits2 .ensures .wrong (not-true _ (c .if1 .taken))))
+
+-- the ranges fit
+room : (c : tie.Else1) → let a = c .before .before .before .before .before .args in
+    length (either (a .kind) (a .starts-a .now) (a .ends-a .now) (a .count-a) (a .starts-b .now) (a .ends-b .now) (a .count-b)) ≤ c .before .before .shorter .result
+room c = c .before .fits2 .ensures .right (not-false _ (c .if1 .left))
+
+write-requires : tie.Need-write-requires
+write-requires c κs =
+    let f = c .before .before in
+    let s = f .before .before .before .before .before in
+    let a = s .args in
+    (side (kindOf (a .kind)) (s .pre .0), side (kindOf (a .kind)) (s .pre .1), enough (kindOf (a .kind)) _ (a .out-starts .now) (a .out-ends .now) (f .before .before .shorter .ensures) (room f))
+
+same-length : tie.Need-same-length
+same-length c = search needs
+
+same-length-2 : tie.Need-same-length-2
+same-length-2 c = search needs
+
+returns-2 : tie.Need-returns-2
+returns-2 c =
+    let f = c .before .before .before .before .before in
+    let s = f .before .before .before .before .before in
+    let a = s .args in
+    answered (a .kind) (s .pre .0) (s .pre .1) (a .out-starts .now) (a .out-ends .now)
+    (answers-done (kindOf (a .kind)) _ (a .out-starts .now) (a .out-ends .now) (f .before .before .shorter .ensures) (room f) (c .before .before .write .ensures))
+
+pub union-unchecked-spec : {M : Type 1} → statement M
+union-unchecked-spec =
+    tie.close
+    (tie.spec
+    shorter-requires
+    fits-requires
+    returns
+    write-requires
+    same-length
+    same-length-2
+    returns-2)
