@@ -21,8 +21,7 @@ use Rattle.pairs.specs.Sides.{rows, rest, Side}
 use Rattle.pairs.proofs.Columns.{length-rows, spaced-rows, spaced-rest, rest-more, rest-none, rest-all}
 use Rattle.pairs.specs.Lists.{Going}
 use Rattle.pairs.proofs.Writing.{going-step}
-use Rattle.intersection.specs.Found.{shared, sharedFrom, Stepped}
-use Rattle.intersection.specs.declared.Overlap.{Overlap}
+use Rattle.intersection.specs.Found.{shared, sharedFrom, keyRank, Stepped}
 
 module _ (w s e t f : ℕ) (xs ys : List Span) (a : Spaced 0 (span s (w + e) 0 ∷ xs)) (b : Spaced 0 (span t (w + f) 0 ∷ ys)) where
   -- what the two ranges have in common, if they have
@@ -78,28 +77,42 @@ module _ (kind : RangeKind) {sa ea sb eb : List ℤ} {na nb : ℕ} (a : Side (ki
         ≡ cond found (span lo (wide kind + hi) 0 ∷ sharedFrom kind sa ea na (i + boolByte left) sb eb nb (j + boolByte (not left))) (sharedFrom kind sa ea na (i + boolByte left) sb eb nb (j + boolByte (not left)))
     found-step left found l lo hi g = rw (g, lo, hi) (found-by left l)
 
+-- THE ENDS AT HAND after a step: of the side that goes the next one, which was read ahead, and of the other the same
+pub ahead-a : (left : Bool) (l : List ℤ) (i : ℕ) {here next r : ℕ} → here ≡ keyRank l i → next ≡ keyRank l (i + 1) → r ≡ cond left next here → r ≡ keyRank l (i + boolByte left)
+ahead-a true l i h n e = e ∙ n
+ahead-a false l i h n e = let z : i + 0 ≡ i = omega arith in rw z (e ∙ h)
+
+pub ahead-b : (left : Bool) (l : List ℤ) (j : ℕ) {here next r : ℕ} → here ≡ keyRank l j → next ≡ keyRank l (j + 1) → r ≡ cond left here next → r ≡ keyRank l (j + boolByte (not left))
+ahead-b true l j h n e = let z : j + 0 ≡ j = omega arith in rw z (e ∙ h)
+ahead-b false l j h n e = e ∙ n
+
+-- a step over ends that were carried along is one over the ends at hand
+pub stepped-as : {kind : RangeKind} {s e e′ t f f′ : ℕ} {lo hi : ℤ} {found left : Bool} → e ≡ e′ → f ≡ f′ → Stepped kind s e t f lo hi found left → Stepped kind s e′ t f′ lo hi found left
+stepped-as p q st = rw (← p, ← q) st
+
 -- THE OUTPUT after a step: the open range was written, and is now what was found, or the same
 open-step : (found : Bool) (w lo hi s e lo₁ hi₁ : ℕ) (all more : List Span) → all ≡ cond found (span s (w + e) 0 ∷ more) more → lo₁ ≡ cond found s lo → hi₁ ≡ cond found e hi
     → span lo (w + hi) 0 ∷ all ≡ cond found (span lo (w + hi) 0 ∷ span lo₁ (w + hi₁) 0 ∷ more) (span lo₁ (w + hi₁) 0 ∷ more)
 open-step true w lo hi s e lo₁ hi₁ all more a l h = rw (a, l, h)
 open-step false w lo hi s e lo₁ hi₁ all more a l h = rw (a, l, h)
 
-module _ (kind : RangeKind) {sa ea sb eb : List ℤ} {na nb : ℕ} (a : Side (kindOf kind) sa ea na) (b : Side (kindOf kind) sb eb nb) (r : Overlap) {i j : ℕ} (p : i < na) (q : j < nb) (e : Stepped kind sa ea i sb eb j r) where
+module _ (kind : RangeKind) {sa ea sb eb : List ℤ} {na nb : ℕ} (a : Side (kindOf kind) sa ea na) (b : Side (kindOf kind) sb eb nb) {i j : ℕ} (p : i < na) (q : j < nb)
+    {start end : ℤ} {found left : Bool} (e : Stepped kind (keyRank sa i) (keyRank ea i) (keyRank sb j) (keyRank eb j) start end found left) where
   pub step-found : sharedFrom kind sa ea na i sb eb nb j
-      ≡ cond (r .found) (span (rank (r .start)) (wide kind + rank (r .end)) 0 ∷ sharedFrom kind sa ea na (i + boolByte (r .left)) sb eb nb (j + boolByte (not (r .left)))) (sharedFrom kind sa ea na (i + boolByte (r .left)) sb eb nb (j + boolByte (not (r .left))))
-  step-found = found-step kind a b p q refl refl refl refl (r .left) (r .found) (e .left) (e .start) (e .end) (e .found)
+      ≡ cond found (span (rank start) (wide kind + rank end) 0 ∷ sharedFrom kind sa ea na (i + boolByte left) sb eb nb (j + boolByte (not left))) (sharedFrom kind sa ea na (i + boolByte left) sb eb nb (j + boolByte (not left)))
+  step-found = found-step kind a b p q refl refl refl refl left found (e .first) (e .start) (e .end) (e .met)
 
   -- the first that is found; and none yet
-  pub first-found : {goal : List Span} → r .found ≡ true → goal ≡ sharedFrom kind sa ea na i sb eb nb j
-      → goal ≡ span (rank (r .start)) (wide kind + rank (r .end)) 0 ∷ sharedFrom kind sa ea na (i + boolByte (r .left)) sb eb nb (j + boolByte (not (r .left)))
+  pub first-found : {goal : List Span} → found ≡ true → goal ≡ sharedFrom kind sa ea na i sb eb nb j
+      → goal ≡ span (rank start) (wide kind + rank end) 0 ∷ sharedFrom kind sa ea na (i + boolByte left) sb eb nb (j + boolByte (not left))
   first-found f g = g ∙ (rw f at step-found)
 
-  pub none-found : {goal : List Span} → r .found ≡ false → goal ≡ sharedFrom kind sa ea na i sb eb nb j → goal ≡ sharedFrom kind sa ea na (i + boolByte (r .left)) sb eb nb (j + boolByte (not (r .left)))
+  pub none-found : {goal : List Span} → found ≡ false → goal ≡ sharedFrom kind sa ea na i sb eb nb j → goal ≡ sharedFrom kind sa ea na (i + boolByte left) sb eb nb (j + boolByte (not left))
   none-found f g = g ∙ (rw f at step-found)
 
-  pub going-found : {os oe os₁ oe₁ os₂ oe₂ : List ℤ} {goal : List Span} {at : ℕ} (lo hi lo₁ hi₁ : ℕ)
-      → Going (kindOf kind) os oe goal at (span lo (wide kind + hi) 0 ∷ sharedFrom kind sa ea na i sb eb nb j) os₁ oe₁
-      → lo₁ ≡ cond (r .found) (rank (r .start)) lo → hi₁ ≡ cond (r .found) (rank (r .end)) hi → os₂ ≡ set os₁ at (keyAt lo) → oe₂ ≡ set oe₁ at (kindOf kind .ending (wide kind + hi))
-      → Going (kindOf kind) os oe goal (at + boolByte (r .found)) (span lo₁ (wide kind + hi₁) 0 ∷ sharedFrom kind sa ea na (i + boolByte (r .left)) sb eb nb (j + boolByte (not (r .left)))) os₂ oe₂
+  pub going-found : {os oe os₁ oe₁ os₂ oe₂ : List ℤ} {goal : List Span} {n at : ℕ} (lo hi lo₁ hi₁ : ℕ)
+      → Going (kindOf kind) n os oe goal at (span lo (wide kind + hi) 0 ∷ sharedFrom kind sa ea na i sb eb nb j) os₁ oe₁
+      → lo₁ ≡ cond found (rank start) lo → hi₁ ≡ cond found (rank end) hi → os₂ ≡ set os₁ at (keyAt lo) → oe₂ ≡ set oe₁ at (kindOf kind .ending (wide kind + hi))
+      → Going (kindOf kind) n os oe goal (at + boolByte found) (span lo₁ (wide kind + hi₁) 0 ∷ sharedFrom kind sa ea na (i + boolByte left) sb eb nb (j + boolByte (not left))) os₂ oe₂
   going-found lo hi lo₁ hi₁ g l h s t =
-      going-step (kindOf kind) g (r .found) (span lo (wide kind + hi) 0) (open-step (r .found) (wide kind) lo hi (rank (r .start)) (rank (r .end)) lo₁ hi₁ _ _ step-found l h) (omega arith) s t
+      going-step (kindOf kind) g found (span lo (wide kind + hi) 0) (open-step found (wide kind) lo hi (rank start) (rank end) lo₁ hi₁ _ _ step-found l h) (omega arith) s t

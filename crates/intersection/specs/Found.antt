@@ -1,10 +1,12 @@
 -- What the walk finds from two places on, in two sets that are lent as columns.
 use Prim.Native.Nat.{ℕ, _+_, min, max}
 use mathlib.Core.Path.{_≡_}
+use mathlib.Core.Bool.{Bool, not}
 use mathlib.Core.List.{List}
 use lib.Dec.{ltb}
 use lib.ListN.{getD}
 use lib.IntN.{ℤ, pos}
+use mir.Val.{boolByte}
 use Rattle.span.specs.Span.{Span, span}
 use Rattle.span.specs.Operations.{common}
 use Rattle.key.specs.Rank.{rank}
@@ -12,7 +14,7 @@ use Rattle.key.specs.Range.{kindOf}
 use Rattle.key.specs.declared.RangeKind.{RangeKind}
 use Rattle.pairs.specs.Kind.{wide}
 use Rattle.pairs.specs.Sides.{rows, rest}
-use Rattle.intersection.specs.declared.Overlap.{Overlap}
+use Rattle.intersection.specs.declared.Carried.{Carried}
 
 -- what the two sets have in common
 abbrev pub shared : RangeKind → List ℤ → List ℤ → ℕ → List ℤ → List ℤ → ℕ → List Span
@@ -26,9 +28,20 @@ sharedFrom kind sa ea na i sb eb nb j = common (rest (kindOf kind) sa ea na i) (
 abbrev pub piece : RangeKind → ℤ → ℤ → Span
 piece kind s e = span (rank s) (wide kind + rank e) 0
 
--- a step at places i and j: from the greater start to the lesser end, if that has a key; the range that ends first goes, and the second of two that end alike
-pub record Stepped (kind : RangeKind) (sa ea : List ℤ) (i : ℕ) (sb eb : List ℤ) (j : ℕ) (r : Overlap) : Type 0 where
-  pub start : rank (r .start) ≡ max (rank (getD sa i (pos 0))) (rank (getD sb j (pos 0)))
-  pub end : rank (r .end) ≡ min (rank (getD ea i (pos 0))) (rank (getD eb j (pos 0)))
-  pub found : r .found ≡ ltb (rank (r .start)) (wide kind + rank (r .end))
-  pub left : r .left ≡ ltb (rank (getD ea i (pos 0))) (rank (getD eb j (pos 0)))
+-- the rank of the key at a place of a column
+abbrev pub keyRank : List ℤ → ℕ → ℕ
+keyRank l i = rank (getD l i (pos 0))
+
+-- a step over two ranges, by the ranks s and t of their starts and e and f of their ends: from the greater start to the lesser end, if that has a key;
+-- the range that ends first goes, and the second of two that end alike
+pub record Stepped (kind : RangeKind) (s e t f : ℕ) (lo hi : ℤ) (found left : Bool) : Type 0 where
+  pub start : rank lo ≡ max s t
+  pub end : rank hi ≡ min e f
+  pub met : found ≡ ltb (rank lo) (wide kind + rank hi)
+  pub first : left ≡ ltb e f
+
+-- a step at places i and j; and the ends at hand after it
+pub record Carries (kind : RangeKind) (sa ea : List ℤ) (i : ℕ) (sb eb : List ℤ) (j : ℕ) (r : Carried) : Type 0 where
+  pub step : Stepped kind (keyRank sa i) (keyRank ea i) (keyRank sb j) (keyRank eb j) (r .start) (r .end) (r .found) (r .left)
+  pub ahead-a : rank (r .here) ≡ keyRank ea (i + boolByte (r .left))
+  pub ahead-b : rank (r .there) ≡ keyRank eb (j + boolByte (not (r .left)))

@@ -17,9 +17,12 @@ use Rattle.gaps.specs.Walk.{startsOf, endsOf, Room, Puts}
 use Rattle.pairs.specs.Lists.{Counting, Going}
 
 -- one range more is counted, or none
+sum-step : (at : ℕ) {all : ℕ} (todo : List Span) (fresh : Bool) (x : Span) (more : List Span) → at + length todo ≡ all → todo ≡ cond fresh (x ∷ more) more → at + boolByte fresh + length more ≡ all
+sum-step at todo true x more g e = let s = rw e at g in omega (arith, s)
+sum-step at todo false x more g e = let s = rw e at g in omega (arith, s)
+
 pub counting-step : {goal : List Span} {at : ℕ} {todo : List Span} (fresh : Bool) (x : Span) {more : List Span} → Counting goal at todo → todo ≡ cond fresh (x ∷ more) more → Counting goal (at + boolByte fresh) more
-counting-step true x g e = let s = rw e at (g .sum) in record { sum = omega (arith, s) }
-counting-step false x g e = let s = rw e at (g .sum) in record { sum = omega (arith, s) }
+counting-step {at = at} {todo} fresh x {more} g e = record { sum = sum-step at todo fresh x more (g .sum) e }
 
 pub counting-done : {goal : List Span} {at : ℕ} {todo : List Span} → Counting goal at todo → todo ≡ [] → at ≡ length goal
 counting-done g e = let s = rw e at (g .sum) in omega (arith, s)
@@ -40,24 +43,24 @@ column-step f l at false x more h t e =
     let n : at + 0 ≡ at = omega arith in
     rw (e, n) (over-put f l at (f x) more h ∙ t)
 
-module _ (kind : Kind) {os oe : List ℤ} {goal : List Span} where
-  pub going-first : Going kind os oe goal 0 goal os oe
-  going-first = record { count = record { sum = omega arith }; starts-as = refl; ends-as = refl; starts = refl; ends = refl }
+module _ (kind : Kind) {n : ℕ} {os oe : List ℤ} {goal : List Span} where
+  pub going-first : Going kind n os oe goal n goal os oe
+  going-first = record { count = refl; starts-as = refl; ends-as = refl; starts = refl; ends = refl }
 
-  module _ {at : ℕ} {todo : List Span} {os₁ oe₁ : List ℤ} (g : Going kind os oe goal at todo os₁ oe₁) where
+  module _ {at : ℕ} {todo : List Span} {os₁ oe₁ : List ℤ} (g : Going kind n os oe goal at todo os₁ oe₁) where
     -- there is a place for the next range
-    pub going-room : 0 < length todo → Room 0 goal os oe → (at < length os₁) × (at < length oe₁)
-    going-room h r = (omega (arith, g .count .sum, g .starts-as, r .starts), omega (arith, g .count .sum, g .ends-as, r .ends))
+    pub going-room : 0 < length todo → Room n goal os oe → (at < length os₁) × (at < length oe₁)
+    going-room h r = (omega (arith, g .count, g .starts-as, r .starts), omega (arith, g .count, g .ends-as, r .ends))
 
     -- and for all that are left
-    pub going-rest : Room 0 goal os oe → Room at todo os₁ oe₁
-    going-rest r = record { starts = omega (arith, g .count .sum, g .starts-as, r .starts); ends = omega (arith, g .count .sum, g .ends-as, r .ends) }
+    pub going-rest : Room n goal os oe → Room at todo os₁ oe₁
+    going-rest r = record { starts = omega (arith, g .count, g .starts-as, r .starts); ends = omega (arith, g .count, g .ends-as, r .ends) }
 
     -- the open range x is written: it is done, or it stays open
     pub going-step : (fresh : Bool) (x : Span) {more : List Span} {os₂ oe₂ : List ℤ} → todo ≡ cond fresh (x ∷ more) more → 0 < length more
-        → os₂ ≡ set os₁ at (keyAt (x .lo)) → oe₂ ≡ set oe₁ at (kind .ending (x .hi)) → Going kind os oe goal (at + boolByte fresh) more os₂ oe₂
+        → os₂ ≡ set os₁ at (keyAt (x .lo)) → oe₂ ≡ set oe₁ at (kind .ending (x .hi)) → Going kind n os oe goal (at + boolByte fresh) more os₂ oe₂
     going-step fresh x {more} e h s t = record {
-      count = counting-step fresh x (g .count) e;
+      count = sum-step at todo fresh x more (g .count) e;
       starts-as = rw s (length-set os₁ at _ ∙ g .starts-as);
       ends-as = rw t (length-set oe₁ at _ ∙ g .ends-as);
       starts = column-step (λ (x : Span). keyAt (x .lo)) os₁ at fresh x more h (rw e at (g .starts)) s;
@@ -65,13 +68,17 @@ module _ (kind : Kind) {os oe : List ℤ} {goal : List Span} where
     }
 
     -- all that were left are written
-    pub going-done : {r : ℕ} {os₂ oe₂ : List ℤ} → (r ≡ at + length todo) × Puts kind at todo os₁ oe₁ os₂ oe₂ → (r ≡ length goal) × Puts kind 0 goal os oe os₂ oe₂
-    going-done w = (w .0 ∙ g .count .sum, record { starts = w .1 .starts ∙ g .starts; ends = w .1 .ends ∙ g .ends })
+    pub going-done : {r : ℕ} {os₂ oe₂ : List ℤ} → (r ≡ at + length todo) × Puts kind at todo os₁ oe₁ os₂ oe₂ → (r ≡ n + length goal) × Puts kind n goal os oe os₂ oe₂
+    going-done w = (w .0 ∙ g .count, record { starts = w .1 .starts ∙ g .starts; ends = w .1 .ends ∙ g .ends })
 
     -- the last is written
     pub going-last : (x : Span) {os₂ oe₂ : List ℤ} → todo ≡ x ∷ [] → os₂ ≡ set os₁ at (keyAt (x .lo)) → oe₂ ≡ set oe₁ at (kind .ending (x .hi))
-        → (at + 1 ≡ length goal) × Puts kind 0 goal os oe os₂ oe₂
+        → (at + 1 ≡ n + length goal) × Puts kind n goal os oe os₂ oe₂
     going-last x e s t = going-done (rw e (refl, record { starts = s; ends = t }))
+
+-- a number of ranges that are written from the first place on
+pub from-first : {r l : ℕ} {P : Type 0} → (r ≡ 0 + l) × P → (r ≡ l) × P
+from-first {l = l} w = let z : 0 + l ≡ l = omega arith in (w .0 ∙ z, w .1)
 
 -- nothing was written before, and all is written now; and there is nothing to write
 module _ (kind : Kind) {os oe os₁ oe₁ : List ℤ} {goal todo : List Span} (s : os₁ ≡ os) (e : oe₁ ≡ oe) (t : goal ≡ todo) where

@@ -13,10 +13,10 @@ use Rattle.gaps.specs.Walk.{startsOf, endsOf}
 pub record Counting (goal : List Span) (at : ℕ) (todo : List Span) : Type 0 where
   pub sum : at + length todo ≡ length goal
 
--- so many are written, and those are still to be, from there on
-pub record Going (kind : Kind) (os oe : List ℤ) (goal : List Span) (at : ℕ) (todo : List Span) (os₁ oe₁ : List ℤ) : Type 0 where
-  pub count : Counting goal at todo
+-- the goal is to be written from place n on: it is written up to place `at`, and those are still to be, from there on
+pub record Going (kind : Kind) (n : ℕ) (os oe : List ℤ) (goal : List Span) (at : ℕ) (todo : List Span) (os₁ oe₁ : List ℤ) : Type 0 where
+  pub count : at + length todo ≡ n + length goal
   pub starts-as : length os₁ ≡ length os
   pub ends-as : length oe₁ ≡ length oe
-  pub starts : sets os₁ at (startsOf todo) ≡ sets os 0 (startsOf goal)
-  pub ends : sets oe₁ at (endsOf kind todo) ≡ sets oe 0 (endsOf kind goal)
+  pub starts : sets os₁ at (startsOf todo) ≡ sets os n (startsOf goal)
+  pub ends : sets oe₁ at (endsOf kind todo) ≡ sets oe n (endsOf kind goal)

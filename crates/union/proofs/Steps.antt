@@ -193,7 +193,7 @@ module _ (kind : RangeKind) {sa ea sb eb : List ℤ} {na nb : ℕ} (a : Side (ki
         → Counting goal (n + boolByte (not joins)) (openFrom kind lo₁ h₁ sa ea na (i + boolByte (r .left)) sb eb nb (j + boolByte (not (r .left))))
     counting-on g = counting-step (not joins) (span lo (wide kind + h) 0) g (step-open o r t joins p l q .0)
 
-    pub going-on : {os oe os₁ oe₁ os₂ oe₂ : List ℤ} {goal : List Span} {at : ℕ} → Going (kindOf kind) os oe goal at (openFrom kind lo h sa ea na i sb eb nb j) os₁ oe₁
+    pub going-on : {os oe os₁ oe₁ os₂ oe₂ : List ℤ} {goal : List Span} {at : ℕ} → Going (kindOf kind) 0 os oe goal at (openFrom kind lo h sa ea na i sb eb nb j) os₁ oe₁
         → os₂ ≡ set os₁ at (keyAt lo) → oe₂ ≡ set oe₁ at (kindOf kind .ending (wide kind + h))
-        → Going (kindOf kind) os oe goal (at + boolByte (not joins)) (openFrom kind lo₁ h₁ sa ea na (i + boolByte (r .left)) sb eb nb (j + boolByte (not (r .left)))) os₂ oe₂
+        → Going (kindOf kind) 0 os oe goal (at + boolByte (not joins)) (openFrom kind lo₁ h₁ sa ea na (i + boolByte (r .left)) sb eb nb (j + boolByte (not (r .left)))) os₂ oe₂
     going-on g s e = going-step (kindOf kind) g (not joins) (span lo (wide kind + h) 0) (step-open o r t joins p l q .0) (absorb-some _ _) s e

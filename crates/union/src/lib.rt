@@ -14,14 +14,16 @@ use pairs::pick;
 use pairs::roomy;
 ghost use mathlib.Core.Path.{_≡_};
 ghost use Prim.Native.Nat.{_+_, _≤_, _<_};
+ghost use lib.Dec.{ltb};
 ghost use lib.ListN.{length};
 ghost use Rattle.key.specs.Decides.{Decides};
 ghost use Rattle.key.specs.Rank.{rank};
+ghost use Rattle.key.specs.Range.{kindOf};
 ghost use Rattle.outcomes.specs.Stored.{lent, stored};
 ghost use Rattle.outcomes.specs.Sets.{SoundSet, joining, uniting};
-ghost use Rattle.key.specs.Range.{kindOf};
-ghost use Rattle.pairs.specs.Sides.{Side};
 ghost use Rattle.gaps.specs.Walk.{wrote, Room, Puts};
+ghost use Rattle.pairs.specs.Kind.{wide};
+ghost use Rattle.pairs.specs.Sides.{Side};
 ghost use Rattle.union.specs.Found.{either, openFrom, Opened, Next};
 
 // A range that is taken, and whether it is the left set's.
@@ -70,6 +72,13 @@ fn next(
     }
 }
 
+// Whether a range up to `end` overlaps one that starts at `start`, no sooner than it. Only then do the two become one: ranges that touch stay apart.
+fn overlaps(kind: RangeKind, end: i64, start: i64) -> bool
+    ensures { λ r. ⌜ r ≡ ltb (rank start) (wide kind + rank end) ⌝ }
+{
+    meets(kind, start, end)
+}
+
 // How many ranges there are where the range from `start` to `end` is open.
 fn counted_from(
     kind: RangeKind,
@@ -96,7 +105,7 @@ fn counted_from(
     let mut hi = end;
     while i + j < total {
         let t = next(starts_a, ends_a, count_a, i, starts_b, ends_b, count_b, j);
-        let joins = meets(kind, t.start, hi);
+        let joins = overlaps(kind, hi, t.start);
         i += t.left as usize;
         j += !t.left as usize;
         n += !joins as usize;
@@ -139,7 +148,7 @@ fn write_from(
     while i + j < total {
         put(out_starts, out_ends, at, lo, hi);
         let t = next(starts_a, ends_a, count_a, i, starts_b, ends_b, count_b, j);
-        let same = meets(kind, t.start, hi);
+        let same = overlaps(kind, hi, t.start);
         i += t.left as usize;
         j += !t.left as usize;
         at += !same as usize;

@@ -52,7 +52,7 @@ found c =
     let l = c .before .before .before .loop in
     let s = c .before .before .before .before in
     counting-step (c .step .result .found) _ (l .inv .2)
-    (step-found (s .args .kind) (s .pre .0) (s .pre .1) (c .step .result) (omega arith) (right (c .before)) (c .step .ensures))
+    (step-found (s .args .kind) (s .pre .0) (s .pre .1) (omega arith) (right (c .before)) (c .step .ensures))
 
 add-n : tie.Need-add-n Inv-loop μ-loop
 add-n c =

@@ -60,7 +60,7 @@ write-from-requires c κs =
     let st = c .before .before .before .before .before .before .before in
     let l = st .before .before .before .loop in
     let s = st .before .before .before .before in
-    let f = first-found (s .args .kind) (s .pre .0) (s .pre .1) (st .step .result) (left-in (st .before)) (right-in (st .before)) (st .step .ensures) (c .before .before .before .before .if2 .taken) (l .inv .4) in
+    let f = first-found (s .args .kind) (s .pre .0) (s .pre .1) (left-in (st .before)) (right-in (st .before)) (st .step .ensures) (c .before .before .before .before .if2 .taken) (l .inv .4) in
     (s .pre .0, s .pre .1, on-a st, on-b st, simp rank-back (first-room (kindOf (s .args .kind)) (l .inv .2) (l .inv .3) f (s .pre .2)))
 
 same-length : tie.Need-same-length Inv-loop μ-loop
@@ -74,7 +74,7 @@ returns c =
     let st = c .before .before .before .before .before .before .before .before .before .before in
     let l = st .before .before .before .loop in
     let s = st .before .before .before .before in
-    let f = first-found (s .args .kind) (s .pre .0) (s .pre .1) (st .step .result) (left-in (st .before)) (right-in (st .before)) (st .step .ensures) (c .before .before .before .before .before .before .before .if2 .taken) (l .inv .4) in
+    let f = first-found (s .args .kind) (s .pre .0) (s .pre .1) (left-in (st .before)) (right-in (st .before)) (st .step .ensures) (c .before .before .before .before .before .before .before .if2 .taken) (l .inv .4) in
     first-written (kindOf (s .args .kind)) (l .inv .2) (l .inv .3) f (simp rank-back at (c .before .before .write-from .ensures))
 
 loop-less : tie.Need-loop-less Inv-loop μ-loop
@@ -85,7 +85,7 @@ loop-again c =
     let st = c .before .before .before in
     let l = st .before .before .before .loop in
     let s = st .before .before .before .before in
-    (on-a st, on-b st, l .inv .2, l .inv .3, none-found (s .args .kind) (s .pre .0) (s .pre .1) (st .step .result) (left-in (st .before)) (right-in (st .before)) (st .step .ensures) (c .if2 .left) (l .inv .4))
+    (on-a st, on-b st, l .inv .2, l .inv .3, none-found (s .args .kind) (s .pre .0) (s .pre .1) (left-in (st .before)) (right-in (st .before)) (st .step .ensures) (c .if2 .left) (l .inv .4))
 
 same-length-3 : tie.Need-same-length-3 Inv-loop μ-loop
 same-length-3 c = omega (arith, ap length (c .before .before .loop .inv .2))

@@ -1,148 +1,33 @@
 -- `intersection::write_from` meets its contract.
-use Prim.Native.Nat.{_+_, _-_, _^_, _≤_, _<_}
 use native.Mathlib.Omega.{arith}
-use mathlib.Core.Path.{_≡_, ap}
-use mathlib.Core.Bool.{not}
-use mathlib.Core.List.{List, [], _∷_}
-use mathlib.Core.Logic.{⊎-elim}
-use lib.ListN.{length}
-use borrow.Author.Tests.{ltb-true, ltb-false}
-use mir.Val.{boolByte}
-use Rattle.span.specs.Span.{Span, span}
-use Rattle.key.specs.Rank.{bitRank}
-use Rattle.key.proofs.Laws.{rank-back}
 use Rattle.key.specs.Range.{kindOf}
-use Rattle.pairs.specs.Kind.{wide}
-use Rattle.pairs.proofs.Kinded.{put-start, put-end}
-use Rattle.pairs.specs.Lists.{Going}
-use Rattle.pairs.proofs.Writing.{going-first, going-room, going-last}
-use Rattle.pairs.proofs.Columns.{one-goes}
-use Rattle.intersection.specs.Found.{sharedFrom}
-use Rattle.intersection.proofs.Steps.{found-none, found-no, going-found}
+use Rattle.key.proofs.Laws.{rank-back}
+use Rattle.pairs.proofs.Writing.{going-rest, going-done, from-first}
 use Rattle.intersection.proofs.write_from.Statement.{statement}
 use Rattle.intersection.proofs.write_from.Tie as tie
 
-abbrev Inv-loop : tie.InvT-loop
-Inv-loop kind starts-a ends-a count-a from-a starts-b ends-b count-b from-b start end out-starts₀ out-ends₀ at₀ i₀ j₀ lo₀ hi₀ out-starts out-ends at i j lo hi =
-    (i ≤ count-a) × (j ≤ count-b)
-    × Going (kindOf kind) out-starts₀ out-ends₀ (span (bitRank start) (wide kind + bitRank end) 0 ∷ sharedFrom kind starts-a ends-a count-a from-a starts-b ends-b count-b from-b)
-    at (span (bitRank lo) (wide kind + bitRank hi) 0 ∷ sharedFrom kind starts-a ends-a count-a i starts-b ends-b count-b j) out-starts out-ends
+write-most-requires : tie.Need-write-most-requires
+write-most-requires c κs = let p = c .before .before .pre in (p .0, p .1, p .2, p .3, simp rank-back (p .4))
 
-abbrev μ-loop : tie.MeasureT-loop
-μ-loop kind starts-a ends-a count-a from-a starts-b ends-b count-b from-b start end out-starts₀ out-ends₀ at₀ i₀ j₀ lo₀ hi₀ out-starts out-ends at i j lo hi = (count-a - i) + (count-b - j)
+write-rest-requires : tie.Need-write-rest-requires
+write-rest-requires c κs =
+    let m = c .before .before .before .before .before .before in
+    let s = m .before .before .before in
+    let w = m .write-most .ensures in
+    (s .pre .0, s .pre .1, w .0, w .1, simp rank-back (going-rest (kindOf (s .args .kind)) (simp rank-back at (w .2)) (s .pre .4)))
 
-loop-holds : tie.Need-loop-holds Inv-loop μ-loop
-loop-holds c = (c .pre .2, c .pre .3, going-first (kindOf (c .args .kind)))
-
--- what both tests say; and there is a place for the open range
-pub record Inside (c : tie.Then1 Inv-loop μ-loop) : Type 0 where
-  pub left : c .before .before .loop .i < c .before .before .before .args .count-a
-  pub right : c .before .before .loop .j < c .before .before .before .args .count-b
-  pub room : (c .before .before .loop .at < length (c .before .before .loop .out-starts)) × (c .before .before .loop .at < length (c .before .before .loop .out-ends))
-  pub fits : c .before .before .loop .at + 1 < 2 ^ 64
-
-inside : (c : tie.Then1 Inv-loop μ-loop) → Inside c
-inside c =
-    let s = c .before .before .before in
-    let r = going-room (kindOf (s .args .kind)) (c .before .before .loop .inv .2) (omega arith) (s .pre .4) in
-    record { left = omega arith; right = ltb-true _ _ (c .if1 .taken); room = r; fits = omega (arith, r) }
-
-put-requires : tie.Need-put-requires Inv-loop μ-loop
-put-requires c κs = inside (c .before .before) .room
-
-step-requires : tie.Need-step-requires Inv-loop μ-loop
-step-requires c κs = let h = inside (c .before .before .before .before .before) in omega (arith, h .left, h .right)
-
-cast-i : tie.Need-cast-i Inv-loop μ-loop
-cast-i c = tt
-
-add-i : tie.Need-add-i Inv-loop μ-loop
-add-i c = omega (arith, one-goes (c .before .step .result .left), inside (c .before .before .before .before .before .before .before) .left)
-
-cast-j : tie.Need-cast-j Inv-loop μ-loop
-cast-j c = tt
-
-add-j : tie.Need-add-j Inv-loop μ-loop
-add-j c = omega (arith, one-goes (c .before .before .step .result .left), inside (c .before .before .before .before .before .before .before .before) .right)
-
-cast-at : tie.Need-cast-at Inv-loop μ-loop
-cast-at c = tt
-
-add-at : tie.Need-add-at Inv-loop μ-loop
-add-at c =
-    let one = one-goes (c .before .before .before .step .result .found) in
-    let h = inside (c .before .before .before .before .before .before .before .before .before) in
-    let f : c .before .before .before .before .before .before .before .before .before .before .before .loop .at + boolByte (c .before .before .before .step .result .found) < 2 ^ 64 = omega (arith, one, h .fits) in
-    record { fits = f }
-
-pick-requires : tie.Need-pick-requires Inv-loop μ-loop
-pick-requires c κs = tt
-
-pick-requires-2 : tie.Need-pick-requires-2 Inv-loop μ-loop
-pick-requires-2 c κs = tt
-
-loop-less : tie.Need-loop-less Inv-loop μ-loop
-loop-less c = omega (arith, one-goes (c .before .before .before .before .before .before .before .step .result .left), inside (c .before .before .before .before .before .before .before .before .before .before .before .before .before) .left, inside (c .before .before .before .before .before .before .before .before .before .before .before .before .before) .right)
-
-loop-again : tie.Need-loop-again Inv-loop μ-loop
-loop-again c =
-    let st = c .before .before .before .before .before .before .before in
-    let l = st .before .before .before .before .before .before .before .before .loop in
-    let s = st .before .before .before .before .before .before .before .before .before in
-    let w = st .before .before .before .put .ensures in
-    let h = inside (st .before .before .before .before .before .before) in
-    let one = one-goes (st .step .result .left) in
-    let i : l .i + boolByte (st .step .result .left) ≤ s .args .count-a = omega (arith, one, h .left) in
-    let j : l .j + boolByte (not (st .step .result .left)) ≤ s .args .count-b = omega (arith, one, h .right) in (
-      i,
-      j,
-      going-found (s .args .kind) (s .pre .0) (s .pre .1) (st .step .result) (h .left) (h .right) (st .step .ensures) (bitRank (l .lo)) (bitRank (l .hi)) _ _ (l .inv .2)
-          (simp rank-back at (c .before .before .pick .ensures)) (simp rank-back at (c .pick2 .ensures)) (put-start (l .out-starts) (l .at) (l .lo) (w .0)) (put-end (s .args .kind) (l .out-ends) (l .at) (l .hi) (w .1)),
-    )
-
-put-requires-2 : tie.Need-put-requires-2 Inv-loop μ-loop
-put-requires-2 c κs = let s = c .before .before .before .before in going-room (kindOf (s .args .kind)) (c .before .before .before .loop .inv .2) (omega arith) (s .pre .4)
-
-add-result : tie.Need-add-result Inv-loop μ-loop
-add-result c = let s = c .before .before .before .before .before .before .before in omega (arith, going-room (kindOf (s .args .kind)) (c .before .before .before .before .before .before .loop .inv .2) (omega arith) (s .pre .4))
-
-same-length : tie.Need-same-length Inv-loop μ-loop
+same-length : tie.Need-same-length
 same-length c = omega arith
 
-same-length-2 : tie.Need-same-length-2 Inv-loop μ-loop
+same-length-2 : tie.Need-same-length-2
 same-length-2 c = omega arith
 
-returns : tie.Need-returns Inv-loop μ-loop
+returns : tie.Need-returns
 returns c =
-    let l = c .before .before .before .before .before .before .loop in
-    let s = c .before .before .before .before .before .before .before in
-    let a = s .args in
-    let w = c .before .before .put2 .ensures in
-    let none : sharedFrom (a .kind) (a .starts-a .now) (a .ends-a .now) (a .count-a) (l .i) (a .starts-b .now) (a .ends-b .now) (a .count-b) (l .j) ≡ [] =
-    ⊎-elim (λ h. found-no (a .kind) (s .pre .0) (s .pre .1) (l .i) (l .j) (ltb-false _ _ (h .1 .left))) (λ h. found-none (a .kind) (s .pre .0) (s .pre .1) (l .i) (l .j) (omega (arith, h .left))) (c .before .before .before .before .before .loop-test .came) in
-    going-last (kindOf (a .kind)) (l .inv .2) (span (bitRank (l .lo)) (wide (a .kind) + bitRank (l .hi)) 0) (ap (λ (m : List Span). span (bitRank (l .lo)) (wide (a .kind) + bitRank (l .hi)) 0 ∷ m) none) (put-start (l .out-starts) (l .at) (l .lo) (w .0)) (put-end (a .kind) (l .out-ends) (l .at) (l .hi) (w .1))
+    let m = c .before .before .before .before .before .before .before .before .before in
+    let s = m .before .before .before in
+    from-first (going-done (kindOf (s .args .kind)) (simp rank-back at (m .write-most .ensures .2)) (simp rank-back at (c .before .before .write-rest .ensures)))
 
 pub write-from-spec : {M : Type 1} → statement M
 write-from-spec =
-    tie.close
-    (tie.spec
-    Inv-loop
-    μ-loop
-    loop-holds
-    put-requires
-    step-requires
-    cast-i
-    add-i
-    cast-j
-    add-j
-    cast-at
-    add-at
-    pick-requires
-    pick-requires-2
-    loop-less
-    loop-again
-    put-requires-2
-    add-result
-    same-length
-    same-length-2
-    returns)
+    tie.close (tie.spec write-most-requires write-rest-requires same-length same-length-2 returns)

@@ -12,7 +12,7 @@ use Rattle.key.specs.Range.{kindOf}
 use Rattle.pairs.specs.Kind.{wide}
 use Rattle.pairs.proofs.Kinded.{greater-bits, put-start, put-end}
 use Rattle.pairs.specs.Lists.{Going}
-use Rattle.pairs.proofs.Writing.{going-first, going-room, going-last}
+use Rattle.pairs.proofs.Writing.{going-first, going-room, going-last, from-first}
 use Rattle.pairs.proofs.Columns.{one-goes}
 use Rattle.union.specs.Found.{openFrom, Opened}
 use Rattle.union.proofs.Steps.{still-open, going-on, open-last}
@@ -22,7 +22,7 @@ use Rattle.union.proofs.write_from.Tie as tie
 abbrev Inv-loop : tie.InvT-loop
 Inv-loop kind starts-a ends-a count-a from-a starts-b ends-b count-b from-b start end out-starts₀ out-ends₀ total at₀ i₀ j₀ lo₀ hi₀ out-starts out-ends at i j lo hi =
     Opened kind (bitRank lo) (bitRank hi) starts-a ends-a count-a i starts-b ends-b count-b j
-    × Going (kindOf kind) out-starts₀ out-ends₀ (openFrom kind (bitRank start) (bitRank end) starts-a ends-a count-a from-a starts-b ends-b count-b from-b)
+    × Going (kindOf kind) 0 out-starts₀ out-ends₀ (openFrom kind (bitRank start) (bitRank end) starts-a ends-a count-a from-a starts-b ends-b count-b from-b)
     at (openFrom kind (bitRank lo) (bitRank hi) starts-a ends-a count-a i starts-b ends-b count-b j) out-starts out-ends
 
 abbrev μ-loop : tie.MeasureT-loop
@@ -59,8 +59,8 @@ next-requires c κs =
     let l = c .before .before .before .before .before .before .loop in
     (s .pre .0 .held, s .pre .0 .ends-as, s .pre .1 .held, s .pre .1 .ends-as, l .inv .0 .in-a, l .inv .0 .in-b, inside (c .before .before .before .before .before) .within)
 
-meets-requires : tie.Need-meets-requires Inv-loop μ-loop
-meets-requires c κs = tt
+overlaps-requires : tie.Need-overlaps-requires Inv-loop μ-loop
+overlaps-requires c κs = tt
 
 cast-i : tie.Need-cast-i Inv-loop μ-loop
 cast-i c = tt
@@ -93,7 +93,7 @@ add-at c =
     let x = m .before .before in
     let l = x .before .before .before .before .before .before .before .loop in
     let h = inside (x .before .before .before .before .before .before) in
-    let f : l .at + boolByte (not (m .meets .result)) < 2 ^ 64 = omega (arith, one-goes (m .meets .result), h .at-fits) in
+    let f : l .at + boolByte (not (m .overlaps .result)) < 2 ^ 64 = omega (arith, one-goes (m .overlaps .result), h .at-fits) in
     record { fits = f }
 
 pick-requires : tie.Need-pick-requires Inv-loop μ-loop
@@ -119,11 +119,11 @@ loop-again c =
     let s = x .before .before .before .before .before .before .before .before in
     let w = x .before .before .before .put .ensures in
     let t = x .next .ensures in
-    let p = simp rank-back at (m .meets .ensures) in
+    let p = simp rank-back at (m .overlaps .ensures) in
     let q = simp rank-back at (c .before .before .pick .ensures) in
     let g = greater-bits (l .hi) (x .next .result .end) (c .max .ensures) in (
-      still-open (s .args .kind) (s .pre .0) (s .pre .1) (l .inv .0) (x .next .result) t (m .meets .result) p q g,
-      going-on (s .args .kind) (s .pre .0) (s .pre .1) (l .inv .0) (x .next .result) t (m .meets .result) p q g (l .inv .1)
+      still-open (s .args .kind) (s .pre .0) (s .pre .1) (l .inv .0) (x .next .result) t (m .overlaps .result) p q g,
+      going-on (s .args .kind) (s .pre .0) (s .pre .1) (l .inv .0) (x .next .result) t (m .overlaps .result) p q g (l .inv .1)
           (put-start (l .out-starts) (l .at) (l .lo) (w .0)) (put-end (s .args .kind) (l .out-ends) (l .at) (l .hi) (w .1)),
     )
 
@@ -138,7 +138,7 @@ put-requires-2 : tie.Need-put-requires-2 Inv-loop μ-loop
 put-requires-2 c κs = last-room (c .before .before)
 
 add-result : tie.Need-add-result Inv-loop μ-loop
-add-result c = record { fits = last-fits (c .before .before .before .before .before) }
+add-result c = omega (arith, last-fits (c .before .before .before .before .before))
 
 same-length : tie.Need-same-length Inv-loop μ-loop
 same-length c = omega arith
@@ -152,8 +152,8 @@ returns c =
     let s = c .before .before .before .before .before .before .before in
     let a = s .args in
     let w = c .before .before .put2 .ensures in
-    going-last (kindOf (a .kind)) (l .inv .1) (span (bitRank (l .lo)) (wide (a .kind) + bitRank (l .hi)) 0) (open-last (a .kind) (s .pre .0) (s .pre .1) (omega arith) (l .inv .0))
-    (put-start (l .out-starts) (l .at) (l .lo) (w .0)) (put-end (a .kind) (l .out-ends) (l .at) (l .hi) (w .1))
+    from-first (going-last (kindOf (a .kind)) (l .inv .1) (span (bitRank (l .lo)) (wide (a .kind) + bitRank (l .hi)) 0) (open-last (a .kind) (s .pre .0) (s .pre .1) (omega arith) (l .inv .0))
+    (put-start (l .out-starts) (l .at) (l .lo) (w .0)) (put-end (a .kind) (l .out-ends) (l .at) (l .hi) (w .1)))
 
 pub write-from-spec : {M : Type 1} → statement M
 write-from-spec =
@@ -166,7 +166,7 @@ write-from-spec =
     add-loop
     put-requires
     next-requires
-    meets-requires
+    overlaps-requires
     cast-i
     add-i
     cast-j
