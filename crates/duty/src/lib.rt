@@ -1,14 +1,17 @@
 // The seconds of each duty between two keys of a half-open map.
 use places::search;
 ghost use mathlib.Core.Path.{_≡_};
-ghost use Prim.Native.Nat.{_-_, _≤_, _<_, min, max};
-ghost use lib.ListN.{take};
+ghost use Prim.Native.Nat.{_+_, _-_, _≤_, _<_, min, max};
+ghost use lib.ListN.{length, getD, take};
+ghost use Rattle.key.specs.Decides.{Decides};
 ghost use Rattle.key.specs.Rank.{rank};
 ghost use Rattle.key.specs.Range.{halfOpen};
 ghost use Rattle.outcomes.specs.Stored.{Sound, stored, ranges};
-ghost use Rattle.places.specs.Search.{passed};
-ghost use Rattle.duty.specs.Duty.{dutyOf, tallying};
+ghost use Rattle.places.specs.Search.{Ascends, passed};
+ghost use Rattle.duty.specs.Duty.{tallying};
 ghost use Rattle.duty.specs.Walk.{limit, gathering, sumOf, completing, walked};
+ghost use Rattle.duty.specs.Walk.{Begun, Statuses, Amiss, Met, Apart, Inside, part};
+ghost use Rattle.duty.specs.Walk.{empty, credited, Both, Joined, Room, Added};
 
 // The number of document 01's table for a status outside 1 to 4.
 pub const STRANGE: u8 = 10;
@@ -44,43 +47,167 @@ enum Walked {
     Strange,
 }
 
-// Which duty a value counts to: 0 if it is no status.
-fn duty_of(value: u8) -> u8
-    ensures { λ r. ⌜ r ≡ dutyOf value ⌝ }
+// The seconds from one key up to another. They are few, so the difference of the keys never wraps.
+fn seconds(from: i64, to: i64) -> u32
+    requires { ⌜ (rank from ≤ rank to) × (rank to - rank from < limit) ⌝ }
+    ensures { λ r. ⌜ r ≡ rank to - rank from ⌝ }
 {
-    if value <= 4 {
-        return value;
-    }
-    0
-}
-
-// The lesser of two ranks, and the greater.
-fn lesser(a: u64, b: u64) -> u64
-    ensures { λ r. ⌜ r ≡ min a b ⌝ }
-{
-    if a < b {
-        return a;
-    }
-    b
-}
-
-fn greater(a: u64, b: u64) -> u64
-    ensures { λ r. ⌜ r ≡ max a b ⌝ }
-{
-    if a < b {
-        return b;
-    }
-    a
-}
-
-// The seconds of a range of ranks that lie from `lo` up to `hi`. A difference of ranks never wraps.
-fn shared(first: u64, last: u64, lo: u64, hi: u64) -> u32
-    requires { ⌜ (max first lo ≤ min last hi) × (hi - lo < limit) ⌝ }
-    ensures { λ r. ⌜ r ≡ min last hi - max first lo ⌝ }
-{
-    let from = greater(first, lo);
-    let to = lesser(last, hi);
     (to - from) as u32
+}
+
+// The seconds of the range first..last that lie from `start` up to `end`.
+fn shared(first: i64, last: i64, start: i64, end: i64) -> u32
+    requires { ⌜ (max (rank first) (rank start) ≤ min (rank last) (rank end)) × (rank end - rank start < limit) ⌝ }
+    ensures { λ r. ⌜ r ≡ min (rank last) (rank end) - max (rank first) (rank start) ⌝ }
+{
+    let from = key::max(first, start);
+    let to = key::min(last, end);
+    seconds(from, to)
+}
+
+// 0 if a value is a status, else 1.
+fn amiss(value: u8) -> u8
+    ensures { λ r. ⌜ Amiss value r ⌝ }
+{
+    if value == 0 {
+        return 1;
+    }
+    if value <= 4 {
+        return 0;
+    }
+    1
+}
+
+// Whether the values from the place `from` up to the place `to` are all statuses. With no early return the loop takes several places at a time.
+fn statuses(values: &[u8], from: usize, to: usize) -> bool
+    requires { ⌜ (from ≤ to) × (to ≤ length (now values)) ⌝ }
+    ensures { λ r. ⌜ Decides r (Statuses (now (values .entry)) from to) ⌝ }
+{
+    let mut seen = 0;
+    let mut k = from;
+    while k < to {
+        seen |= amiss(values[k]);
+        k += 1;
+    }
+    if seen == 0 {
+        return true;
+    }
+    false
+}
+
+// The place of the first range from `from` on that begins at `end` or after it: `count` if none does.
+fn begun(starts: &[i64], from: usize, count: usize, end: i64) -> usize
+    requires { ⌜ (from ≤ count) × (count ≤ length (now starts)) × Ascends count (now starts) ⌝ }
+    ensures { λ r. ⌜ Begun (now (starts .entry)) from count (rank end) r ⌝ }
+{
+    let mut low = from;
+    let mut high = count;
+    while low < high {
+        let mid = low + (high - low) / 2;
+        if starts[mid] < end {
+            low = mid + 1;
+        } else {
+            high = mid;
+        }
+    }
+    low
+}
+
+// Adds seconds to the duty of a value, in a table of seconds by duty.
+fn credit(t: &mut [u32; DUTIES], value: u8, n: u32)
+    requires { ⌜ (value < 5) × (getD (now t) value 0 + n < limit) ⌝ }
+    ensures { λ _. ⌜ now (t .exit) ≡ credited (now (t .entry)) value n ⌝ }
+{
+    let d = value as usize;
+    t[d] += n;
+}
+
+// Two tables as one.
+fn joined(t: [u32; DUTIES], u: [u32; DUTIES]) -> [u32; DUTIES]
+    requires { ⌜ Both t u ⌝ }
+    ensures { λ r. ⌜ Joined t u r ⌝ }
+{
+    [
+        t[0] + u[0],
+        t[1] + u[1],
+        t[2] + u[2],
+        t[3] + u[3],
+        t[4] + u[4],
+    ]
+}
+
+// A table, and the seconds of the places from `from` up to `to` that lie from `start` up to `end`.
+fn clipped(
+    table: [u32; DUTIES],
+    starts: &[i64],
+    ends: &[i64],
+    values: &[u8],
+    from: usize,
+    to: usize,
+    start: i64,
+    end: i64,
+) -> [u32; DUTIES]
+    requires { ⌜ Met (now starts) (now ends) (now values) (rank start) (rank end) from to × Statuses (now values) from to × Room (rank start) (rank end) (part (now starts) (now ends) (now values) from to) table ⌝ }
+    ensures { λ r. ⌜ Added (rank start) (rank end) (part (now (starts .entry)) (now (ends .entry)) (now (values .entry)) from to) table r ⌝ }
+{
+    let mut t = table;
+    let mut k = from;
+    while k < to {
+        let n = shared(starts[k], ends[k], start, end);
+        credit(&mut t, values[k], n);
+        k += 1;
+    }
+    t
+}
+
+// The same where none of the places begins before `start`: all but the last lie there whole. They are taken two at a time, each into a table of its own, so that no sum waits for the one before it.
+fn whole(
+    table: [u32; DUTIES],
+    starts: &[i64],
+    ends: &[i64],
+    values: &[u8],
+    from: usize,
+    to: usize,
+    start: i64,
+    end: i64,
+) -> [u32; DUTIES]
+    requires { ⌜ Met (now starts) (now ends) (now values) (rank start) (rank end) from to × Statuses (now values) from to × Apart (now starts) (now ends) from to × Inside (now starts) (rank start) from to × Room (rank start) (rank end) (part (now starts) (now ends) (now values) from to) table ⌝ }
+    ensures { λ r. ⌜ Added (rank start) (rank end) (part (now (starts .entry)) (now (ends .entry)) (now (values .entry)) from to) table r ⌝ }
+{
+    let mut t = table;
+    let mut u = [0; DUTIES];
+    let mut k = from;
+    while k + 2 < to {
+        let n = seconds(starts[k], ends[k]);
+        credit(&mut t, values[k], n);
+        let next = k + 1;
+        let o = seconds(starts[next], ends[next]);
+        credit(&mut u, values[next], o);
+        k += 2;
+    }
+    clipped(joined(t, u), starts, ends, values, k, to, start, end)
+}
+
+// The seconds by duty of the places from `from` up to `to`, which meet the window. Only the first can begin before it.
+fn table_of(
+    starts: &[i64],
+    ends: &[i64],
+    values: &[u8],
+    from: usize,
+    to: usize,
+    start: i64,
+    end: i64,
+) -> [u32; DUTIES]
+    requires { ⌜ Met (now starts) (now ends) (now values) (rank start) (rank end) from to × Statuses (now values) from to × Apart (now starts) (now ends) from to × Room (rank start) (rank end) (part (now starts) (now ends) (now values) from to) empty ⌝ }
+    ensures { λ r. ⌜ Added (rank start) (rank end) (part (now (starts .entry)) (now (ends .entry)) (now (values .entry)) from to) empty r ⌝ }
+{
+    let t = [0; DUTIES];
+    if from == to {
+        return t;
+    }
+    let second = from + 1;
+    let first = clipped(t, starts, ends, values, from, second, start, end);
+    whole(first, starts, ends, values, second, to, start, end)
 }
 
 // The tally of a table of seconds by duty.
@@ -110,36 +237,24 @@ fn completed(t: Tally, seconds: u32) -> Totals
     }
 }
 
-// The four duties from the rank `lo` up to the rank `hi`. Each range from the place `from` on ends past `lo`, so each is counted, up to the first that begins past the window.
+// The four duties from the key `start` up to the key `end`. Each range from the place `from` on ends past `start`, so those that begin before `end` meet the window.
 fn walk(
     count: usize,
     starts: &[i64],
     ends: &[i64],
     values: &[u8],
     from: usize,
-    lo: u64,
-    hi: u64,
+    start: i64,
+    end: i64,
 ) -> Walked
-    requires { ⌜ Sound halfOpen (stored count (now starts) (now ends) (now values)) × (from ≡ passed lo (take count (now ends))) × (lo < hi) × (hi - lo < limit) ⌝ }
-    ensures { λ r. ⌜ r ≡ walked lo hi (ranges halfOpen (stored count (now (starts .entry)) (now (ends .entry)) (now (values .entry)))) ⌝ }
+    requires { ⌜ Sound halfOpen (stored count (now starts) (now ends) (now values)) × (from ≡ passed (rank start) (take count (now ends))) × (rank start < rank end) × (rank end - rank start < limit) ⌝ }
+    ensures { λ r. ⌜ r ≡ walked (rank start) (rank end) (ranges halfOpen (stored count (now (starts .entry)) (now (ends .entry)) (now (values .entry)))) ⌝ }
 {
-    let mut t = [0; DUTIES];
-    let mut k = from;
-    while k < count {
-        let first = key::rank_of(starts[k]);
-        if hi <= first {
-            return Walked::Counted(gathered(t));
-        }
-        let duty = duty_of(values[k]);
-        if duty == 0 {
-            return Walked::Strange;
-        }
-        let d = duty as usize;
-        let last = key::rank_of(ends[k]);
-        let seconds = shared(first, last, lo, hi);
-        t[d] += seconds;
-        k += 1;
+    let to = begun(starts, from, count, end);
+    if !statuses(values, from, to) {
+        return Walked::Strange;
     }
+    let t = table_of(starts, ends, values, from, to, start, end);
     Walked::Counted(gathered(t))
 }
 
@@ -155,12 +270,10 @@ pub fn between(
     requires { ⌜ Sound halfOpen (stored count (now starts) (now ends) (now values)) × (rank start < rank end) × (rank end - rank start < limit) ⌝ }
     ensures { λ r. ⌜ r ≡ tallying (stored count (now (starts .entry)) (now (ends .entry)) (now (values .entry))) start end ⌝ }
 {
-    let lo = key::rank_of(start);
-    let hi = key::rank_of(end);
     let from = search::ended(ends, count, start);
-    let w = walk(count, starts, ends, values, from, lo, hi);
+    let w = walk(count, starts, ends, values, from, start, end);
     match w {
-        Walked::Counted(t) => Tallied::Seconds(completed(t, (hi - lo) as u32)),
+        Walked::Counted(t) => Tallied::Seconds(completed(t, seconds(start, end))),
         Walked::Strange => Tallied::Refused(STRANGE),
     }
 }
