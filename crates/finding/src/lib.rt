@@ -8,6 +8,9 @@ use outcomes::NOT_FORMED;
 use outcomes::PLACES;
 use outcomes::Part;
 use places::formed::is_formed;
+
+pub mod unchecked;
+
 ghost use mathlib.Core.Path.{_≡_};
 ghost use Rattle.key.specs.Range.{kindOf};
 ghost use Rattle.outcomes.specs.Stored.{lent};
@@ -28,10 +31,7 @@ pub fn get_key_value<'a>(
     if !is_formed(kind, *count, starts, ends, values) {
         return Found::Refused(NOT_FORMED);
     }
-    match kind {
-        RangeKind::HalfOpen => lookup::half_open::get_key_value(*count, starts, ends, values, key),
-        RangeKind::Inclusive => lookup::inclusive::get_key_value(*count, starts, ends, values, key),
-    }
+    unchecked::get_key_value(kind, count, starts, ends, values, key)
 }
 
 // Whether some range holds the key.
@@ -141,26 +141,15 @@ pub fn gaps<'a>(
     if !is_formed(kind, *count, starts, ends, values) {
         return Counted::Refused(NOT_FORMED);
     }
-    match kind {
-        RangeKind::HalfOpen => gaps::half_open::gaps(
-            *count,
-            starts,
-            ends,
-            values,
-            start,
-            end,
-            out_starts,
-            out_ends,
-        ),
-        RangeKind::Inclusive => gaps::inclusive::gaps(
-            *count,
-            starts,
-            ends,
-            values,
-            start,
-            end,
-            out_starts,
-            out_ends,
-        ),
-    }
+    unchecked::gaps(
+        kind,
+        count,
+        starts,
+        ends,
+        values,
+        start,
+        end,
+        out_starts,
+        out_ends,
+    )
 }

@@ -1,5 +1,6 @@
 // Module 2: the half-open map, from map.rs of rangemap. The exported functions, for C and Rust, are here: each lends all the fields of
-// its map to a function of `numbers`, which answers in numbers. Rattle callers use the crates `listing`, `finding` and `changing`.
+// its map to a function of the crate `numbers`, which answers in numbers. Rattle callers use the crates `listing`, `finding` and `changing`.
+use key::RangeKind;
 use outcomes::Applied;
 use outcomes::Count;
 use outcomes::Order;
@@ -7,9 +8,6 @@ use outcomes::PLACES;
 use outcomes::Range;
 use outcomes::Stretch;
 use outcomes::Told;
-
-pub mod numbers;
-
 ghost use mathlib.Core.Path.{_≡_};
 ghost use mathlib.Core.Option.{some, none};
 ghost use Rattle.key.specs.Range.{halfOpen};
@@ -17,6 +15,9 @@ ghost use Rattle.outcomes.specs.Stored.{places, Sound};
 ghost use Rattle.outcomes.specs.Numbers.{toldOf, countOf, rangeOf, stretchOf, orderOf};
 ghost use Rattle.outcomes.specs.Outcomes.{Listed, cleared, containing, counting, editing, entries, equality, extended, extending, firstOf, formed, found, gapsIn, inserting, isEmpty, lastOf, leaving, lookup, meeting, ordering, overlapping, rangeAt, removing, uncovered};
 ghost use Rattle.map.specs.Map.{held};
+
+// The kind of this map's ranges.
+const KIND: RangeKind = RangeKind::HalfOpen;
 
 // A map of half-open ranges: the first `count` places hold the ranges, ascending; the others hold 0.
 #[repr(C)]
@@ -45,7 +46,7 @@ pub extern "C" fn range_map_new() -> RangeMap
 pub extern "C" fn range_map_is_empty(m: &RangeMap) -> Told
     ensures { λ r. ⌜ r ≡ toldOf (isEmpty halfOpen (held (now (m .entry)))) ⌝ }
 {
-    numbers::is_empty(&m.count, &m.starts, &m.ends, &m.values)
+    numbers::is_empty(KIND, &m.count, &m.starts, &m.ends, &m.values)
 }
 
 // How many ranges are held.
@@ -53,7 +54,7 @@ pub extern "C" fn range_map_is_empty(m: &RangeMap) -> Told
 pub extern "C" fn range_map_len(m: &RangeMap) -> Count
     ensures { λ r. ⌜ r ≡ countOf (counting halfOpen (held (now (m .entry)))) ⌝ }
 {
-    numbers::len(&m.count, &m.starts, &m.ends, &m.values)
+    numbers::len(KIND, &m.count, &m.starts, &m.ends, &m.values)
 }
 
 // The range and the value at a place.
@@ -61,7 +62,7 @@ pub extern "C" fn range_map_len(m: &RangeMap) -> Count
 pub extern "C" fn range_map_range_at(m: &RangeMap, place: usize) -> Range
     ensures { λ r. ⌜ r ≡ rangeOf (rangeAt halfOpen (held (now (m .entry))) place) ⌝ }
 {
-    numbers::range_at(&m.count, &m.starts, &m.ends, &m.values, place)
+    numbers::range_at(KIND, &m.count, &m.starts, &m.ends, &m.values, place)
 }
 
 // The first range and its value.
@@ -69,7 +70,7 @@ pub extern "C" fn range_map_range_at(m: &RangeMap, place: usize) -> Range
 pub extern "C" fn range_map_first_range_value(m: &RangeMap) -> Range
     ensures { λ r. ⌜ r ≡ rangeOf (firstOf halfOpen (held (now (m .entry)))) ⌝ }
 {
-    numbers::first_range_value(&m.count, &m.starts, &m.ends, &m.values)
+    numbers::first_range_value(KIND, &m.count, &m.starts, &m.ends, &m.values)
 }
 
 // The last range and its value.
@@ -77,7 +78,7 @@ pub extern "C" fn range_map_first_range_value(m: &RangeMap) -> Range
 pub extern "C" fn range_map_last_range_value(m: &RangeMap) -> Range
     ensures { λ r. ⌜ r ≡ rangeOf (lastOf halfOpen (held (now (m .entry)))) ⌝ }
 {
-    numbers::last_range_value(&m.count, &m.starts, &m.ends, &m.values)
+    numbers::last_range_value(KIND, &m.count, &m.starts, &m.ends, &m.values)
 }
 
 // The range that holds the key, and its value.
@@ -85,7 +86,7 @@ pub extern "C" fn range_map_last_range_value(m: &RangeMap) -> Range
 pub extern "C" fn range_map_get_key_value(m: &RangeMap, key: i64) -> Range
     ensures { λ r. ⌜ r ≡ rangeOf (lookup halfOpen (held (now (m .entry))) key) ⌝ }
 {
-    numbers::get_key_value(&m.count, &m.starts, &m.ends, &m.values, key)
+    numbers::get_key_value(KIND, &m.count, &m.starts, &m.ends, &m.values, key)
 }
 
 // Whether some range holds the key.
@@ -93,7 +94,7 @@ pub extern "C" fn range_map_get_key_value(m: &RangeMap, key: i64) -> Range
 pub extern "C" fn range_map_contains_key(m: &RangeMap, key: i64) -> Told
     ensures { λ r. ⌜ r ≡ toldOf (containing halfOpen (held (now (m .entry))) key) ⌝ }
 {
-    numbers::contains_key(&m.count, &m.starts, &m.ends, &m.values, key)
+    numbers::contains_key(KIND, &m.count, &m.starts, &m.ends, &m.values, key)
 }
 
 // Whether some range has a key of the query.
@@ -101,7 +102,7 @@ pub extern "C" fn range_map_contains_key(m: &RangeMap, key: i64) -> Told
 pub extern "C" fn range_map_overlaps(m: &RangeMap, start: i64, end: i64) -> Told
     ensures { λ r. ⌜ r ≡ toldOf (meeting halfOpen (held (now (m .entry))) start end) ⌝ }
 {
-    numbers::overlaps(&m.count, &m.starts, &m.ends, &m.values, start, end)
+    numbers::overlaps(KIND, &m.count, &m.starts, &m.ends, &m.values, start, end)
 }
 
 // Which consecutive stored part meets the query.
@@ -109,7 +110,7 @@ pub extern "C" fn range_map_overlaps(m: &RangeMap, start: i64, end: i64) -> Told
 pub extern "C" fn range_map_overlapping(m: &RangeMap, start: i64, end: i64) -> Stretch
     ensures { λ r. ⌜ r ≡ stretchOf (overlapping halfOpen (held (now (m .entry))) start end) ⌝ }
 {
-    numbers::overlapping(&m.count, &m.starts, &m.ends, &m.values, start, end)
+    numbers::overlapping(KIND, &m.count, &m.starts, &m.ends, &m.values, start, end)
 }
 
 // The maximal uncovered ranges inside start..end, into the first places of two lent lists.
@@ -124,6 +125,7 @@ pub extern "C" fn range_map_gaps(
     ensures { λ r. ⌜ Listed r (now («out_starts» .exit)) (now («out_ends» .exit)) (gapsIn halfOpen (held (now (m .entry))) start end (now («out_starts» .entry)) (now («out_ends» .entry))) ⌝ }
 {
     numbers::gaps(
+        KIND,
         &m.count,
         &m.starts,
         &m.ends,
@@ -141,6 +143,7 @@ pub extern "C" fn range_map_eq(a: &RangeMap, b: &RangeMap) -> Told
     ensures { λ r. ⌜ r ≡ toldOf (equality halfOpen (held (now (a .entry))) (held (now (b .entry)))) ⌝ }
 {
     numbers::eq(
+        KIND,
         &a.count,
         &a.starts,
         &a.ends,
@@ -158,6 +161,7 @@ pub extern "C" fn range_map_cmp(a: &RangeMap, b: &RangeMap) -> Order
     ensures { λ r. ⌜ r ≡ orderOf (ordering halfOpen (held (now (a .entry))) (held (now (b .entry)))) ⌝ }
 {
     numbers::cmp(
+        KIND,
         &a.count,
         &a.starts,
         &a.ends,
@@ -175,6 +179,7 @@ pub extern "C" fn range_map_insert(m: &mut RangeMap, start: i64, end: i64, value
     ensures { λ r. ⌜ leaving r (held (now (m .exit))) ≡ inserting halfOpen (held (now (m .entry))) start end value ⌝ }
 {
     numbers::insert(
+        KIND,
         &mut m.count,
         &mut m.starts,
         &mut m.ends,
@@ -191,6 +196,7 @@ pub extern "C" fn range_map_remove(m: &mut RangeMap, start: i64, end: i64) -> u8
     ensures { λ r. ⌜ leaving r (held (now (m .exit))) ≡ removing halfOpen (held (now (m .entry))) start end ⌝ }
 {
     numbers::remove(
+        KIND,
         &mut m.count,
         &mut m.starts,
         &mut m.ends,
@@ -205,7 +211,13 @@ pub extern "C" fn range_map_remove(m: &mut RangeMap, start: i64, end: i64) -> u8
 pub extern "C" fn range_map_clear(m: &mut RangeMap)
     ensures { λ _. ⌜ (held (now (m .exit))) ≡ cleared halfOpen ⌝ }
 {
-    numbers::clear(&mut m.count, &mut m.starts, &mut m.ends, &mut m.values)
+    numbers::clear(
+        KIND,
+        &mut m.count,
+        &mut m.starts,
+        &mut m.ends,
+        &mut m.values,
+    )
 }
 
 // Inserts the entries of three lent lists in order, up to the first refusal.
@@ -219,6 +231,7 @@ pub extern "C" fn range_map_extend(
     ensures { λ r. ⌜ extended r (held (now (m .exit))) ≡ extending halfOpen (held (now (m .entry))) (entries (now (starts .entry)) (now (ends .entry)) (now (values .entry))) ⌝ }
 {
     numbers::extend(
+        KIND,
         &mut m.count,
         &mut m.starts,
         &mut m.ends,
@@ -234,7 +247,7 @@ pub extern "C" fn range_map_extend(
 pub extern "C" fn range_map_well_formed(m: &RangeMap) -> bool
     ensures { λ r. ⌜ r ≡ formed halfOpen (held (now (m .entry))) ⌝ }
 {
-    numbers::is_formed(&m.count, &m.starts, &m.ends, &m.values)
+    numbers::is_formed(KIND, &m.count, &m.starts, &m.ends, &m.values)
 }
 
 // Lookup through the inner door: the map must be well formed.
@@ -243,7 +256,7 @@ pub extern "C" fn range_map_get_key_value_unchecked(m: &RangeMap, key: i64) -> R
     requires { ⌜ Sound halfOpen (held (now m)) ⌝ }
     ensures { λ r. ⌜ r ≡ rangeOf (found halfOpen (held (now (m .entry))) key) ⌝ }
 {
-    numbers::get_key_value_unchecked(&m.count, &m.starts, &m.ends, &m.values, key)
+    numbers::get_key_value_unchecked(KIND, &m.count, &m.starts, &m.ends, &m.values, key)
 }
 
 // Gaps through the inner door: the map must be well formed.
@@ -259,6 +272,7 @@ pub extern "C" fn range_map_gaps_unchecked(
     ensures { λ r. ⌜ Listed r (now («out_starts» .exit)) (now («out_ends» .exit)) (uncovered halfOpen (held (now (m .entry))) start end (now («out_starts» .entry)) (now («out_ends» .entry))) ⌝ }
 {
     numbers::gaps_unchecked(
+        KIND,
         &m.count,
         &m.starts,
         &m.ends,
@@ -282,6 +296,7 @@ pub extern "C" fn range_map_insert_unchecked(
     ensures { λ r. ⌜ leaving r (held (now (m .exit))) ≡ editing halfOpen places (held (now (m .entry))) start end (some value) ⌝ }
 {
     numbers::insert_unchecked(
+        KIND,
         &mut m.count,
         &mut m.starts,
         &mut m.ends,
@@ -299,6 +314,7 @@ pub extern "C" fn range_map_remove_unchecked(m: &mut RangeMap, start: i64, end: 
     ensures { λ r. ⌜ leaving r (held (now (m .exit))) ≡ editing halfOpen places (held (now (m .entry))) start end none ⌝ }
 {
     numbers::remove_unchecked(
+        KIND,
         &mut m.count,
         &mut m.starts,
         &mut m.ends,

@@ -3,7 +3,7 @@
 // A line that begins with # is printed as it is: document 01's cases are among the steps by name.
 // The file `stdout` is what rangemap 1.8.0 answers, with document 01's numbers:
 //     rust/compare --replay map > crates/test_map/stdout
-use map::numbers;
+use key::RangeKind;
 use outcomes::Applied;
 use outcomes::Count;
 use outcomes::Order;
@@ -11,6 +11,9 @@ use outcomes::PLACES;
 use outcomes::Range;
 use outcomes::Stretch;
 use outcomes::Told;
+
+// The kind of the ranges.
+const KIND: RangeKind = RangeKind::HalfOpen;
 
 // As many places as the lists of a step have at most.
 const LISTED: usize = 9;
@@ -260,7 +263,7 @@ fn print_place(m: Map, place: usize, many: usize) {
     if place > 0 {
         io::write_all(1, b", ");
     }
-    print_entry(numbers::range_at(&m.count, &m.starts, &m.ends, &m.values, place));
+    print_entry(numbers::range_at(KIND, &m.count, &m.starts, &m.ends, &m.values, place));
 }
 
 // The first places, of which there are eight at most.
@@ -279,7 +282,7 @@ fn print_places(m: Map, many: usize) {
 fn print_long(m: Map, count: usize) {
     print_places(m, 3);
     io::write_all(1, b", .., ");
-    print_entry(numbers::last_range_value(&m.count, &m.starts, &m.ends, &m.values));
+    print_entry(numbers::last_range_value(KIND, &m.count, &m.starts, &m.ends, &m.values));
     io::write_all(1, b": ");
     print_number(count);
     io::write_all(1, b" ranges");
@@ -298,7 +301,7 @@ fn print_ranges(m: Map, count: usize) {
 // The map after a step.
 fn print_now(m: Map) {
     io::write_all(1, b", now ");
-    let r = numbers::len(&m.count, &m.starts, &m.ends, &m.values);
+    let r = numbers::len(KIND, &m.count, &m.starts, &m.ends, &m.values);
     if r.answer == 0 {
         print_ranges(m, r.count);
     } else {
@@ -324,6 +327,7 @@ fn insert(m: Map, r: Ends, value: u8) -> Map {
     let mut ends = m.ends;
     let mut values = m.values;
     let answer = numbers::insert(
+        KIND,
         &mut count,
         &mut starts,
         &mut ends,
@@ -354,6 +358,7 @@ fn remove(m: Map, r: Ends) -> Map {
     let mut ends = m.ends;
     let mut values = m.values;
     let answer = numbers::remove(
+        KIND,
         &mut count,
         &mut starts,
         &mut ends,
@@ -380,7 +385,7 @@ fn clear(m: Map) -> Map {
     let mut starts = m.starts;
     let mut ends = m.ends;
     let mut values = m.values;
-    numbers::clear(&mut count, &mut starts, &mut ends, &mut values);
+    numbers::clear(KIND, &mut count, &mut starts, &mut ends, &mut values);
     io::write_all(1, b"clear\n");
     Map {
         count: count,
@@ -397,6 +402,7 @@ fn put(m: Map, start: u32, end: u32) -> Map {
     let mut ends = m.ends;
     let mut values = m.values;
     numbers::insert(
+        KIND,
         &mut count,
         &mut starts,
         &mut ends,
@@ -459,20 +465,20 @@ fn ask_whole(m: Map, what: u8) {
     match what {
         b'e' => {
             io::write_all(1, b"is_empty");
-            print_told(numbers::is_empty(&m.count, &m.starts, &m.ends, &m.values));
+            print_told(numbers::is_empty(KIND, &m.count, &m.starts, &m.ends, &m.values));
         }
         b'n' => {
             io::write_all(1, b"len");
-            print_count(numbers::len(&m.count, &m.starts, &m.ends, &m.values));
+            print_count(numbers::len(KIND, &m.count, &m.starts, &m.ends, &m.values));
             io::write_all(1, b"\n");
         }
         b'h' => {
             io::write_all(1, b"first");
-            print_found(numbers::first_range_value(&m.count, &m.starts, &m.ends, &m.values));
+            print_found(numbers::first_range_value(KIND, &m.count, &m.starts, &m.ends, &m.values));
         }
         b'l' => {
             io::write_all(1, b"last");
-            print_found(numbers::last_range_value(&m.count, &m.starts, &m.ends, &m.values));
+            print_found(numbers::last_range_value(KIND, &m.count, &m.starts, &m.ends, &m.values));
         }
         _ => {}
     }
@@ -481,28 +487,51 @@ fn ask_whole(m: Map, what: u8) {
 fn ask_place(m: Map, place: u8) {
     io::write_all(1, b"range_at ");
     print_digits(place);
-    print_found(numbers::range_at(&m.count, &m.starts, &m.ends, &m.values, place as usize));
+    print_found(numbers::range_at(
+        KIND,
+        &m.count,
+        &m.starts,
+        &m.ends,
+        &m.values,
+        place as usize,
+    ));
 }
 
 fn ask_get(m: Map, key: i64) {
     io::write_all(1, b"get ");
     print_key(key);
-    print_found(numbers::get_key_value(&m.count, &m.starts, &m.ends, &m.values, key));
+    print_found(numbers::get_key_value(KIND, &m.count, &m.starts, &m.ends, &m.values, key));
 }
 
 fn ask_contains(m: Map, key: i64) {
     io::write_all(1, b"contains ");
     print_key(key);
-    print_told(numbers::contains_key(&m.count, &m.starts, &m.ends, &m.values, key));
+    print_told(numbers::contains_key(KIND, &m.count, &m.starts, &m.ends, &m.values, key));
 }
 
 fn ask_overlapping(m: Map, r: Ends) {
     io::write_all(1, b"overlapping ");
     print_range(r);
-    print_stretch(numbers::overlapping(&m.count, &m.starts, &m.ends, &m.values, r.start, r.end));
+    print_stretch(numbers::overlapping(
+        KIND,
+        &m.count,
+        &m.starts,
+        &m.ends,
+        &m.values,
+        r.start,
+        r.end,
+    ));
     io::write_all(1, b"overlaps ");
     print_range(r);
-    print_told(numbers::overlaps(&m.count, &m.starts, &m.ends, &m.values, r.start, r.end));
+    print_told(numbers::overlaps(
+        KIND,
+        &m.count,
+        &m.starts,
+        &m.ends,
+        &m.values,
+        r.start,
+        r.end,
+    ));
 }
 
 // The range at a place of two lists.
@@ -534,6 +563,7 @@ fn ask_gaps(m: Map, r: Ends, out_starts: &mut [i64], out_ends: &mut [i64]) {
     io::write_all(1, b" into ");
     print_number(out_starts.len());
     print_count(numbers::gaps(
+        KIND,
         &m.count,
         &m.starts,
         &m.ends,
@@ -574,6 +604,7 @@ fn ask(m: Map, s: Step) {
 fn compare(a: Map, b: Map) {
     io::write_all(1, b"eq");
     let told = numbers::eq(
+        KIND,
         &a.count,
         &a.starts,
         &a.ends,
@@ -588,6 +619,7 @@ fn compare(a: Map, b: Map) {
     print_yes(told.yes);
     io::write_all(1, b", cmp: ");
     print_order(numbers::cmp(
+        KIND,
         &a.count,
         &a.starts,
         &a.ends,
@@ -637,6 +669,7 @@ fn extend(m: Map, new_starts: &[i64], new_ends: &[i64], new_values: &[u8]) -> Ma
     let mut ends = m.ends;
     let mut values = m.values;
     let told = numbers::extend(
+        KIND,
         &mut count,
         &mut starts,
         &mut ends,

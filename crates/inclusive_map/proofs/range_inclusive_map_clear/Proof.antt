@@ -2,12 +2,13 @@
 use mathlib.Core.Path.{refl}
 use mathlib.Core.List.{[], _∷_}
 use base.Logic.{id⊢}
-use Rattle.thin.proofs.Thin.{lend-mut, proves}
+use Rattle.thin.proofs.Thin.{literal, lend-mut, proves}
 use Rattle.thin.proofs.Numbers.{unit}
+use Rattle.thin_types.proofs.Types.{the-kind}
 use Rattle.inclusive_map.proofs.Maps.{range-inclusive-map}
-use Rattle.inclusive_map.proofs.numbers.clear as g
-use Rattle.inclusive_map.proofs.numbers.clear.Symbol as g-def
-use Rattle.inclusive_map.proofs.numbers.clear.Met as g-thm
+use Rattle.numbers.proofs.clear as g
+use Rattle.numbers.proofs.clear.Symbol as g-def
+use Rattle.numbers.proofs.clear.Met as g-thm
 use Rattle.inclusive_map.proofs.range_inclusive_map_clear as f
 use Rattle.inclusive_map.proofs.range_inclusive_map_clear.Key as f-key
 use Rattle.inclusive_map.proofs.range_inclusive_map_clear.Statement as stated
@@ -16,8 +17,8 @@ use Rattle.inclusive_map.proofs.range_inclusive_map_clear.Code as code
 pub range-inclusive-map-clear-spec : {M : Type 1} → stated.statement M
 unfolding code.routine
 range-inclusive-map-clear-spec 𝓤 H 𝓜 𝓖 𝓡 =
-    proves 𝓤 H 𝓜 𝓖 𝓡 (lend-mut range-inclusive-map ∷ []) unit
+    proves 𝓤 H 𝓜 𝓖 𝓡 (literal (the-kind code.function) ∷ lend-mut range-inclusive-map ∷ []) unit
     (λ κs a. f.clauses 𝓤 H (𝓖 .A) (𝓜 .mem) (𝓡 .run) κs a .requires tt) (λ κs a. f.clauses 𝓤 H (𝓖 .A) (𝓜 .mem) (𝓡 .run) κs a .ensures tt)
     (λ κs a. g.clauses 𝓤 H (𝓖 .A) (𝓜 .mem) (𝓡 .run) κs a .requires tt) (λ κs a. g.clauses 𝓤 H (𝓖 .A) (𝓜 .mem) (𝓡 .run) κs a .ensures tt)
     (λ κs a k. id⊢ 𝓤 _) (λ κs a k r zs. id⊢ 𝓤 _)
-    code.env f-key.name code.function (code.unfolded 𝓤 H 𝓜 𝓡) g-def.name g-def.routine code.calls-inclusive-map·numbers·clear (g-thm.met 𝓤 H 𝓜 𝓖 𝓡) (λ κs a. refl) refl (λ κs a. refl)
+    code.env f-key.name code.function (code.unfolded 𝓤 H 𝓜 𝓡) g-def.name g-def.routine code.calls-numbers·clear (g-thm.met 𝓤 H 𝓜 𝓖 𝓡) (λ κs a. refl) refl (λ κs a. refl)

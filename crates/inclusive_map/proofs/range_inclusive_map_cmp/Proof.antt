@@ -2,14 +2,12 @@
 use mathlib.Core.Path.{refl}
 use mathlib.Core.List.{[], _∷_}
 use base.Logic.{id⊢}
-use Rattle.thin.proofs.Thin.{lend, proves}
-use Rattle.thin.proofs.Numbers.{a-struct}
+use Rattle.thin.proofs.Thin.{literal, lend, proves}
+use Rattle.thin_types.proofs.Types.{the-kind, order}
 use Rattle.inclusive_map.proofs.Maps.{range-inclusive-map}
-use Rattle.outcomes.proofs.Order as Order
-use Rattle.outcomes.proofs.Order.Laws as Order′
-use Rattle.inclusive_map.proofs.numbers.cmp as g
-use Rattle.inclusive_map.proofs.numbers.cmp.Symbol as g-def
-use Rattle.inclusive_map.proofs.numbers.cmp.Met as g-thm
+use Rattle.numbers.proofs.cmp as g
+use Rattle.numbers.proofs.cmp.Symbol as g-def
+use Rattle.numbers.proofs.cmp.Met as g-thm
 use Rattle.inclusive_map.proofs.range_inclusive_map_cmp as f
 use Rattle.inclusive_map.proofs.range_inclusive_map_cmp.Key as f-key
 use Rattle.inclusive_map.proofs.range_inclusive_map_cmp.Statement as stated
@@ -18,8 +16,8 @@ use Rattle.inclusive_map.proofs.range_inclusive_map_cmp.Code as code
 pub range-inclusive-map-cmp-spec : {M : Type 1} → stated.statement M
 unfolding code.routine
 range-inclusive-map-cmp-spec 𝓤 H 𝓜 𝓖 𝓡 =
-    proves 𝓤 H 𝓜 𝓖 𝓡 (lend range-inclusive-map ∷ lend range-inclusive-map ∷ []) (a-struct Order.the-type Order′.the-laws Order′.mir refl)
+    proves 𝓤 H 𝓜 𝓖 𝓡 (literal (the-kind code.function) ∷ lend range-inclusive-map ∷ lend range-inclusive-map ∷ []) order
     (λ κs a. f.clauses 𝓤 H (𝓖 .A) (𝓜 .mem) (𝓡 .run) κs a .requires tt) (λ κs a. f.clauses 𝓤 H (𝓖 .A) (𝓜 .mem) (𝓡 .run) κs a .ensures tt)
     (λ κs a. g.clauses 𝓤 H (𝓖 .A) (𝓜 .mem) (𝓡 .run) κs a .requires tt) (λ κs a. g.clauses 𝓤 H (𝓖 .A) (𝓜 .mem) (𝓡 .run) κs a .ensures tt)
     (λ κs a k. id⊢ 𝓤 _) (λ κs a k r zs. id⊢ 𝓤 _)
-    code.env f-key.name code.function (code.unfolded 𝓤 H 𝓜 𝓡) g-def.name g-def.routine code.calls-inclusive-map·numbers·cmp (g-thm.met 𝓤 H 𝓜 𝓖 𝓡) (λ κs a. refl) refl (λ κs a. refl)
+    code.env f-key.name code.function (code.unfolded 𝓤 H 𝓜 𝓡) g-def.name g-def.routine code.calls-numbers·cmp (g-thm.met 𝓤 H 𝓜 𝓖 𝓡) (λ κs a. refl) refl (λ κs a. refl)

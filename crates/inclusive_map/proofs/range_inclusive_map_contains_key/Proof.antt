@@ -3,14 +3,13 @@ use mathlib.Core.Path.{refl}
 use mathlib.Core.List.{[], _∷_}
 use mir.Syntax.{w64}
 use base.Logic.{id⊢}
-use Rattle.thin.proofs.Thin.{lend, value, proves}
-use Rattle.thin.proofs.Numbers.{a-struct, sint}
+use Rattle.thin.proofs.Thin.{literal, lend, value, proves}
+use Rattle.thin.proofs.Numbers.{sint}
+use Rattle.thin_types.proofs.Types.{the-kind, told}
 use Rattle.inclusive_map.proofs.Maps.{range-inclusive-map}
-use Rattle.outcomes.proofs.Told as Told
-use Rattle.outcomes.proofs.Told.Laws as Told′
-use Rattle.inclusive_map.proofs.numbers.contains_key as g
-use Rattle.inclusive_map.proofs.numbers.contains_key.Symbol as g-def
-use Rattle.inclusive_map.proofs.numbers.contains_key.Met as g-thm
+use Rattle.numbers.proofs.contains_key as g
+use Rattle.numbers.proofs.contains_key.Symbol as g-def
+use Rattle.numbers.proofs.contains_key.Met as g-thm
 use Rattle.inclusive_map.proofs.range_inclusive_map_contains_key as f
 use Rattle.inclusive_map.proofs.range_inclusive_map_contains_key.Key as f-key
 use Rattle.inclusive_map.proofs.range_inclusive_map_contains_key.Statement as stated
@@ -19,8 +18,8 @@ use Rattle.inclusive_map.proofs.range_inclusive_map_contains_key.Code a
 pub range-inclusive-map-contains-key-spec : {M : Type 1} → stated.statement M
 unfolding code.routine
 range-inclusive-map-contains-key-spec 𝓤 H 𝓜 𝓖 𝓡 =
-    proves 𝓤 H 𝓜 𝓖 𝓡 (lend range-inclusive-map ∷ value (sint w64) ∷ []) (a-struct Told.the-type Told′.the-laws Told′.mir refl)
+    proves 𝓤 H 𝓜 𝓖 𝓡 (literal (the-kind code.function) ∷ lend range-inclusive-map ∷ value (sint w64) ∷ []) told
     (λ κs a. f.clauses 𝓤 H (𝓖 .A) (𝓜 .mem) (𝓡 .run) κs a .requires tt) (λ κs a. f.clauses 𝓤 H (𝓖 .A) (𝓜 .mem) (𝓡 .run) κs a .ensures tt)
     (λ κs a. g.clauses 𝓤 H (𝓖 .A) (𝓜 .mem) (𝓡 .run) κs a .requires tt) (λ κs a. g.clauses 𝓤 H (𝓖 .A) (𝓜 .mem) (𝓡 .run) κs a .ensures tt)
     (λ κs a k. id⊢ 𝓤 _) (λ κs a k r zs. id⊢ 𝓤 _)
-    code.env f-key.name code.function (code.unfolded 𝓤 H 𝓜 𝓡) g-def.name g-def.routine code.calls-inclusive-map·numbers·contains-key (g-thm.met 𝓤 H 𝓜 𝓖 𝓡) (λ κs a. refl) refl (λ κs a. refl)
+    code.env f-key.name code.function (code.unfolded 𝓤 H 𝓜 𝓡) g-def.name g-def.routine code.calls-numbers·contains-key (g-thm.met 𝓤 H 𝓜 𝓖 𝓡) (λ κs a. refl) refl (λ κs a. refl)

@@ -3,14 +3,12 @@ use mathlib.Core.Path.{refl}
 use mathlib.Core.List.{[], _∷_}
 use base.Logic.{id⊢}
 use denote.Builtin.{i64, u8}
-use Rattle.thin.proofs.Thin.{lend-mut, slice, proves}
-use Rattle.thin.proofs.Numbers.{a-struct}
+use Rattle.thin.proofs.Thin.{literal, lend-mut, slice, proves}
+use Rattle.thin_types.proofs.Types.{the-kind, applied}
 use Rattle.inclusive_map.proofs.Maps.{range-inclusive-map}
-use Rattle.outcomes.proofs.Applied as Applied
-use Rattle.outcomes.proofs.Applied.Laws as Applied′
-use Rattle.inclusive_map.proofs.numbers.extend as g
-use Rattle.inclusive_map.proofs.numbers.extend.Symbol as g-def
-use Rattle.inclusive_map.proofs.numbers.extend.Met as g-thm
+use Rattle.numbers.proofs.extend as g
+use Rattle.numbers.proofs.extend.Symbol as g-def
+use Rattle.numbers.proofs.extend.Met as g-thm
 use Rattle.inclusive_map.proofs.range_inclusive_map_extend as f
 use Rattle.inclusive_map.proofs.range_inclusive_map_extend.Key as f-key
 use Rattle.inclusive_map.proofs.range_inclusive_map_extend.Statement as stated
@@ -19,8 +17,8 @@ use Rattle.inclusive_map.proofs.range_inclusive_map_extend.Code as code
 pub range-inclusive-map-extend-spec : {M : Type 1} → stated.statement M
 unfolding code.routine
 range-inclusive-map-extend-spec 𝓤 H 𝓜 𝓖 𝓡 =
-    proves 𝓤 H 𝓜 𝓖 𝓡 (lend-mut range-inclusive-map ∷ slice i64 ∷ slice i64 ∷ slice u8 ∷ []) (a-struct Applied.the-type Applied′.the-laws Applied′.mir refl)
+    proves 𝓤 H 𝓜 𝓖 𝓡 (literal (the-kind code.function) ∷ lend-mut range-inclusive-map ∷ slice i64 ∷ slice i64 ∷ slice u8 ∷ []) applied
     (λ κs a. f.clauses 𝓤 H (𝓖 .A) (𝓜 .mem) (𝓡 .run) κs a .requires tt) (λ κs a. f.clauses 𝓤 H (𝓖 .A) (𝓜 .mem) (𝓡 .run) κs a .ensures tt)
     (λ κs a. g.clauses 𝓤 H (𝓖 .A) (𝓜 .mem) (𝓡 .run) κs a .requires tt) (λ κs a. g.clauses 𝓤 H (𝓖 .A) (𝓜 .mem) (𝓡 .run) κs a .ensures tt)
     (λ κs a k. id⊢ 𝓤 _) (λ κs a k r zs. id⊢ 𝓤 _)
-    code.env f-key.name code.function (code.unfolded 𝓤 H 𝓜 𝓡) g-def.name g-def.routine code.calls-inclusive-map·numbers·extend (g-thm.met 𝓤 H 𝓜 𝓖 𝓡) (λ κs a. refl) refl (λ κs a. refl)
+    code.env f-key.name code.function (code.unfolded 𝓤 H 𝓜 𝓡) g-def.name g-def.routine code.calls-numbers·extend (g-thm.met 𝓤 H 𝓜 𝓖 𝓡) (λ κs a. refl) refl (λ κs a. refl)

@@ -4,14 +4,13 @@ use mathlib.Core.List.{[], _∷_}
 use mir.Syntax.{w64}
 use base.Logic.{id⊢}
 use denote.Builtin.{i64}
-use Rattle.thin.proofs.Thin.{lend, slice-mut, value, proves}
-use Rattle.thin.proofs.Numbers.{a-struct, sint}
+use Rattle.thin.proofs.Thin.{literal, lend, slice-mut, value, proves}
+use Rattle.thin.proofs.Numbers.{sint}
+use Rattle.thin_types.proofs.Types.{the-kind, count}
 use Rattle.inclusive_map.proofs.Maps.{range-inclusive-map}
-use Rattle.outcomes.proofs.Count as Count
-use Rattle.outcomes.proofs.Count.Laws as Count′
-use Rattle.inclusive_map.proofs.numbers.gaps as g
-use Rattle.inclusive_map.proofs.numbers.gaps.Symbol as g-def
-use Rattle.inclusive_map.proofs.numbers.gaps.Met as g-thm
+use Rattle.numbers.proofs.gaps as g
+use Rattle.numbers.proofs.gaps.Symbol as g-def
+use Rattle.numbers.proofs.gaps.Met as g-thm
 use Rattle.inclusive_map.proofs.range_inclusive_map_gaps as f
 use Rattle.inclusive_map.proofs.range_inclusive_map_gaps.Key as f-key
 use Rattle.inclusive_map.proofs.range_inclusive_map_gaps.Statement as stated
@@ -20,8 +19,8 @@ use Rattle.inclusive_map.proofs.range_inclusive_map_gaps.Code as code
 pub range-inclusive-map-gaps-spec : {M : Type 1} → stated.statement M
 unfolding code.routine
 range-inclusive-map-gaps-spec 𝓤 H 𝓜 𝓖 𝓡 =
-    proves 𝓤 H 𝓜 𝓖 𝓡 (lend range-inclusive-map ∷ value (sint w64) ∷ value (sint w64) ∷ slice-mut i64 ∷ slice-mut i64 ∷ []) (a-struct Count.the-type Count′.the-laws Count′.mir refl)
+    proves 𝓤 H 𝓜 𝓖 𝓡 (literal (the-kind code.function) ∷ lend range-inclusive-map ∷ value (sint w64) ∷ value (sint w64) ∷ slice-mut i64 ∷ slice-mut i64 ∷ []) count
     (λ κs a. f.clauses 𝓤 H (𝓖 .A) (𝓜 .mem) (𝓡 .run) κs a .requires tt) (λ κs a. f.clauses 𝓤 H (𝓖 .A) (𝓜 .mem) (𝓡 .run) κs a .ensures tt)
     (λ κs a. g.clauses 𝓤 H (𝓖 .A) (𝓜 .mem) (𝓡 .run) κs a .requires tt) (λ κs a. g.clauses 𝓤 H (𝓖 .A) (𝓜 .mem) (𝓡 .run) κs a .ensures tt)
     (λ κs a k. id⊢ 𝓤 _) (λ κs a k r zs. id⊢ 𝓤 _)
-    code.env f-key.name code.function (code.unfolded 𝓤 H 𝓜 𝓡) g-def.name g-def.routine code.calls-inclusive-map·numbers·gaps (g-thm.met 𝓤 H 𝓜 𝓖 𝓡) (λ κs a. refl) refl (λ κs a. refl)
+    code.env f-key.name code.function (code.unfolded 𝓤 H 𝓜 𝓡) g-def.name g-def.routine code.calls-numbers·gaps (g-thm.met 𝓤 H 𝓜 𝓖 𝓡) (λ κs a. refl) refl (λ κs a. refl)

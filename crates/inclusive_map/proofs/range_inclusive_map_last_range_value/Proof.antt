@@ -2,14 +2,12 @@
 use mathlib.Core.Path.{refl}
 use mathlib.Core.List.{[], _∷_}
 use base.Logic.{id⊢}
-use Rattle.thin.proofs.Thin.{lend, proves}
-use Rattle.thin.proofs.Numbers.{a-struct}
+use Rattle.thin.proofs.Thin.{literal, lend, proves}
+use Rattle.thin_types.proofs.Types.{the-kind, range}
 use Rattle.inclusive_map.proofs.Maps.{range-inclusive-map}
-use Rattle.outcomes.proofs.Range as Range
-use Rattle.outcomes.proofs.Range.Laws as Range′
-use Rattle.inclusive_map.proofs.numbers.last_range_value as g
-use Rattle.inclusive_map.proofs.numbers.last_range_value.Symbol as g-def
-use Rattle.inclusive_map.proofs.numbers.last_range_value.Met as g-thm
+use Rattle.numbers.proofs.last_range_value as g
+use Rattle.numbers.proofs.last_range_value.Symbol as g-def
+use Rattle.numbers.proofs.last_range_value.Met as g-thm
 use Rattle.inclusive_map.proofs.range_inclusive_map_last_range_value as f
 use Rattle.inclusive_map.proofs.range_inclusive_map_last_range_value.Key as f-key
 use Rattle.inclusive_map.proofs.range_inclusive_map_last_range_value.Statement as stated
@@ -18,8 +16,8 @@ use Rattle.inclusive_map.proofs.range_inclusive_map_last_range_value.Co
 pub range-inclusive-map-last-range-value-spec : {M : Type 1} → stated.statement M
 unfolding code.routine
 range-inclusive-map-last-range-value-spec 𝓤 H 𝓜 𝓖 𝓡 =
-    proves 𝓤 H 𝓜 𝓖 𝓡 (lend range-inclusive-map ∷ []) (a-struct Range.the-type Range′.the-laws Range′.mir refl)
+    proves 𝓤 H 𝓜 𝓖 𝓡 (literal (the-kind code.function) ∷ lend range-inclusive-map ∷ []) range
     (λ κs a. f.clauses 𝓤 H (𝓖 .A) (𝓜 .mem) (𝓡 .run) κs a .requires tt) (λ κs a. f.clauses 𝓤 H (𝓖 .A) (𝓜 .mem) (𝓡 .run) κs a .ensures tt)
     (λ κs a. g.clauses 𝓤 H (𝓖 .A) (𝓜 .mem) (𝓡 .run) κs a .requires tt) (λ κs a. g.clauses 𝓤 H (𝓖 .A) (𝓜 .mem) (𝓡 .run) κs a .ensures tt)
     (λ κs a k. id⊢ 𝓤 _) (λ κs a k r zs. id⊢ 𝓤 _)
-    code.env f-key.name code.function (code.unfolded 𝓤 H 𝓜 𝓡) g-def.name g-def.routine code.calls-inclusive-map·numbers·last-range-value (g-thm.met 𝓤 H 𝓜 𝓖 𝓡) (λ κs a. refl) refl (λ κs a. refl)
+    code.env f-key.name code.function (code.unfolded 𝓤 H 𝓜 𝓡) g-def.name g-def.routine code.calls-numbers·last-range-value (g-thm.met 𝓤 H 𝓜 𝓖 𝓡) (λ κs a. refl) refl (λ κs a. refl)

@@ -3,14 +3,13 @@ use mathlib.Core.Path.{refl}
 use mathlib.Core.List.{[], _∷_}
 use mir.Syntax.{w64}
 use base.Logic.{id⊢}
-use Rattle.thin.proofs.Thin.{lend, value, proves}
-use Rattle.thin.proofs.Numbers.{a-struct, sint}
+use Rattle.thin.proofs.Thin.{literal, lend, value, proves}
+use Rattle.thin.proofs.Numbers.{sint}
+use Rattle.thin_types.proofs.Types.{the-kind, stretch}
 use Rattle.inclusive_map.proofs.Maps.{range-inclusive-map}
-use Rattle.outcomes.proofs.Stretch as Stretch
-use Rattle.outcomes.proofs.Stretch.Laws as Stretch′
-use Rattle.inclusive_map.proofs.numbers.overlapping as g
-use Rattle.inclusive_map.proofs.numbers.overlapping.Symbol as g-def
-use Rattle.inclusive_map.proofs.numbers.overlapping.Met as g-thm
+use Rattle.numbers.proofs.overlapping as g
+use Rattle.numbers.proofs.overlapping.Symbol as g-def
+use Rattle.numbers.proofs.overlapping.Met as g-thm
 use Rattle.inclusive_map.proofs.range_inclusive_map_overlapping as f
 use Rattle.inclusive_map.proofs.range_inclusive_map_overlapping.Key as f-key
 use Rattle.inclusive_map.proofs.range_inclusive_map_overlapping.Statement as stated
@@ -19,8 +18,8 @@ use Rattle.inclusive_map.proofs.range_inclusive_map_overlapping.Code as
 pub range-inclusive-map-overlapping-spec : {M : Type 1} → stated.statement M
 unfolding code.routine
 range-inclusive-map-overlapping-spec 𝓤 H 𝓜 𝓖 𝓡 =
-    proves 𝓤 H 𝓜 𝓖 𝓡 (lend range-inclusive-map ∷ value (sint w64) ∷ value (sint w64) ∷ []) (a-struct Stretch.the-type Stretch′.the-laws Stretch′.mir refl)
+    proves 𝓤 H 𝓜 𝓖 𝓡 (literal (the-kind code.function) ∷ lend range-inclusive-map ∷ value (sint w64) ∷ value (sint w64) ∷ []) stretch
     (λ κs a. f.clauses 𝓤 H (𝓖 .A) (𝓜 .mem) (𝓡 .run) κs a .requires tt) (λ κs a. f.clauses 𝓤 H (𝓖 .A) (𝓜 .mem) (𝓡 .run) κs a .ensures tt)
     (λ κs a. g.clauses 𝓤 H (𝓖 .A) (𝓜 .mem) (𝓡 .run) κs a .requires tt) (λ κs a. g.clauses 𝓤 H (𝓖 .A) (𝓜 .mem) (𝓡 .run) κs a .ensures tt)
     (λ κs a k. id⊢ 𝓤 _) (λ κs a k r zs. id⊢ 𝓤 _)
-    code.env f-key.name code.function (code.unfolded 𝓤 H 𝓜 𝓡) g-def.name g-def.routine code.calls-inclusive-map·numbers·overlapping (g-thm.met 𝓤 H 𝓜 𝓖 𝓡) (λ κs a. refl) refl (λ κs a. refl)
+    code.env f-key.name code.function (code.unfolded 𝓤 H 𝓜 𝓡) g-def.name g-def.routine code.calls-numbers·overlapping (g-thm.met 𝓤 H 𝓜 𝓖 𝓡) (λ κs a. refl) refl (λ κs a. refl)

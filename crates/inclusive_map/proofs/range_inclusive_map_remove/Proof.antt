@@ -3,12 +3,13 @@ use mathlib.Core.Path.{refl}
 use mathlib.Core.List.{[], _∷_}
 use mir.Syntax.{w8, w64}
 use base.Logic.{id⊢}
-use Rattle.thin.proofs.Thin.{lend-mut, value, proves}
+use Rattle.thin.proofs.Thin.{literal, lend-mut, value, proves}
 use Rattle.thin.proofs.Numbers.{number, sint, uint}
+use Rattle.thin_types.proofs.Types.{the-kind}
 use Rattle.inclusive_map.proofs.Maps.{range-inclusive-map}
-use Rattle.inclusive_map.proofs.numbers.remove as g
-use Rattle.inclusive_map.proofs.numbers.remove.Symbol as g-def
-use Rattle.inclusive_map.proofs.numbers.remove.Met as g-thm
+use Rattle.numbers.proofs.remove as g
+use Rattle.numbers.proofs.remove.Symbol as g-def
+use Rattle.numbers.proofs.remove.Met as g-thm
 use Rattle.inclusive_map.proofs.range_inclusive_map_remove as f
 use Rattle.inclusive_map.proofs.range_inclusive_map_remove.Key as f-key
 use Rattle.inclusive_map.proofs.range_inclusive_map_remove.Statement as stated
@@ -17,8 +18,8 @@ use Rattle.inclusive_map.proofs.range_inclusive_map_remove.Code as code
 pub range-inclusive-map-remove-spec : {M : Type 1} → stated.statement M
 unfolding code.routine
 range-inclusive-map-remove-spec 𝓤 H 𝓜 𝓖 𝓡 =
-    proves 𝓤 H 𝓜 𝓖 𝓡 (lend-mut range-inclusive-map ∷ value (sint w64) ∷ value (sint w64) ∷ []) (number (uint w8))
+    proves 𝓤 H 𝓜 𝓖 𝓡 (literal (the-kind code.function) ∷ lend-mut range-inclusive-map ∷ value (sint w64) ∷ value (sint w64) ∷ []) (number (uint w8))
     (λ κs a. f.clauses 𝓤 H (𝓖 .A) (𝓜 .mem) (𝓡 .run) κs a .requires tt) (λ κs a. f.clauses 𝓤 H (𝓖 .A) (𝓜 .mem) (𝓡 .run) κs a .ensures tt)
     (λ κs a. g.clauses 𝓤 H (𝓖 .A) (𝓜 .mem) (𝓡 .run) κs a .requires tt) (λ κs a. g.clauses 𝓤 H (𝓖 .A) (𝓜 .mem) (𝓡 .run) κs a .ensures tt)
     (λ κs a k. id⊢ 𝓤 _) (λ κs a k r zs. id⊢ 𝓤 _)
-    code.env f-key.name code.function (code.unfolded 𝓤 H 𝓜 𝓡) g-def.name g-def.routine code.calls-inclusive-map·numbers·remove (g-thm.met 𝓤 H 𝓜 𝓖 𝓡) (λ κs a. refl) refl (λ κs a. refl)
+    code.env f-key.name code.function (code.unfolded 𝓤 H 𝓜 𝓡) g-def.name g-def.routine code.calls-numbers·remove (g-thm.met 𝓤 H 𝓜 𝓖 𝓡) (λ κs a. refl) refl (λ κs a. refl)

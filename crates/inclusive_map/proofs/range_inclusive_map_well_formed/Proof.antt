@@ -2,12 +2,13 @@
 use mathlib.Core.Path.{refl}
 use mathlib.Core.List.{[], _∷_}
 use base.Logic.{id⊢}
-use Rattle.thin.proofs.Thin.{lend, proves}
+use Rattle.thin.proofs.Thin.{literal, lend, proves}
 use Rattle.thin.proofs.Numbers.{boolean, number}
+use Rattle.thin_types.proofs.Types.{the-kind}
 use Rattle.inclusive_map.proofs.Maps.{range-inclusive-map}
-use Rattle.inclusive_map.proofs.numbers.is_formed as g
-use Rattle.inclusive_map.proofs.numbers.is_formed.Symbol as g-def
-use Rattle.inclusive_map.proofs.numbers.is_formed.Met as g-thm
+use Rattle.numbers.proofs.is_formed as g
+use Rattle.numbers.proofs.is_formed.Symbol as g-def
+use Rattle.numbers.proofs.is_formed.Met as g-thm
 use Rattle.inclusive_map.proofs.range_inclusive_map_well_formed as f
 use Rattle.inclusive_map.proofs.range_inclusive_map_well_formed.Key as f-key
 use Rattle.inclusive_map.proofs.range_inclusive_map_well_formed.Statement as stated
@@ -16,8 +17,8 @@ use Rattle.inclusive_map.proofs.range_inclusive_map_well_formed.Code as
 pub range-inclusive-map-well-formed-spec : {M : Type 1} → stated.statement M
 unfolding code.routine
 range-inclusive-map-well-formed-spec 𝓤 H 𝓜 𝓖 𝓡 =
-    proves 𝓤 H 𝓜 𝓖 𝓡 (lend range-inclusive-map ∷ []) (number boolean)
+    proves 𝓤 H 𝓜 𝓖 𝓡 (literal (the-kind code.function) ∷ lend range-inclusive-map ∷ []) (number boolean)
     (λ κs a. f.clauses 𝓤 H (𝓖 .A) (𝓜 .mem) (𝓡 .run) κs a .requires tt) (λ κs a. f.clauses 𝓤 H (𝓖 .A) (𝓜 .mem) (𝓡 .run) κs a .ensures tt)
     (λ κs a. g.clauses 𝓤 H (𝓖 .A) (𝓜 .mem) (𝓡 .run) κs a .requires tt) (λ κs a. g.clauses 𝓤 H (𝓖 .A) (𝓜 .mem) (𝓡 .run) κs a .ensures tt)
     (λ κs a k. id⊢ 𝓤 _) (λ κs a k r zs. id⊢ 𝓤 _)
-    code.env f-key.name code.function (code.unfolded 𝓤 H 𝓜 𝓡) g-def.name g-def.routine code.calls-inclusive-map·numbers·is-formed (g-thm.met 𝓤 H 𝓜 𝓖 𝓡) (λ κs a. refl) refl (λ κs a. refl)
+    code.env f-key.name code.function (code.unfolded 𝓤 H 𝓜 𝓡) g-def.name g-def.routine code.calls-numbers·is-formed (g-thm.met 𝓤 H 𝓜 𝓖 𝓡) (λ κs a. refl) refl (λ κs a. refl)

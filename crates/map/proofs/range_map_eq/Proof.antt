@@ -2,14 +2,12 @@
 use mathlib.Core.Path.{refl}
 use mathlib.Core.List.{[], _∷_}
 use base.Logic.{id⊢}
-use Rattle.thin.proofs.Thin.{lend, proves}
-use Rattle.thin.proofs.Numbers.{a-struct}
+use Rattle.thin.proofs.Thin.{literal, lend, proves}
+use Rattle.thin_types.proofs.Types.{the-kind, told}
 use Rattle.map.proofs.Maps.{range-map}
-use Rattle.outcomes.proofs.Told as Told
-use Rattle.outcomes.proofs.Told.Laws as Told′
-use Rattle.map.proofs.numbers.eq as g
-use Rattle.map.proofs.numbers.eq.Symbol as g-def
-use Rattle.map.proofs.numbers.eq.Met as g-thm
+use Rattle.numbers.proofs.eq as g
+use Rattle.numbers.proofs.eq.Symbol as g-def
+use Rattle.numbers.proofs.eq.Met as g-thm
 use Rattle.map.proofs.range_map_eq as f
 use Rattle.map.proofs.range_map_eq.Key as f-key
 use Rattle.map.proofs.range_map_eq.Statement as stated
@@ -18,8 +16,8 @@ use Rattle.map.proofs.range_map_eq.Code as code
 pub range-map-eq-spec : {M : Type 1} → stated.statement M
 unfolding code.routine
 range-map-eq-spec 𝓤 H 𝓜 𝓖 𝓡 =
-    proves 𝓤 H 𝓜 𝓖 𝓡 (lend range-map ∷ lend range-map ∷ []) (a-struct Told.the-type Told′.the-laws Told′.mir refl)
+    proves 𝓤 H 𝓜 𝓖 𝓡 (literal (the-kind code.function) ∷ lend range-map ∷ lend range-map ∷ []) told
     (λ κs a. f.clauses 𝓤 H (𝓖 .A) (𝓜 .mem) (𝓡 .run) κs a .requires tt) (λ κs a. f.clauses 𝓤 H (𝓖 .A) (𝓜 .mem) (𝓡 .run) κs a .ensures tt)
     (λ κs a. g.clauses 𝓤 H (𝓖 .A) (𝓜 .mem) (𝓡 .run) κs a .requires tt) (λ κs a. g.clauses 𝓤 H (𝓖 .A) (𝓜 .mem) (𝓡 .run) κs a .ensures tt)
     (λ κs a k. id⊢ 𝓤 _) (λ κs a k r zs. id⊢ 𝓤 _)
-    code.env f-key.name code.function (code.unfolded 𝓤 H 𝓜 𝓡) g-def.name g-def.routine code.calls-map·numbers·eq (g-thm.met 𝓤 H 𝓜 𝓖 𝓡) (λ κs a. refl) refl (λ κs a. refl)
+    code.env f-key.name code.function (code.unfolded 𝓤 H 𝓜 𝓡) g-def.name g-def.routine code.calls-numbers·eq (g-thm.met 𝓤 H 𝓜 𝓖 𝓡) (λ κs a. refl) refl (λ κs a. refl)

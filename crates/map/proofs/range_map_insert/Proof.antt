@@ -3,12 +3,13 @@ use mathlib.Core.Path.{refl}
 use mathlib.Core.List.{[], _∷_}
 use mir.Syntax.{w8, w64}
 use base.Logic.{id⊢}
-use Rattle.thin.proofs.Thin.{lend-mut, value, proves}
+use Rattle.thin.proofs.Thin.{literal, lend-mut, value, proves}
 use Rattle.thin.proofs.Numbers.{number, sint, uint}
+use Rattle.thin_types.proofs.Types.{the-kind}
 use Rattle.map.proofs.Maps.{range-map}
-use Rattle.map.proofs.numbers.insert as g
-use Rattle.map.proofs.numbers.insert.Symbol as g-def
-use Rattle.map.proofs.numbers.insert.Met as g-thm
+use Rattle.numbers.proofs.insert as g
+use Rattle.numbers.proofs.insert.Symbol as g-def
+use Rattle.numbers.proofs.insert.Met as g-thm
 use Rattle.map.proofs.range_map_insert as f
 use Rattle.map.proofs.range_map_insert.Key as f-key
 use Rattle.map.proofs.range_map_insert.Statement as stated
@@ -17,8 +18,8 @@ use Rattle.map.proofs.range_map_insert.Code as code
 pub range-map-insert-spec : {M : Type 1} → stated.statement M
 unfolding code.routine
 range-map-insert-spec 𝓤 H 𝓜 𝓖 𝓡 =
-    proves 𝓤 H 𝓜 𝓖 𝓡 (lend-mut range-map ∷ value (sint w64) ∷ value (sint w64) ∷ value (uint w8) ∷ []) (number (uint w8))
+    proves 𝓤 H 𝓜 𝓖 𝓡 (literal (the-kind code.function) ∷ lend-mut range-map ∷ value (sint w64) ∷ value (sint w64) ∷ value (uint w8) ∷ []) (number (uint w8))
     (λ κs a. f.clauses 𝓤 H (𝓖 .A) (𝓜 .mem) (𝓡 .run) κs a .requires tt) (λ κs a. f.clauses 𝓤 H (𝓖 .A) (𝓜 .mem) (𝓡 .run) κs a .ensures tt)
     (λ κs a. g.clauses 𝓤 H (𝓖 .A) (𝓜 .mem) (𝓡 .run) κs a .requires tt) (λ κs a. g.clauses 𝓤 H (𝓖 .A) (𝓜 .mem) (𝓡 .run) κs a .ensures tt)
     (λ κs a k. id⊢ 𝓤 _) (λ κs a k r zs. id⊢ 𝓤 _)
-    code.env f-key.name code.function (code.unfolded 𝓤 H 𝓜 𝓡) g-def.name g-def.routine code.calls-map·numbers·insert (g-thm.met 𝓤 H 𝓜 𝓖 𝓡) (λ κs a. refl) refl (λ κs a. refl)
+    code.env f-key.name code.function (code.unfolded 𝓤 H 𝓜 𝓡) g-def.name g-def.routine code.calls-numbers·insert (g-thm.met 𝓤 H 𝓜 𝓖 𝓡) (λ κs a. refl) refl (λ κs a. refl)
