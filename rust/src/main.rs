@@ -56,8 +56,7 @@ fn compare(sizes: &Sizes) -> bool {
 fn replay(module: &str) -> bool {
     match module {
         "relations" => print!("{}", relations::replay()),
-        "map" => print!("{}", maps::replay()),
-        "inclusive_map" => print!("{}", maps::replay_inclusive()),
+        "maps" => print!("{}", maps::replay()),
         "set" => print!("{}", sets::replay()),
         _ => {
             eprintln!("there is no replay of {module}");

@@ -184,14 +184,18 @@ pub fn compare(report: &mut Report, size: &Size) {
     compare_exhausted(report);
 }
 
-/// What crates/test_map has to print.
-pub fn replay() -> String {
-    replay::replay::<HalfOpen>(include_str!("../../crates/test_map/stdin"))
-}
+/// The steps with which crates/test_maps begins anew, with an empty map of a kind.
+const ANEW_HALF_OPEN: &str = "H . . .\n";
+const ANEW_INCLUSIVE: &str = "I . . .\n";
 
-/// What crates/test_inclusive_map has to print.
-pub fn replay_inclusive() -> String {
-    replay::replay::<Inclusive>(include_str!("../../crates/test_inclusive_map/stdin"))
+/// What crates/test_maps has to print.
+pub fn replay() -> String {
+    let steps = include_str!("../../crates/test_maps/stdin");
+    let steps = steps.strip_prefix(ANEW_HALF_OPEN).expect("half-open first");
+    let (half_open, inclusive) = steps.split_once(ANEW_INCLUSIVE).expect("both kinds");
+    let half_open = replay::replay::<HalfOpen>(half_open);
+    let inclusive = replay::replay::<Inclusive>(inclusive);
+    format!("half-open maps\n{half_open}inclusive maps\n{inclusive}")
 }
 
 /// What only Rust can make: a range that was iterated to its end has its ends still, and no key.

@@ -7,7 +7,7 @@ ghost use mathlib.Core.Path.{_≡_};
 ghost use Rattle.key.specs.Range.{kindOf};
 ghost use Rattle.outcomes.specs.Stored.{lent, Sound};
 ghost use Rattle.outcomes.specs.Outcomes.{found, uncovered};
-ghost use Rattle.gaps.specs.Walk.{wrote};
+ghost use Rattle.lists.specs.Lists.{wrote};
 
 // The range that holds the key, and its value.
 pub fn get_key_value<'a>(

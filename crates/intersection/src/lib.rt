@@ -1,8 +1,8 @@
 // INTERSECTION of two sets: the common points as maximal ranges, from operations.rs. One walk over both sets with two positions; the range that ends first goes.
 // Nothing is written before it is known that the lent lists are long enough; the ranges are counted for that only where there may be too many.
-use gaps::put;
-use gaps::shorter;
 use key::RangeKind;
+use lists::put;
+use lists::shorter;
 use outcomes::Counted;
 use outcomes::NOT_FORMED;
 use outcomes::PLACES;
@@ -20,7 +20,7 @@ ghost use Rattle.key.specs.Rank.{rank};
 ghost use Rattle.key.specs.Range.{kindOf};
 ghost use Rattle.outcomes.specs.Stored.{lent, stored};
 ghost use Rattle.outcomes.specs.Sets.{SoundSet, intersected, intersecting};
-ghost use Rattle.gaps.specs.Walk.{wrote, Room, Puts};
+ghost use Rattle.lists.specs.Lists.{wrote, Room, Puts};
 ghost use Rattle.pairs.specs.Sides.{Side};
 ghost use Rattle.pairs.specs.Lists.{Going};
 ghost use Rattle.intersection.specs.Found.{shared, sharedFrom, piece, keyRank, Stepped, Carries};

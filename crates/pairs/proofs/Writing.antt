@@ -13,7 +13,7 @@ use lib.ListN.{length-set}
 use Rattle.span.specs.Span.{Span}
 use Rattle.key.specs.Rank.{keyAt}
 use Rattle.key.specs.Range.{Kind}
-use Rattle.gaps.specs.Walk.{startsOf, endsOf, Room, Puts}
+use Rattle.lists.specs.Lists.{startsOf, endsOf, Room, Puts}
 use Rattle.pairs.specs.Lists.{Counting, Going}
 
 -- one range more is counted, or none

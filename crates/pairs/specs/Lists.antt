@@ -1,4 +1,4 @@
--- A list of ranges while it is written into two lent lists, one by one: what was written, and what is still to be. `Room` and `Puts` are those of the crate `gaps`.
+-- A list of ranges while it is written into two lent lists, one by one: what was written, and what is still to be. `Room` and `Puts` are those of the crate `lists`.
 use Prim.Native.Nat.{ℕ, _+_}
 use mathlib.Core.Path.{_≡_}
 use mathlib.Core.List.{List}
@@ -7,7 +7,7 @@ use lib.Seq.{sets}
 use lib.IntN.{ℤ}
 use Rattle.span.specs.Span.{Span}
 use Rattle.key.specs.Range.{Kind}
-use Rattle.gaps.specs.Walk.{startsOf, endsOf}
+use Rattle.lists.specs.Lists.{startsOf, endsOf}
 
 -- so many were counted, and those are still to be
 pub record Counting (goal : List Span) (at : ℕ) (todo : List Span) : Type 0 where

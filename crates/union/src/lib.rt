@@ -1,9 +1,9 @@
 // UNION of two sets: the points of either, ascending and disjoint, from operations.rs. One walk over both sets with two positions; the range that starts first is taken.
 // Ranges that overlap become one. Ranges that only touch stay apart, as in the Rust.
 // Nothing is written before it is known that the lent lists are long enough; the ranges are counted for that only where there may be too many.
-use gaps::put;
-use gaps::shorter;
 use key::RangeKind;
+use lists::put;
+use lists::shorter;
 use outcomes::Counted;
 use outcomes::NOT_FORMED;
 use outcomes::PLACES;
@@ -21,7 +21,7 @@ ghost use Rattle.key.specs.Rank.{rank};
 ghost use Rattle.key.specs.Range.{kindOf};
 ghost use Rattle.outcomes.specs.Stored.{lent, stored};
 ghost use Rattle.outcomes.specs.Sets.{SoundSet, joining, uniting};
-ghost use Rattle.gaps.specs.Walk.{wrote, Room, Puts};
+ghost use Rattle.lists.specs.Lists.{wrote, Room, Puts};
 ghost use Rattle.pairs.specs.Kind.{wide};
 ghost use Rattle.pairs.specs.Sides.{Side};
 ghost use Rattle.union.specs.Found.{either, openFrom, Opened, Next};

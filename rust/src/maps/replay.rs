@@ -1,4 +1,4 @@
-//! The steps of crates/test_map and crates/test_inclusive_map, which these programs read as their input, as rangemap answers them.
+//! The steps of crates/test_maps, which that program reads as its input, as rangemap answers them.
 //!
 //! A step is a line of four letters with spaces between: what to do, two keys (or a place) and a value (or a length).
 //! A line that begins with # is told as it is.

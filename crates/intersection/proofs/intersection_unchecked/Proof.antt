@@ -4,7 +4,8 @@ use lib.ListN.{length}
 use borrow.Author.Needs.{needs}
 use borrow.Author.Tests.{not-true, not-false}
 use Rattle.key.specs.Range.{kindOf}
-use Rattle.pairs.proofs.Doors.{side, answers-short, enough, answers-done}
+use Rattle.lists.proofs.Answering.{answers-short, enough, answers-done}
+use Rattle.pairs.proofs.Doors.{side}
 use Rattle.intersection.specs.Found.{shared}
 use Rattle.intersection.proofs.Answers.{answered}
 use Rattle.intersection.proofs.intersection_unchecked.Statement.{statement}

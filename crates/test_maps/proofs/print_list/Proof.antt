@@ -1,9 +1,9 @@
--- `test_map::print_list` is safe and ends: the measure is the number of places that are left.
+-- `test_maps::print_list` is safe and ends: the measure is the number of places that are left.
 use Prim.Native.Nat.{_-_}
 use native.Mathlib.Omega.{arith}
 use borrow.Author.Needs.{needs}
-use Rattle.test_map.proofs.print_list.Statement.{statement}
-use Rattle.test_map.proofs.print_list.Tie as tie
+use Rattle.test_maps.proofs.print_list.Statement.{statement}
+use Rattle.test_maps.proofs.print_list.Tie as tie
 
 abbrev Inv-loop : tie.InvT-loop
 Inv-loop starts ends i₀ t4 i = Unit {0}

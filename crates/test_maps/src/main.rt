@@ -1,8 +1,9 @@
-// Reads steps from standard input, carries them out with the functions of the inclusive map, and prints each answer whole, its number first,
-// and the map after each edit. A step is a line of four letters with spaces between: what to do, two keys (or a place) and a value (or a length).
+// Reads steps from standard input, carries them out with the functions of a map of either kind, and prints each answer whole, its number
+// first, and the map after each edit. A step is a line of four letters with spaces between: what to do, two keys (or a place) and a value (or
+// a length). The steps H and I begin anew, with an empty map of half-open or of inclusive ranges.
 // A line that begins with # is printed as it is: document 01's cases are among the steps by name.
 // The file `stdout` is what rangemap 1.8.0 answers, with document 01's numbers:
-//     rust/compare --replay inclusive_map > crates/test_inclusive_map/stdout
+//     rust/compare --replay maps > crates/test_maps/stdout
 use key::RangeKind;
 use outcomes::Applied;
 use outcomes::Count;
@@ -12,13 +13,11 @@ use outcomes::Range;
 use outcomes::Stretch;
 use outcomes::Told;
 
-// The kind of the ranges.
-const KIND: RangeKind = RangeKind::Inclusive;
-
 // As many places as the lists of a step have at most.
 const LISTED: usize = 9;
 
 struct Map {
+    kind: RangeKind,
     count: usize,
     starts: [i64; PLACES],
     ends: [i64; PLACES],
@@ -183,17 +182,27 @@ fn print_key(key: i64) {
     }
 }
 
-fn print_range(r: Ends) {
+fn print_dots(kind: RangeKind) {
+    match kind {
+        RangeKind::HalfOpen => io::write_all(1, b".."),
+        RangeKind::Inclusive => io::write_all(1, b"..="),
+    }
+}
+
+fn print_range(kind: RangeKind, r: Ends) {
     print_key(r.start);
-    io::write_all(1, b"..=");
+    print_dots(kind);
     print_key(r.end);
 }
 
-fn print_entry(r: Range) {
-    print_range(Ends {
-        start: r.start,
-        end: r.end,
-    });
+fn print_entry(kind: RangeKind, r: Range) {
+    print_range(
+        kind,
+        Ends {
+            start: r.start,
+            end: r.end,
+        },
+    );
     io::write_all(1, b">");
     print_digits(r.value);
 }
@@ -213,11 +222,11 @@ fn print_told(r: Told) {
     io::write_all(1, b"\n");
 }
 
-fn print_found(r: Range) {
+fn print_found(kind: RangeKind, r: Range) {
     io::write_all(1, b": ");
     print_digits(r.answer);
     io::write_all(1, b" ");
-    print_entry(r);
+    print_entry(kind, r);
     io::write_all(1, b"\n");
 }
 
@@ -263,7 +272,10 @@ fn print_place(m: Map, place: usize, many: usize) {
     if place > 0 {
         io::write_all(1, b", ");
     }
-    print_entry(numbers::range_at(KIND, &m.count, &m.starts, &m.ends, &m.values, place));
+    print_entry(
+        m.kind,
+        numbers::range_at(m.kind, &m.count, &m.starts, &m.ends, &m.values, place),
+    );
 }
 
 // The first places, of which there are eight at most.
@@ -282,7 +294,10 @@ fn print_places(m: Map, many: usize) {
 fn print_long(m: Map, count: usize) {
     print_places(m, 3);
     io::write_all(1, b", .., ");
-    print_entry(numbers::last_range_value(KIND, &m.count, &m.starts, &m.ends, &m.values));
+    print_entry(
+        m.kind,
+        numbers::last_range_value(m.kind, &m.count, &m.starts, &m.ends, &m.values),
+    );
     io::write_all(1, b": ");
     print_number(count);
     io::write_all(1, b" ranges");
@@ -301,7 +316,7 @@ fn print_ranges(m: Map, count: usize) {
 // The map after a step.
 fn print_now(m: Map) {
     io::write_all(1, b", now ");
-    let r = numbers::len(KIND, &m.count, &m.starts, &m.ends, &m.values);
+    let r = numbers::len(m.kind, &m.count, &m.starts, &m.ends, &m.values);
     if r.answer == 0 {
         print_ranges(m, r.count);
     } else {
@@ -312,8 +327,9 @@ fn print_now(m: Map) {
 
 // ---- edits
 
-fn new() -> Map {
+fn new(kind: RangeKind) -> Map {
     Map {
+        kind: kind,
         count: 0,
         starts: [0; PLACES],
         ends: [0; PLACES],
@@ -322,12 +338,13 @@ fn new() -> Map {
 }
 
 fn insert(m: Map, r: Ends, value: u8) -> Map {
+    let kind = m.kind;
     let mut count = m.count;
     let mut starts = m.starts;
     let mut ends = m.ends;
     let mut values = m.values;
     let answer = numbers::insert(
-        KIND,
+        kind,
         &mut count,
         &mut starts,
         &mut ends,
@@ -337,12 +354,13 @@ fn insert(m: Map, r: Ends, value: u8) -> Map {
         value,
     );
     io::write_all(1, b"insert ");
-    print_range(r);
+    print_range(m.kind, r);
     io::write_all(1, b">");
     print_digits(value);
     io::write_all(1, b": ");
     print_digits(answer);
     let left = Map {
+        kind: kind,
         count: count,
         starts: starts,
         ends: ends,
@@ -353,12 +371,13 @@ fn insert(m: Map, r: Ends, value: u8) -> Map {
 }
 
 fn remove(m: Map, r: Ends) -> Map {
+    let kind = m.kind;
     let mut count = m.count;
     let mut starts = m.starts;
     let mut ends = m.ends;
     let mut values = m.values;
     let answer = numbers::remove(
-        KIND,
+        kind,
         &mut count,
         &mut starts,
         &mut ends,
@@ -367,10 +386,11 @@ fn remove(m: Map, r: Ends) -> Map {
         r.end,
     );
     io::write_all(1, b"remove ");
-    print_range(r);
+    print_range(m.kind, r);
     io::write_all(1, b": ");
     print_digits(answer);
     let left = Map {
+        kind: kind,
         count: count,
         starts: starts,
         ends: ends,
@@ -381,37 +401,49 @@ fn remove(m: Map, r: Ends) -> Map {
 }
 
 fn clear(m: Map) -> Map {
+    let kind = m.kind;
     let mut count = m.count;
     let mut starts = m.starts;
     let mut ends = m.ends;
     let mut values = m.values;
-    numbers::clear(KIND, &mut count, &mut starts, &mut ends, &mut values);
+    numbers::clear(&mut count, &mut starts, &mut ends, &mut values);
     io::write_all(1, b"clear\n");
     Map {
+        kind: kind,
         count: count,
         starts: starts,
         ends: ends,
         values: values,
+    }
+}
+
+// The end of the range that has one key.
+fn end_of_one(kind: RangeKind, key: u32) -> i64 {
+    match kind {
+        RangeKind::HalfOpen => key as i64 + 1,
+        RangeKind::Inclusive => key as i64,
     }
 }
 
 // A range of one key and of value 7, and nothing printed.
 fn put(m: Map, key: u32) -> Map {
+    let kind = m.kind;
     let mut count = m.count;
     let mut starts = m.starts;
     let mut ends = m.ends;
     let mut values = m.values;
     numbers::insert(
-        KIND,
+        kind,
         &mut count,
         &mut starts,
         &mut ends,
         &mut values,
         key as i64,
-        key as i64,
+        end_of_one(kind, key),
         7,
     );
     Map {
+        kind: kind,
         count: count,
         starts: starts,
         ends: ends,
@@ -419,9 +451,9 @@ fn put(m: Map, key: u32) -> Map {
     }
 }
 
-// The sibling of document 01's full map: 512 ranges of one value at 0..=0, 2..=2, and so on.
-fn fill() -> Map {
-    let mut m = new();
+// Document 01's full map: 512 ranges of one value at 0..1, 2..3, and so on; its inclusive sibling has 0..=0, 2..=2, and so on.
+fn fill(kind: RangeKind) -> Map {
+    let mut m = new(kind);
     let mut key = 0u32;
     while key < 1024 {
         m = put(m, key);
@@ -440,6 +472,7 @@ fn damage(m: Map) -> Map {
     let ends = m.ends;
     io::write_all(1, b"damaged\n");
     Map {
+        kind: m.kind,
         count: m.count,
         starts: starts,
         ends: ends,
@@ -453,7 +486,7 @@ fn edit(m: Map, s: Step) -> Map {
         b'i' => insert(m, ends_of(s), digit(s.three)),
         b'r' => remove(m, ends_of(s)),
         b'c' => clear(m),
-        b'f' => fill(),
+        b'f' => fill(m.kind),
         b'd' => damage(m),
         _ => m,
     }
@@ -465,20 +498,26 @@ fn ask_whole(m: Map, what: u8) {
     match what {
         b'e' => {
             io::write_all(1, b"is_empty");
-            print_told(numbers::is_empty(KIND, &m.count, &m.starts, &m.ends, &m.values));
+            print_told(numbers::is_empty(m.kind, &m.count, &m.starts, &m.ends, &m.values));
         }
         b'n' => {
             io::write_all(1, b"len");
-            print_count(numbers::len(KIND, &m.count, &m.starts, &m.ends, &m.values));
+            print_count(numbers::len(m.kind, &m.count, &m.starts, &m.ends, &m.values));
             io::write_all(1, b"\n");
         }
         b'h' => {
             io::write_all(1, b"first");
-            print_found(numbers::first_range_value(KIND, &m.count, &m.starts, &m.ends, &m.values));
+            print_found(
+                m.kind,
+                numbers::first_range_value(m.kind, &m.count, &m.starts, &m.ends, &m.values),
+            );
         }
         b'l' => {
             io::write_all(1, b"last");
-            print_found(numbers::last_range_value(KIND, &m.count, &m.starts, &m.ends, &m.values));
+            print_found(
+                m.kind,
+                numbers::last_range_value(m.kind, &m.count, &m.starts, &m.ends, &m.values),
+            );
         }
         _ => {}
     }
@@ -487,33 +526,39 @@ fn ask_whole(m: Map, what: u8) {
 fn ask_place(m: Map, place: u8) {
     io::write_all(1, b"range_at ");
     print_digits(place);
-    print_found(numbers::range_at(
-        KIND,
-        &m.count,
-        &m.starts,
-        &m.ends,
-        &m.values,
-        place as usize,
-    ));
+    print_found(
+        m.kind,
+        numbers::range_at(
+            m.kind,
+            &m.count,
+            &m.starts,
+            &m.ends,
+            &m.values,
+            place as usize,
+        ),
+    );
 }
 
 fn ask_get(m: Map, key: i64) {
     io::write_all(1, b"get ");
     print_key(key);
-    print_found(numbers::get_key_value(KIND, &m.count, &m.starts, &m.ends, &m.values, key));
+    print_found(
+        m.kind,
+        numbers::get_key_value(m.kind, &m.count, &m.starts, &m.ends, &m.values, key),
+    );
 }
 
 fn ask_contains(m: Map, key: i64) {
     io::write_all(1, b"contains ");
     print_key(key);
-    print_told(numbers::contains_key(KIND, &m.count, &m.starts, &m.ends, &m.values, key));
+    print_told(numbers::contains_key(m.kind, &m.count, &m.starts, &m.ends, &m.values, key));
 }
 
 fn ask_overlapping(m: Map, r: Ends) {
     io::write_all(1, b"overlapping ");
-    print_range(r);
+    print_range(m.kind, r);
     print_stretch(numbers::overlapping(
-        KIND,
+        m.kind,
         &m.count,
         &m.starts,
         &m.ends,
@@ -522,9 +567,9 @@ fn ask_overlapping(m: Map, r: Ends) {
         r.end,
     ));
     io::write_all(1, b"overlaps ");
-    print_range(r);
+    print_range(m.kind, r);
     print_told(numbers::overlaps(
-        KIND,
+        m.kind,
         &m.count,
         &m.starts,
         &m.ends,
@@ -535,7 +580,7 @@ fn ask_overlapping(m: Map, r: Ends) {
 }
 
 // The range at a place of two lists.
-fn print_listed(starts: &[i64], ends: &[i64], i: usize) {
+fn print_listed(kind: RangeKind, starts: &[i64], ends: &[i64], i: usize) {
     if i >= starts.len() {
         return;
     }
@@ -543,15 +588,18 @@ fn print_listed(starts: &[i64], ends: &[i64], i: usize) {
         return;
     }
     io::write_all(1, b" ");
-    print_range(Ends {
-        start: starts[i],
-        end: ends[i],
-    });
+    print_range(
+        kind,
+        Ends {
+            start: starts[i],
+            end: ends[i],
+        },
+    );
 }
 
-fn print_list(starts: &[i64], ends: &[i64]) {
+fn print_list(kind: RangeKind, starts: &[i64], ends: &[i64]) {
     for i in 0..LISTED {
-        print_listed(starts, ends, i);
+        print_listed(kind, starts, ends, i);
     }
     io::write_all(1, b"\n");
 }
@@ -559,11 +607,11 @@ fn print_list(starts: &[i64], ends: &[i64]) {
 // The gaps into lists of so many places, which hold 0 before.
 fn ask_gaps(m: Map, r: Ends, out_starts: &mut [i64], out_ends: &mut [i64]) {
     io::write_all(1, b"gaps ");
-    print_range(r);
+    print_range(m.kind, r);
     io::write_all(1, b" into ");
     print_number(out_starts.len());
     print_count(numbers::gaps(
-        KIND,
+        m.kind,
         &m.count,
         &m.starts,
         &m.ends,
@@ -573,7 +621,7 @@ fn ask_gaps(m: Map, r: Ends, out_starts: &mut [i64], out_ends: &mut [i64]) {
         out_starts,
         out_ends,
     ));
-    print_list(out_starts, out_ends);
+    print_list(m.kind, out_starts, out_ends);
 }
 
 // Only one list is cut: the shorter decides.
@@ -604,7 +652,7 @@ fn ask(m: Map, s: Step) {
 fn compare(a: Map, b: Map) {
     io::write_all(1, b"eq");
     let told = numbers::eq(
-        KIND,
+        a.kind,
         &a.count,
         &a.starts,
         &a.ends,
@@ -619,7 +667,7 @@ fn compare(a: Map, b: Map) {
     print_yes(told.yes);
     io::write_all(1, b", cmp: ");
     print_order(numbers::cmp(
-        KIND,
+        a.kind,
         &a.count,
         &a.starts,
         &a.ends,
@@ -664,12 +712,13 @@ fn listed(list: List, r: Ends, value: u8) -> List {
 }
 
 fn extend(m: Map, new_starts: &[i64], new_ends: &[i64], new_values: &[u8]) -> Map {
+    let kind = m.kind;
     let mut count = m.count;
     let mut starts = m.starts;
     let mut ends = m.ends;
     let mut values = m.values;
     let told = numbers::extend(
-        KIND,
+        kind,
         &mut count,
         &mut starts,
         &mut ends,
@@ -683,6 +732,7 @@ fn extend(m: Map, new_starts: &[i64], new_ends: &[i64], new_values: &[u8]) -> Ma
     io::write_all(1, b": ");
     print_applied(told);
     let left = Map {
+        kind: kind,
         count: count,
         starts: starts,
         ends: ends,
@@ -714,12 +764,28 @@ struct State {
     list: List,
 }
 
+fn anew(kind: RangeKind) -> State {
+    State {
+        map: new(kind),
+        other: new(kind),
+        list: no_list(),
+    }
+}
+
 fn take(state: State, s: Step) -> State {
     let what = s.what;
     let map = state.map;
     let other = state.other;
     let list = state.list;
     match what {
+        b'H' => {
+            io::write_all(1, b"half-open maps\n");
+            anew(RangeKind::HalfOpen)
+        }
+        b'I' => {
+            io::write_all(1, b"inclusive maps\n");
+            anew(RangeKind::Inclusive)
+        }
         b's' => {
             io::write_all(1, b"stored\n");
             State {
@@ -754,11 +820,7 @@ fn take(state: State, s: Step) -> State {
 }
 
 fn main() {
-    let mut state = State {
-        map: new(),
-        other: new(),
-        list: no_list(),
-    };
+    let mut state = anew(RangeKind::HalfOpen);
     let mut turns = 10000u32;
     while turns > 0 {
         let what = read_byte();

@@ -1,7 +1,7 @@
--- `test_map::echo_line` is safe and ends: the measure is the number of turns that are left.
+-- `test_maps::echo_line` is safe and ends: the measure is the number of turns that are left.
 use native.Mathlib.Omega.{arith}
-use Rattle.test_map.proofs.echo_line.Statement.{statement}
-use Rattle.test_map.proofs.echo_line.Tie as tie
+use Rattle.test_maps.proofs.echo_line.Statement.{statement}
+use Rattle.test_maps.proofs.echo_line.Tie as tie
 
 abbrev Inv-loop : tie.InvT-loop
 Inv-loop turns₀ turns = Unit {0}

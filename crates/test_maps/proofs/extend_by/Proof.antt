@@ -1,10 +1,10 @@
--- `test_map::extend_by` is safe: the part of the list that is lent is as long as it says.
+-- `test_maps::extend_by` is safe: the part of the list that is lent is as long as it says.
 use mathlib.Core.Path.{sym}
 use lib.Seq.{length-take-le}
 use native.Mathlib.Omega.{arith}
 use borrow.Author.Needs.{needs}
-use Rattle.test_map.proofs.extend_by.Statement.{statement}
-use Rattle.test_map.proofs.extend_by.Tie as tie
+use Rattle.test_maps.proofs.extend_by.Statement.{statement}
+use Rattle.test_maps.proofs.extend_by.Tie as tie
 
 returns : tie.Need-returns
 returns c = search needs

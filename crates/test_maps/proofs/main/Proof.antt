@@ -1,7 +1,7 @@
--- `test_inclusive_map::main` is safe and ends: the measure is the number of turns that are left.
+-- `test_maps::main` is safe and ends: the measure is the number of turns that are left.
 use native.Mathlib.Omega.{arith}
-use Rattle.test_inclusive_map.proofs.main.Statement.{statement}
-use Rattle.test_inclusive_map.proofs.main.Tie as tie
+use Rattle.test_maps.proofs.main.Statement.{statement}
+use Rattle.test_maps.proofs.main.Tie as tie
 
 abbrev Inv-loop : tie.InvT-loop
 Inv-loop state₀ turns₀ state turns = Unit {0}

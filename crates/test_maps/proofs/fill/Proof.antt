@@ -1,9 +1,9 @@
--- `test_map::fill` is safe and ends: the measure is the number of keys that are left.
+-- `test_maps::fill` is safe and ends: the measure is the number of keys that are left.
 use Prim.Native.Nat.{_-_}
 use native.Mathlib.Omega.{arith}
 use borrow.Author.Needs.{needs}
-use Rattle.test_map.proofs.fill.Statement.{statement}
-use Rattle.test_map.proofs.fill.Tie as tie
+use Rattle.test_maps.proofs.fill.Statement.{statement}
+use Rattle.test_maps.proofs.fill.Tie as tie
 
 abbrev Inv-loop : tie.InvT-loop
 Inv-loop m₀ key₀ t3 m key = Unit {0}
@@ -16,9 +16,6 @@ new-requires c κs = tt
 
 loop-holds : tie.Need-loop-holds Inv-loop μ-loop
 loop-holds c = tt
-
-add-put : tie.Need-add-put Inv-loop μ-loop
-add-put c = omega arith
 
 put-requires : tie.Need-put-requires Inv-loop μ-loop
 put-requires c κs = tt
@@ -52,7 +49,6 @@ fill-spec =
     μ-loop
     new-requires
     loop-holds
-    add-put
     put-requires
     add-key
     loop-less

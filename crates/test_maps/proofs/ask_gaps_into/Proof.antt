@@ -1,10 +1,10 @@
--- `test_map::ask_gaps_into` is safe: the part of the list that is lent is as long as it says.
+-- `test_maps::ask_gaps_into` is safe: the part of the list that is lent is as long as it says.
 use mathlib.Core.Path.{sym}
 use lib.Seq.{length-take-le}
 use native.Mathlib.Omega.{arith}
 use borrow.Author.Needs.{needs}
-use Rattle.test_map.proofs.ask_gaps_into.Statement.{statement}
-use Rattle.test_map.proofs.ask_gaps_into.Tie as tie
+use Rattle.test_maps.proofs.ask_gaps_into.Statement.{statement}
+use Rattle.test_maps.proofs.ask_gaps_into.Tie as tie
 
 slice-relend-prefix-ask-gaps : tie.Need-slice-relend-prefix-ask-gaps
 slice-relend-prefix-ask-gaps c = search needs
