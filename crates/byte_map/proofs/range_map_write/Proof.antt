@@ -4,10 +4,8 @@ use mathlib.Core.List.{[], _∷_}
 use base.Logic.{id⊢}
 use denote.Builtin.{u8}
 use Rattle.thin.proofs.Thin.{lend, slice-mut, proves}
-use Rattle.thin.proofs.Numbers.{a-struct}
+use Rattle.thin_types.proofs.Types.{count}
 use Rattle.map.proofs.Maps.{range-map}
-use Rattle.outcomes.proofs.Count as Count
-use Rattle.outcomes.proofs.Count.Laws as Count′
 use Rattle.byte_write.proofs.write_number as g
 use Rattle.byte_write.proofs.write_number.Symbol as g-def
 use Rattle.byte_write.proofs.write_number.Met as g-thm
@@ -19,8 +17,6 @@ use Rattle.byte_map.proofs.range_map_write.Code as code
 pub range-map-write-spec : {M : Type 1} → stated.statement M
 unfolding code.routine
 range-map-write-spec 𝓤 H 𝓜 𝓖 𝓡 =
-    proves 𝓤 H 𝓜 𝓖 𝓡 (lend range-map ∷ slice-mut u8 ∷ []) (a-struct Count.the-type Count′.the-laws Count′.mir refl)
-    (λ κs a. f.clauses 𝓤 H (𝓖 .A) (𝓜 .mem) (𝓡 .run) κs a .requires tt) (λ κs a. f.clauses 𝓤 H (𝓖 .A) (𝓜 .mem) (𝓡 .run) κs a .ensures tt)
-    (λ κs a. g.clauses 𝓤 H (𝓖 .A) (𝓜 .mem) (𝓡 .run) κs a .requires tt) (λ κs a. g.clauses 𝓤 H (𝓖 .A) (𝓜 .mem) (𝓡 .run) κs a .ensures tt)
-    (λ κs a k. id⊢ 𝓤 _) (λ κs a k r zs. id⊢ 𝓤 _)
-    code.env f-key.name code.function (code.unfolded 𝓤 H 𝓜 𝓡) g-def.name g-def.routine code.calls-byte-write·write-number (g-thm.met 𝓤 H 𝓜 𝓖 𝓡) (λ κs a. refl) refl (λ κs a. refl)
+    proves 𝓤 H 𝓜 𝓖 𝓡 (lend range-map ∷ slice-mut u8 ∷ []) count
+    (f.clauses 𝓤 H) (g.clauses 𝓤 H) (λ κs a. tt) (λ κs a. tt) (λ κs a k. (id⊢ 𝓤 _, λ r zs. id⊢ 𝓤 _))
+    code.env f-key.name code.function (code.unfolded 𝓤 H 𝓜 𝓡) g-def.name code.calls-byte-write·write-number (g-thm.met 𝓤 H 𝓜 𝓖 𝓡) (λ κs a. (refl, refl, refl))

@@ -4,10 +4,9 @@ use mathlib.Core.List.{[], _∷_}
 use mir.Syntax.{w64}
 use base.Logic.{id⊢}
 use Rattle.thin.proofs.Thin.{lend, value, proves}
-use Rattle.thin.proofs.Numbers.{a-struct, sint}
+use Rattle.thin.proofs.Numbers.{sint}
+use Rattle.thin_types.proofs.Types.{told}
 use Rattle.set.proofs.Sets.{range-set}
-use Rattle.outcomes.proofs.Told as Told
-use Rattle.outcomes.proofs.Told.Laws as Told′
 use Rattle.set.proofs.numbers.contains as g
 use Rattle.set.proofs.numbers.contains.Symbol as g-def
 use Rattle.set.proofs.numbers.contains.Met as g-thm
@@ -19,8 +18,6 @@ use Rattle.set.proofs.range_set_contains.Code as code
 pub range-set-contains-spec : {M : Type 1} → stated.statement M
 unfolding code.routine
 range-set-contains-spec 𝓤 H 𝓜 𝓖 𝓡 =
-    proves 𝓤 H 𝓜 𝓖 𝓡 (lend range-set ∷ value (sint w64) ∷ []) (a-struct Told.the-type Told′.the-laws Told′.mir refl)
-    (λ κs a. f.clauses 𝓤 H (𝓖 .A) (𝓜 .mem) (𝓡 .run) κs a .requires tt) (λ κs a. f.clauses 𝓤 H (𝓖 .A) (𝓜 .mem) (𝓡 .run) κs a .ensures tt)
-    (λ κs a. g.clauses 𝓤 H (𝓖 .A) (𝓜 .mem) (𝓡 .run) κs a .requires tt) (λ κs a. g.clauses 𝓤 H (𝓖 .A) (𝓜 .mem) (𝓡 .run) κs a .ensures tt)
-    (λ κs a k. id⊢ 𝓤 _) (λ κs a k r zs. id⊢ 𝓤 _)
-    code.env f-key.name code.function (code.unfolded 𝓤 H 𝓜 𝓡) g-def.name g-def.routine code.calls-set·numbers·contains (g-thm.met 𝓤 H 𝓜 𝓖 𝓡) (λ κs a. refl) refl (λ κs a. refl)
+    proves 𝓤 H 𝓜 𝓖 𝓡 (lend range-set ∷ value (sint w64) ∷ []) told
+    (f.clauses 𝓤 H) (g.clauses 𝓤 H) (λ κs a. tt) (λ κs a. tt) (λ κs a k. (id⊢ 𝓤 _, λ r zs. id⊢ 𝓤 _))
+    code.env f-key.name code.function (code.unfolded 𝓤 H 𝓜 𝓡) g-def.name code.calls-set·numbers·contains (g-thm.met 𝓤 H 𝓜 𝓖 𝓡) (λ κs a. (refl, refl, refl))

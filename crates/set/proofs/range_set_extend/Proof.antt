@@ -4,10 +4,8 @@ use mathlib.Core.List.{[], _∷_}
 use base.Logic.{id⊢}
 use denote.Builtin.{i64}
 use Rattle.thin.proofs.Thin.{lend-mut, slice, proves}
-use Rattle.thin.proofs.Numbers.{a-struct}
+use Rattle.thin_types.proofs.Types.{applied}
 use Rattle.set.proofs.Sets.{range-set}
-use Rattle.outcomes.proofs.Applied as Applied
-use Rattle.outcomes.proofs.Applied.Laws as Applied′
 use Rattle.set.proofs.numbers.extend as g
 use Rattle.set.proofs.numbers.extend.Symbol as g-def
 use Rattle.set.proofs.numbers.extend.Met as g-thm
@@ -19,8 +17,6 @@ use Rattle.set.proofs.range_set_extend.Code as code
 pub range-set-extend-spec : {M : Type 1} → stated.statement M
 unfolding code.routine
 range-set-extend-spec 𝓤 H 𝓜 𝓖 𝓡 =
-    proves 𝓤 H 𝓜 𝓖 𝓡 (lend-mut range-set ∷ slice i64 ∷ slice i64 ∷ []) (a-struct Applied.the-type Applied′.the-laws Applied′.mir refl)
-    (λ κs a. f.clauses 𝓤 H (𝓖 .A) (𝓜 .mem) (𝓡 .run) κs a .requires tt) (λ κs a. f.clauses 𝓤 H (𝓖 .A) (𝓜 .mem) (𝓡 .run) κs a .ensures tt)
-    (λ κs a. g.clauses 𝓤 H (𝓖 .A) (𝓜 .mem) (𝓡 .run) κs a .requires tt) (λ κs a. g.clauses 𝓤 H (𝓖 .A) (𝓜 .mem) (𝓡 .run) κs a .ensures tt)
-    (λ κs a k. id⊢ 𝓤 _) (λ κs a k r zs. id⊢ 𝓤 _)
-    code.env f-key.name code.function (code.unfolded 𝓤 H 𝓜 𝓡) g-def.name g-def.routine code.calls-set·numbers·extend (g-thm.met 𝓤 H 𝓜 𝓖 𝓡) (λ κs a. refl) refl (λ κs a. refl)
+    proves 𝓤 H 𝓜 𝓖 𝓡 (lend-mut range-set ∷ slice i64 ∷ slice i64 ∷ []) applied
+    (f.clauses 𝓤 H) (g.clauses 𝓤 H) (λ κs a. tt) (λ κs a. tt) (λ κs a k. (id⊢ 𝓤 _, λ r zs. id⊢ 𝓤 _))
+    code.env f-key.name code.function (code.unfolded 𝓤 H 𝓜 𝓡) g-def.name code.calls-set·numbers·extend (g-thm.met 𝓤 H 𝓜 𝓖 𝓡) (λ κs a. (refl, refl, refl))
