@@ -20,7 +20,7 @@ statuses-requires : tie.Need-statuses-requires
 statuses-requires c κs =
     let p = c .before .before .pre in
     let b = simp rank-back at (c .begun .ensures) in
-    (b .past, omega (arith, b .within, sound-held halfOpen _ (p .0), p .0 .values-as))
+    (omega (arith, b .past), omega (arith, b .within, sound-held halfOpen _ (p .0), p .0 .values-as))
 
 returns : tie.Need-returns
 returns c =
