@@ -1,12 +1,11 @@
-// A day's report of a map, for C and Rust.
+// A day's report of a map, for C and Rust. Each exported function has a file of its own, so that each line of code stands once in its file and a wrong one can be tried.
 use map::RangeMap;
 use report::DayReport;
 ghost use mathlib.Core.Path.{_≡_};
 ghost use Rattle.map.specs.Map.{held};
-ghost use Rattle.key.specs.Range.{halfOpen};
-ghost use Rattle.outcomes.specs.Stored.{Sound};
-ghost use Rattle.log_day.specs.Days.{dayOf};
-ghost use Rattle.report.specs.Report.{inDay, reporting, reportOf};
+ghost use Rattle.report.specs.Report.{reporting, reportOf};
+
+pub mod inner;
 
 // The report of a date's day in a zone: 4, 8 or 10, or all that document 01 says.
 #[no_mangle]
@@ -20,30 +19,6 @@ pub extern "C" fn range_map_day_report(
     ensures { λ r. ⌜ r ≡ reportOf (reporting (held (now (m .entry))) zone year month day) ⌝ }
 {
     report::day_report(
-        &m.count,
-        &m.starts,
-        &m.ends,
-        &m.values,
-        zone,
-        year,
-        month,
-        day,
-    )
-}
-
-// The same through the inner door: the map must be well formed.
-#[no_mangle]
-pub extern "C" fn range_map_day_report_unchecked(
-    m: &RangeMap,
-    zone: u8,
-    year: u16,
-    month: u8,
-    day: u8,
-) -> DayReport
-    requires { ⌜ Sound halfOpen (held (now m)) ⌝ }
-    ensures { λ r. ⌜ r ≡ reportOf (inDay (held (now (m .entry))) (dayOf zone year month day)) ⌝ }
-{
-    report::day_report_unchecked(
         &m.count,
         &m.starts,
         &m.ends,

@@ -183,9 +183,12 @@ fn print_key(key: i64) {
 }
 
 fn print_dots(kind: RangeKind) {
+    io::write_all(1, b"..");
     match kind {
-        RangeKind::HalfOpen => io::write_all(1, b".."),
-        RangeKind::Inclusive => io::write_all(1, b"..="),
+        RangeKind::HalfOpen => {}
+        RangeKind::Inclusive => {
+            io::write_all(1, b"=");
+        }
     }
 }
 
@@ -406,7 +409,7 @@ fn clear(m: Map) -> Map {
     let mut starts = m.starts;
     let mut ends = m.ends;
     let mut values = m.values;
-    numbers::clear(&mut count, &mut starts, &mut ends, &mut values);
+    numbers::clear(kind, &mut count, &mut starts, &mut ends, &mut values);
     io::write_all(1, b"clear\n");
     Map {
         kind: kind,

@@ -1,4 +1,4 @@
--- `day_report::range_map_day_report_unchecked` meets its contract: it lends all the fields of each map to `day_report_unchecked`, and passes the rest on (`thin`, Thin.antt).
+-- `day_report::inner::range_map_day_report_unchecked` meets its contract: it lends all the fields of each map to `day_report_unchecked`, and passes the rest on (`thin`, Thin.antt).
 use mathlib.Core.Path.{refl}
 use mathlib.Core.List.{[], _∷_}
 use mir.Syntax.{w8, w16}
@@ -11,10 +11,10 @@ use Rattle.report.proofs.DayReport.Laws as DayReport′
 use Rattle.report.proofs.day_report_unchecked as g
 use Rattle.report.proofs.day_report_unchecked.Symbol as g-def
 use Rattle.report.proofs.day_report_unchecked.Met as g-thm
-use Rattle.day_report.proofs.range_map_day_report_unchecked as f
-use Rattle.day_report.proofs.range_map_day_report_unchecked.Key as f-key
-use Rattle.day_report.proofs.range_map_day_report_unchecked.Statement as stated
-use Rattle.day_report.proofs.range_map_day_report_unchecked.Code as code
+use Rattle.day_report.proofs.inner.range_map_day_report_unchecked as f
+use Rattle.day_report.proofs.inner.range_map_day_report_unchecked.Key as f-key
+use Rattle.day_report.proofs.inner.range_map_day_report_unchecked.Statement as stated
+use Rattle.day_report.proofs.inner.range_map_day_report_unchecked.Code as code
 
 pub range-map-day-report-unchecked-spec : {M : Type 1} → stated.statement M
 unfolding code.routine
