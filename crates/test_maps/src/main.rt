@@ -357,7 +357,7 @@ fn insert(m: Map, r: Ends, value: u8) -> Map {
         value,
     );
     io::write_all(1, b"insert ");
-    print_range(m.kind, r);
+    print_range(kind, r);
     io::write_all(1, b">");
     print_digits(value);
     io::write_all(1, b": ");
@@ -389,7 +389,7 @@ fn remove(m: Map, r: Ends) -> Map {
         r.end,
     );
     io::write_all(1, b"remove ");
-    print_range(m.kind, r);
+    print_range(kind, r);
     io::write_all(1, b": ");
     print_digits(answer);
     let left = Map {
@@ -420,16 +420,16 @@ fn clear(m: Map) -> Map {
     }
 }
 
-// The end of the range that has one key.
-fn end_of_one(kind: RangeKind, key: u32) -> i64 {
+// The end of the range that has one key, by the key and the next.
+fn end_of_one(kind: RangeKind, key: u32, next: u32) -> i64 {
     match kind {
-        RangeKind::HalfOpen => key as i64 + 1,
+        RangeKind::HalfOpen => next as i64,
         RangeKind::Inclusive => key as i64,
     }
 }
 
 // A range of one key and of value 7, and nothing printed.
-fn put(m: Map, key: u32) -> Map {
+fn put(m: Map, key: u32, next: u32) -> Map {
     let kind = m.kind;
     let mut count = m.count;
     let mut starts = m.starts;
@@ -442,7 +442,7 @@ fn put(m: Map, key: u32) -> Map {
         &mut ends,
         &mut values,
         key as i64,
-        end_of_one(kind, key),
+        end_of_one(kind, key, next),
         7,
     );
     Map {
@@ -459,7 +459,7 @@ fn fill(kind: RangeKind) -> Map {
     let mut m = new(kind);
     let mut key = 0u32;
     while key < 1024 {
-        m = put(m, key);
+        m = put(m, key, key + 1);
         key += 2;
     }
     io::write_all(1, b"full");
@@ -469,13 +469,14 @@ fn fill(kind: RangeKind) -> Map {
 
 // Something in an unused place.
 fn damage(m: Map) -> Map {
+    let kind = m.kind;
     let mut values = m.values;
     values[511] = 1;
     let starts = m.starts;
     let ends = m.ends;
     io::write_all(1, b"damaged\n");
     Map {
-        kind: m.kind,
+        kind: kind,
         count: m.count,
         starts: starts,
         ends: ends,
@@ -485,11 +486,12 @@ fn damage(m: Map) -> Map {
 
 fn edit(m: Map, s: Step) -> Map {
     let what = s.what;
+    let kind = m.kind;
     match what {
         b'i' => insert(m, ends_of(s), digit(s.three)),
         b'r' => remove(m, ends_of(s)),
         b'c' => clear(m),
-        b'f' => fill(m.kind),
+        b'f' => fill(kind),
         b'd' => damage(m),
         _ => m,
     }

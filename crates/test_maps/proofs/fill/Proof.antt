@@ -17,6 +17,9 @@ new-requires c κs = tt
 loop-holds : tie.Need-loop-holds Inv-loop μ-loop
 loop-holds c = tt
 
+add-put : tie.Need-add-put Inv-loop μ-loop
+add-put c = omega arith
+
 put-requires : tie.Need-put-requires Inv-loop μ-loop
 put-requires c κs = tt
 
@@ -49,6 +52,7 @@ fill-spec =
     μ-loop
     new-requires
     loop-holds
+    add-put
     put-requires
     add-key
     loop-less

@@ -9,14 +9,8 @@ Inv-loop state₀ turns₀ state turns = Unit {0}
 abbrev μ-loop : tie.MeasureT-loop
 μ-loop state₀ turns₀ state turns = turns
 
-new-requires : tie.Need-new-requires Inv-loop μ-loop
-new-requires c κs = tt
-
-new-requires-2 : tie.Need-new-requires-2 Inv-loop μ-loop
-new-requires-2 c κs = tt
-
-no-list-requires : tie.Need-no-list-requires Inv-loop μ-loop
-no-list-requires c κs = tt
+anew-requires : tie.Need-anew-requires Inv-loop μ-loop
+anew-requires c κs = tt
 
 loop-holds : tie.Need-loop-holds Inv-loop μ-loop
 loop-holds c = tt
@@ -57,9 +51,7 @@ main-spec =
     (tie.spec
     Inv-loop
     μ-loop
-    new-requires
-    new-requires-2
-    no-list-requires
+    anew-requires
     loop-holds
     read-byte-requires
     returns

@@ -6,10 +6,10 @@ use Rattle.test_maps.proofs.print_list.Statement.{statement}
 use Rattle.test_maps.proofs.print_list.Tie as tie
 
 abbrev Inv-loop : tie.InvT-loop
-Inv-loop starts ends i₀ t4 i = Unit {0}
+Inv-loop kind starts ends i₀ t4 i = Unit {0}
 
 abbrev μ-loop : tie.MeasureT-loop
-μ-loop starts ends i₀ t4 i = 9 - i
+μ-loop kind starts ends i₀ t4 i = 9 - i
 
 loop-holds : tie.Need-loop-holds Inv-loop μ-loop
 loop-holds c = tt
