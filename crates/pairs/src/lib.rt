@@ -4,7 +4,7 @@ use key::RangeKind;
 use outcomes::PLACES;
 use places::plain;
 ghost use mathlib.Core.Path.{_≡_};
-ghost use mathlib.Core.Bool.{true, cond};
+ghost use mathlib.Core.Bool.{true, _&&_, cond};
 ghost use Prim.Native.Nat.{_+_, _≤_};
 ghost use lib.Dec.{ltb};
 ghost use Rattle.key.specs.Rank.{rank};
@@ -28,6 +28,27 @@ pub fn is_set_of(
         RangeKind::HalfOpen => plain::is_set(count, starts, ends, values),
         RangeKind::Inclusive => plain::is_inclusive_set(count, starts, ends, values),
     }
+}
+
+// Whether two lent sets are as they must be: the first is checked, then the second.
+pub fn are_sets_of(
+    kind: RangeKind,
+    count_a: usize,
+    starts_a: &[i64; PLACES],
+    ends_a: &[i64; PLACES],
+    values_a: &[u8; PLACES],
+    count_b: usize,
+    starts_b: &[i64; PLACES],
+    ends_b: &[i64; PLACES],
+    values_b: &[u8; PLACES],
+) -> bool
+    ensures { λ r. ⌜ r ≡ (formedSet (kindOf kind) (stored «count_a» (now («starts_a» .entry)) (now («ends_a» .entry)) (now («values_a» .entry))) && formedSet (kindOf kind) (stored «count_b» (now («starts_b» .entry)) (now («ends_b» .entry)) (now («values_b» .entry)))) ⌝ }
+    ensures { λ r. ⌜ (r ≡ true → SoundSet (kindOf kind) (stored «count_a» (now («starts_a» .entry)) (now («ends_a» .entry)) (now («values_a» .entry))) × SoundSet (kindOf kind) (stored «count_b» (now («starts_b» .entry)) (now («ends_b» .entry)) (now («values_b» .entry)))) ⌝ }
+{
+    if !is_set_of(kind, count_a, starts_a, ends_a, values_a) {
+        return false;
+    }
+    is_set_of(kind, count_b, starts_b, ends_b, values_b)
 }
 
 // Whether a range from `start` to `end` has a key: the one comparison in which the two kinds differ.

@@ -8,7 +8,7 @@ use outcomes::Counted;
 use outcomes::NOT_FORMED;
 use outcomes::PLACES;
 use outcomes::TOO_SHORT;
-use pairs::is_set_of;
+use pairs::are_sets_of;
 use pairs::meets;
 use pairs::pick;
 use pairs::roomy;
@@ -298,7 +298,7 @@ pub fn union_unchecked(
     Counted::Count(n)
 }
 
-// Any two sets are taken: the first is checked, then the second.
+// Any two sets are taken.
 pub fn union<'a, 'b>(
     kind: RangeKind,
     count_a: &'a usize,
@@ -314,10 +314,17 @@ pub fn union<'a, 'b>(
 ) -> Counted
     ensures { λ r. ⌜ wrote r (now («out_starts» .exit)) (now («out_ends» .exit)) ≡ uniting (kindOf kind) (lent («count_a» .entry) («starts_a» .entry) («ends_a» .entry) («values_a» .entry)) (lent («count_b» .entry) («starts_b» .entry) («ends_b» .entry) («values_b» .entry)) (now («out_starts» .entry)) (now («out_ends» .entry)) ⌝ }
 {
-    if !is_set_of(kind, *count_a, starts_a, ends_a, values_a) {
-        return Counted::Refused(NOT_FORMED);
-    }
-    if !is_set_of(kind, *count_b, starts_b, ends_b, values_b) {
+    if !are_sets_of(
+        kind,
+        *count_a,
+        starts_a,
+        ends_a,
+        values_a,
+        *count_b,
+        starts_b,
+        ends_b,
+        values_b,
+    ) {
         return Counted::Refused(NOT_FORMED);
     }
     union_unchecked(

@@ -1,7 +1,7 @@
 -- `intersection::intersection_unchecked` meets its contract.
 use Prim.Native.Nat.{_≤_}
+use native.Mathlib.Omega.{arith}
 use lib.ListN.{length}
-use borrow.Author.Needs.{needs}
 use borrow.Author.Tests.{not-true, not-false}
 use Rattle.key.specs.Range.{kindOf}
 use Rattle.lists.proofs.Answering.{answers-short, enough, answers-done}
@@ -12,7 +12,7 @@ use Rattle.intersection.proofs.intersection_unchecked.Statement.{statem
 use Rattle.intersection.proofs.intersection_unchecked.Tie as tie
 
 shorter-requires : tie.Need-shorter-requires
-shorter-requires c κs = search needs
+shorter-requires c κs = tt
 
 fits-requires : tie.Need-fits-requires
 fits-requires c κs = let s = c .before .before .before in (side (kindOf (s .args .kind)) (s .pre .0), side (kindOf (s .args .kind)) (s .pre .1))
@@ -37,10 +37,10 @@ write-requires c κs =
     (side (kindOf (a .kind)) (s .pre .0), side (kindOf (a .kind)) (s .pre .1), enough (kindOf (a .kind)) _ (a .out-starts .now) (a .out-ends .now) (f .before .before .shorter .ensures) (room f))
 
 same-length : tie.Need-same-length
-same-length c = search needs
+same-length c = omega arith
 
 same-length-2 : tie.Need-same-length-2
-same-length-2 c = search needs
+same-length-2 c = omega arith
 
 returns-2 : tie.Need-returns-2
 returns-2 c =

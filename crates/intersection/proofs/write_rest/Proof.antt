@@ -111,7 +111,7 @@ put-requires-2 : tie.Need-put-requires-2 Inv-loop μ-loop
 put-requires-2 c κs = last-room (c .before .before)
 
 add-result : tie.Need-add-result Inv-loop μ-loop
-add-result c = record { fits = last-fits (c .before .before .before .before .before) }
+add-result c = omega (arith, last-fits (c .before .before .before .before .before))
 
 same-length : tie.Need-same-length Inv-loop μ-loop
 same-length c = omega arith

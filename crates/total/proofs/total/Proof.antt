@@ -1,13 +1,12 @@
 -- `total::total` meets its contract.
 use mathlib.Core.Path.{sym, _∙_}
-use borrow.Author.Needs.{needs}
 use borrow.Author.Tests.{not-true, not-false}
 use Rattle.outcomes.specs.Sets.{totalling}
 use Rattle.total.proofs.total.Statement.{statement}
 use Rattle.total.proofs.total.Tie as tie
 
 is-set-of-requires : tie.Need-is-set-of-requires
-is-set-of-requires c κs = search needs
+is-set-of-requires c κs = tt
 
 returns : tie.Need-returns
 unfolding totalling
