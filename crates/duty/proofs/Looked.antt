@@ -6,7 +6,7 @@ use mathlib.Core.List.{List}
 use borrow.Author.Count.{below-more}
 use lib.Bits.{bitOr, or-add-and, and-le-l, and-le-r}
 use lib.ListN.{getD}
-use Rattle.duty.specs.Walk.{Statuses, Amiss}
+use Rattle.duty.specs.Counting.{Statuses, Amiss}
 
 -- of the places from `from` up to k
 pub record Seen (vs : List ℕ) (from k seen : ℕ) : Type 0 where

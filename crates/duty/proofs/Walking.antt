@@ -26,7 +26,8 @@ use Rattle.places.proofs.Seeking.{Passed, passed-facts, passed-after, ends-asce
 use Rattle.duty.specs.Duty.{dutyOf, counts, those, secondsOf, unrecordedOf, strange, totalsOf, tallying}
 use Rattle.duty.specs.declared.Tallied.{Tallied}
 use Rattle.duty.specs.declared.Tallied.the-variants as Tallied
-use Rattle.duty.specs.Walk.{limit, gathering, sumOf, completing, tallyOf, walked, Begun, Statuses, part, Met, Apart, Inside, empty, credited, Joined, Room, Added}
+use Rattle.duty.specs.Walk.{limit, gathering, sumOf, completing, tallyOf, walked}
+use Rattle.duty.specs.Counting.{Begun, Statuses, part, Met, Apart, Inside, empty, credited, Joined, Room, Added}
 use Rattle.duty.specs.declared.Tally.{Tally}
 use Rattle.duty.specs.declared.Walked.{Walked}
 use Rattle.duty.specs.declared.Walked.the-variants as Walked

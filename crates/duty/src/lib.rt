@@ -10,8 +10,8 @@ ghost use Rattle.outcomes.specs.Stored.{Sound, stored, ranges};
 ghost use Rattle.places.specs.Search.{Ascends, passed};
 ghost use Rattle.duty.specs.Duty.{tallying};
 ghost use Rattle.duty.specs.Walk.{limit, gathering, sumOf, completing, walked};
-ghost use Rattle.duty.specs.Walk.{Begun, Statuses, Amiss, Met, Apart, Inside, part};
-ghost use Rattle.duty.specs.Walk.{empty, credited, Both, Joined, Room, Added};
+ghost use Rattle.duty.specs.Counting.{Begun, Statuses, Amiss, Met, Apart, Inside, part};
+ghost use Rattle.duty.specs.Counting.{empty, credited, Both, Joined, Room, Added};
 
 // The number of document 01's table for a status outside 1 to 4.
 pub const STRANGE: u8 = 10;

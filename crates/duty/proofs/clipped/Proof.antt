@@ -7,7 +7,7 @@ use lib.ListN.{length, getD}
 use Rattle.key.specs.Rank.{rank, bitRank}
 use Rattle.key.proofs.Laws.{rank-back}
 use Rattle.duty.specs.Duty.{secondsOf}
-use Rattle.duty.specs.Walk.{part}
+use Rattle.duty.specs.Counting.{part}
 use Rattle.duty.proofs.Walking.{Going, going-end, going-duty, going-room, going-on}
 use Rattle.duty.proofs.clipped.Statement.{statement}
 use Rattle.duty.proofs.clipped.Tie as tie

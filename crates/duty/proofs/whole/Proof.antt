@@ -6,7 +6,7 @@ use lib.ListN.{length, getD}
 use Rattle.key.specs.Rank.{rank, bitRank}
 use Rattle.key.proofs.Laws.{rank-back}
 use Rattle.duty.specs.Duty.{secondsOf}
-use Rattle.duty.specs.Walk.{part}
+use Rattle.duty.specs.Counting.{part}
 use Rattle.duty.proofs.Walking.{Going, going-turned, going-duty, going-room, going-on, whole-secs, whole-fits, fewer, empty-has}
 use Rattle.duty.proofs.whole.Statement.{statement}
 use Rattle.duty.proofs.whole.Tie as tie
