@@ -1,3 +1,2 @@
--- Steps (the walk, one step at a time), Answers (what the inner door answers).
-pub mod Steps
+-- Answers (what the inner door answers).
 pub mod Answers

@@ -7,8 +7,8 @@ use mir.Val.{boolByte}
 use Rattle.pairs.specs.Lists.{Counting}
 use Rattle.pairs.proofs.Writing.{counting-step, counting-done}
 use Rattle.pairs.proofs.Columns.{one-goes}
-use Rattle.intersection.specs.Found.{shared, sharedFrom}
-use Rattle.intersection.proofs.Steps.{most, found-all, found-none, found-no, step-found}
+use Rattle.common_walk.specs.Found.{shared, sharedFrom}
+use Rattle.common_walk.proofs.Steps.{most, found-all, found-none, found-no, step-found}
 use Rattle.intersection.proofs.counted.Statement.{statement}
 use Rattle.intersection.proofs.counted.Tie as tie
 

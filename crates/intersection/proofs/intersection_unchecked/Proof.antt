@@ -6,7 +6,7 @@ use borrow.Author.Tests.{not-true, not-false}
 use Rattle.key.specs.Range.{kindOf}
 use Rattle.lists.proofs.Answering.{answers-short, enough, answers-done}
 use Rattle.pairs.proofs.Doors.{side}
-use Rattle.intersection.specs.Found.{shared}
+use Rattle.common_walk.specs.Found.{shared}
 use Rattle.intersection.proofs.Answers.{answered}
 use Rattle.intersection.proofs.intersection_unchecked.Statement.{statement}
 use Rattle.intersection.proofs.intersection_unchecked.Tie as tie

@@ -6,7 +6,7 @@ use borrow.Author.Tests.{not-true, not-false}
 use Rattle.key.specs.Range.{kindOf}
 use Rattle.lists.proofs.Answering.{answers-short, enough, answers-done}
 use Rattle.pairs.proofs.Doors.{side}
-use Rattle.union.specs.Found.{either}
+use Rattle.union_walk.specs.Found.{either}
 use Rattle.union.proofs.Answers.{answered}
 use Rattle.union.proofs.union_unchecked.Statement.{statement}
 use Rattle.union.proofs.union_unchecked.Tie as tie

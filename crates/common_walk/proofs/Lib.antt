@@ -1,0 +1,2 @@
+-- Steps (the walk, one step at a time).
+pub mod Steps

@@ -1,2 +1,0 @@
--- What the walk finds. What the doors promise is `joining`, of the crate `outcomes`.
-pub mod Found
