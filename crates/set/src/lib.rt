@@ -1,5 +1,6 @@
 // Module 5: the half-open set, from set.rs of rangemap. The exported functions, for C and Rust, are here: each lends all the fields of its set
-// to a function of `numbers`, which answers in numbers. Rattle callers use the crate `sets`.
+// to a function of the crate `set_numbers`, which answers in numbers. Rattle callers use the crate `sets`.
+use key::RangeKind;
 use outcomes::Applied;
 use outcomes::Count;
 use outcomes::Order;
@@ -8,9 +9,6 @@ use outcomes::Range;
 use outcomes::Stretch;
 use outcomes::Told;
 use outcomes::Total;
-
-pub mod numbers;
-
 ghost use mathlib.Core.Path.{_≡_};
 ghost use Rattle.key.specs.Range.{halfOpen};
 ghost use Rattle.outcomes.specs.Numbers.{toldOf, countOf, rangeOf, stretchOf, orderOf, totalOf};
@@ -18,6 +16,9 @@ ghost use Rattle.outcomes.specs.Outcomes.{Listed, cleared, extended, leaving};
 ghost use Rattle.outcomes.specs.Sets.{formedSet, intersecting, uniting, totalling};
 ghost use Rattle.sets.specs.Answers.{pairs, setContaining, setCounting, setEquality, setExtending, setFirst, setGaps, setInserting, setIsEmpty, setLast, setLookup, setMeeting, setOrdering, setOverlapping, setRangeAt, setRemoving};
 ghost use Rattle.set.specs.Set.{held};
+
+// The kind of this set's ranges.
+const KIND: RangeKind = RangeKind::HalfOpen;
 
 // A set of half-open ranges: the first `count` places hold the ranges, ascending; the others hold 0. All values are 0.
 #[repr(C)]
@@ -46,7 +47,7 @@ pub extern "C" fn range_set_new() -> RangeSet
 pub extern "C" fn range_set_is_empty(m: &RangeSet) -> Told
     ensures { λ r. ⌜ r ≡ toldOf (setIsEmpty halfOpen (held (now (m .entry)))) ⌝ }
 {
-    numbers::is_empty(&m.count, &m.starts, &m.ends, &m.values)
+    set_numbers::is_empty(KIND, &m.count, &m.starts, &m.ends, &m.values)
 }
 
 // How many ranges are held.
@@ -54,7 +55,7 @@ pub extern "C" fn range_set_is_empty(m: &RangeSet) -> Told
 pub extern "C" fn range_set_len(m: &RangeSet) -> Count
     ensures { λ r. ⌜ r ≡ countOf (setCounting halfOpen (held (now (m .entry)))) ⌝ }
 {
-    numbers::len(&m.count, &m.starts, &m.ends, &m.values)
+    set_numbers::len(KIND, &m.count, &m.starts, &m.ends, &m.values)
 }
 
 // The range at a place.
@@ -62,7 +63,7 @@ pub extern "C" fn range_set_len(m: &RangeSet) -> Count
 pub extern "C" fn range_set_range_at(m: &RangeSet, place: usize) -> Range
     ensures { λ r. ⌜ r ≡ rangeOf (setRangeAt halfOpen (held (now (m .entry))) place) ⌝ }
 {
-    numbers::range_at(&m.count, &m.starts, &m.ends, &m.values, place)
+    set_numbers::range_at(KIND, &m.count, &m.starts, &m.ends, &m.values, place)
 }
 
 // The first range.
@@ -70,7 +71,7 @@ pub extern "C" fn range_set_range_at(m: &RangeSet, place: usize) -> Range
 pub extern "C" fn range_set_first(m: &RangeSet) -> Range
     ensures { λ r. ⌜ r ≡ rangeOf (setFirst halfOpen (held (now (m .entry)))) ⌝ }
 {
-    numbers::first(&m.count, &m.starts, &m.ends, &m.values)
+    set_numbers::first(KIND, &m.count, &m.starts, &m.ends, &m.values)
 }
 
 // The last range.
@@ -78,7 +79,7 @@ pub extern "C" fn range_set_first(m: &RangeSet) -> Range
 pub extern "C" fn range_set_last(m: &RangeSet) -> Range
     ensures { λ r. ⌜ r ≡ rangeOf (setLast halfOpen (held (now (m .entry)))) ⌝ }
 {
-    numbers::last(&m.count, &m.starts, &m.ends, &m.values)
+    set_numbers::last(KIND, &m.count, &m.starts, &m.ends, &m.values)
 }
 
 // The range that holds the key.
@@ -86,7 +87,7 @@ pub extern "C" fn range_set_last(m: &RangeSet) -> Range
 pub extern "C" fn range_set_get(m: &RangeSet, key: i64) -> Range
     ensures { λ r. ⌜ r ≡ rangeOf (setLookup halfOpen (held (now (m .entry))) key) ⌝ }
 {
-    numbers::get(&m.count, &m.starts, &m.ends, &m.values, key)
+    set_numbers::get(KIND, &m.count, &m.starts, &m.ends, &m.values, key)
 }
 
 // Whether some range holds the key.
@@ -94,7 +95,7 @@ pub extern "C" fn range_set_get(m: &RangeSet, key: i64) -> Range
 pub extern "C" fn range_set_contains(m: &RangeSet, key: i64) -> Told
     ensures { λ r. ⌜ r ≡ toldOf (setContaining halfOpen (held (now (m .entry))) key) ⌝ }
 {
-    numbers::contains(&m.count, &m.starts, &m.ends, &m.values, key)
+    set_numbers::contains(KIND, &m.count, &m.starts, &m.ends, &m.values, key)
 }
 
 // Whether some range has a key of the query.
@@ -102,7 +103,7 @@ pub extern "C" fn range_set_contains(m: &RangeSet, key: i64) -> Told
 pub extern "C" fn range_set_overlaps(m: &RangeSet, start: i64, end: i64) -> Told
     ensures { λ r. ⌜ r ≡ toldOf (setMeeting halfOpen (held (now (m .entry))) start end) ⌝ }
 {
-    numbers::overlaps(&m.count, &m.starts, &m.ends, &m.values, start, end)
+    set_numbers::overlaps(KIND, &m.count, &m.starts, &m.ends, &m.values, start, end)
 }
 
 // Which consecutive stored part meets the query.
@@ -110,7 +111,7 @@ pub extern "C" fn range_set_overlaps(m: &RangeSet, start: i64, end: i64) -> Told
 pub extern "C" fn range_set_overlapping(m: &RangeSet, start: i64, end: i64) -> Stretch
     ensures { λ r. ⌜ r ≡ stretchOf (setOverlapping halfOpen (held (now (m .entry))) start end) ⌝ }
 {
-    numbers::overlapping(&m.count, &m.starts, &m.ends, &m.values, start, end)
+    set_numbers::overlapping(KIND, &m.count, &m.starts, &m.ends, &m.values, start, end)
 }
 
 // The maximal uncovered ranges inside start..end, into the first places of two lent lists.
@@ -124,7 +125,8 @@ pub extern "C" fn range_set_gaps(
 ) -> Count
     ensures { λ r. ⌜ Listed r (now («out_starts» .exit)) (now («out_ends» .exit)) (setGaps halfOpen (held (now (m .entry))) start end (now («out_starts» .entry)) (now («out_ends» .entry))) ⌝ }
 {
-    numbers::gaps(
+    set_numbers::gaps(
+        KIND,
         &m.count,
         &m.starts,
         &m.ends,
@@ -141,7 +143,8 @@ pub extern "C" fn range_set_gaps(
 pub extern "C" fn range_set_eq(a: &RangeSet, b: &RangeSet) -> Told
     ensures { λ r. ⌜ r ≡ toldOf (setEquality halfOpen (held (now (a .entry))) (held (now (b .entry)))) ⌝ }
 {
-    numbers::eq(
+    set_numbers::eq(
+        KIND,
         &a.count,
         &a.starts,
         &a.ends,
@@ -158,7 +161,8 @@ pub extern "C" fn range_set_eq(a: &RangeSet, b: &RangeSet) -> Told
 pub extern "C" fn range_set_cmp(a: &RangeSet, b: &RangeSet) -> Order
     ensures { λ r. ⌜ r ≡ orderOf (setOrdering halfOpen (held (now (a .entry))) (held (now (b .entry)))) ⌝ }
 {
-    numbers::cmp(
+    set_numbers::cmp(
+        KIND,
         &a.count,
         &a.starts,
         &a.ends,
@@ -175,7 +179,8 @@ pub extern "C" fn range_set_cmp(a: &RangeSet, b: &RangeSet) -> Order
 pub extern "C" fn range_set_insert(m: &mut RangeSet, start: i64, end: i64) -> u8
     ensures { λ r. ⌜ leaving r (held (now (m .exit))) ≡ setInserting halfOpen (held (now (m .entry))) start end ⌝ }
 {
-    numbers::insert(
+    set_numbers::insert(
+        KIND,
         &mut m.count,
         &mut m.starts,
         &mut m.ends,
@@ -190,7 +195,8 @@ pub extern "C" fn range_set_insert(m: &mut RangeSet, start: i64, end: i64) -> u8
 pub extern "C" fn range_set_remove(m: &mut RangeSet, start: i64, end: i64) -> u8
     ensures { λ r. ⌜ leaving r (held (now (m .exit))) ≡ setRemoving halfOpen (held (now (m .entry))) start end ⌝ }
 {
-    numbers::remove(
+    set_numbers::remove(
+        KIND,
         &mut m.count,
         &mut m.starts,
         &mut m.ends,
@@ -205,7 +211,8 @@ pub extern "C" fn range_set_remove(m: &mut RangeSet, start: i64, end: i64) -> u8
 pub extern "C" fn range_set_extend(m: &mut RangeSet, starts: &[i64], ends: &[i64]) -> Applied
     ensures { λ r. ⌜ extended r (held (now (m .exit))) ≡ setExtending halfOpen (held (now (m .entry))) (pairs (now (starts .entry)) (now (ends .entry))) ⌝ }
 {
-    numbers::extend(
+    set_numbers::extend(
+        KIND,
         &mut m.count,
         &mut m.starts,
         &mut m.ends,
@@ -220,7 +227,13 @@ pub extern "C" fn range_set_extend(m: &mut RangeSet, starts: &[i64], ends: &[i64
 pub extern "C" fn range_set_clear(m: &mut RangeSet)
     ensures { λ _. ⌜ (held (now (m .exit))) ≡ cleared halfOpen ⌝ }
 {
-    numbers::clear(&mut m.count, &mut m.starts, &mut m.ends, &mut m.values)
+    set_numbers::clear(
+        KIND,
+        &mut m.count,
+        &mut m.starts,
+        &mut m.ends,
+        &mut m.values,
+    )
 }
 
 // Whether a map is well formed.
@@ -228,7 +241,7 @@ pub extern "C" fn range_set_clear(m: &mut RangeSet)
 pub extern "C" fn range_set_well_formed(m: &RangeSet) -> bool
     ensures { λ r. ⌜ r ≡ formedSet halfOpen (held (now (m .entry))) ⌝ }
 {
-    numbers::is_formed(&m.count, &m.starts, &m.ends, &m.values)
+    set_numbers::is_formed(KIND, &m.count, &m.starts, &m.ends, &m.values)
 }
 
 // The common points of two sets as maximal ranges, into the first places of two lent lists.
@@ -241,7 +254,8 @@ pub extern "C" fn range_set_intersection(
 ) -> Count
     ensures { λ r. ⌜ Listed r (now («out_starts» .exit)) (now («out_ends» .exit)) (intersecting halfOpen (held (now (a .entry))) (held (now (b .entry))) (now («out_starts» .entry)) (now («out_ends» .entry))) ⌝ }
 {
-    numbers::intersection(
+    set_numbers::intersection(
+        KIND,
         &a.count,
         &a.starts,
         &a.ends,
@@ -265,7 +279,8 @@ pub extern "C" fn range_set_union(
 ) -> Count
     ensures { λ r. ⌜ Listed r (now («out_starts» .exit)) (now («out_ends» .exit)) (uniting halfOpen (held (now (a .entry))) (held (now (b .entry))) (now («out_starts» .entry)) (now («out_ends» .entry))) ⌝ }
 {
-    numbers::union(
+    set_numbers::union(
+        KIND,
         &a.count,
         &a.starts,
         &a.ends,
@@ -284,5 +299,5 @@ pub extern "C" fn range_set_union(
 pub extern "C" fn range_set_total(m: &RangeSet) -> Total
     ensures { λ r. ⌜ r ≡ totalOf (totalling halfOpen (held (now (m .entry)))) ⌝ }
 {
-    numbers::total(&m.count, &m.starts, &m.ends, &m.values)
+    set_numbers::total(KIND, &m.count, &m.starts, &m.ends, &m.values)
 }

@@ -314,15 +314,7 @@ fn print_list(kind: RangeKind, starts: [i64; 3], ends: [i64; 3]) {
 // ---- one set
 
 fn total(kind: RangeKind, m: Set) -> Total {
-    match kind {
-        RangeKind::HalfOpen => set::numbers::total(&m.count, &m.starts, &m.ends, &m.values),
-        RangeKind::Inclusive => inclusive_set::numbers::total(
-            &m.count,
-            &m.starts,
-            &m.ends,
-            &m.values,
-        ),
-    }
+    set_numbers::total(kind, &m.count, &m.starts, &m.ends, &m.values)
 }
 
 fn print_total(what: u8, r: Total) {
@@ -442,61 +434,35 @@ fn intersection(
     out_starts: &mut [i64],
     out_ends: &mut [i64],
 ) -> Count {
-    match kind {
-        RangeKind::HalfOpen => set::numbers::intersection(
-            &a.count,
-            &a.starts,
-            &a.ends,
-            &a.values,
-            &b.count,
-            &b.starts,
-            &b.ends,
-            &b.values,
-            out_starts,
-            out_ends,
-        ),
-        RangeKind::Inclusive => inclusive_set::numbers::intersection(
-            &a.count,
-            &a.starts,
-            &a.ends,
-            &a.values,
-            &b.count,
-            &b.starts,
-            &b.ends,
-            &b.values,
-            out_starts,
-            out_ends,
-        ),
-    }
+    set_numbers::intersection(
+        kind,
+        &a.count,
+        &a.starts,
+        &a.ends,
+        &a.values,
+        &b.count,
+        &b.starts,
+        &b.ends,
+        &b.values,
+        out_starts,
+        out_ends,
+    )
 }
 
 fn union(kind: RangeKind, a: Set, b: Set, out_starts: &mut [i64], out_ends: &mut [i64]) -> Count {
-    match kind {
-        RangeKind::HalfOpen => set::numbers::union(
-            &a.count,
-            &a.starts,
-            &a.ends,
-            &a.values,
-            &b.count,
-            &b.starts,
-            &b.ends,
-            &b.values,
-            out_starts,
-            out_ends,
-        ),
-        RangeKind::Inclusive => inclusive_set::numbers::union(
-            &a.count,
-            &a.starts,
-            &a.ends,
-            &a.values,
-            &b.count,
-            &b.starts,
-            &b.ends,
-            &b.values,
-            out_starts,
-            out_ends,
-        ),
-    }
+    set_numbers::union(
+        kind,
+        &a.count,
+        &a.starts,
+        &a.ends,
+        &a.values,
+        &b.count,
+        &b.starts,
+        &b.ends,
+        &b.values,
+        out_starts,
+        out_ends,
+    )
 }
 
 // Both into three places, which hold 0 before.

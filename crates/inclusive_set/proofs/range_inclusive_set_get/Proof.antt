@@ -1,15 +1,15 @@
--- `inclusive_set::range_inclusive_set_get` meets its contract: it lends all the fields of each set to `numbers::get`, and passes the rest on (`thin`, Thin.antt).
+-- `inclusive_set::range_inclusive_set_get` meets its contract: it lends all the fields of each set to `set_numbers::get`, and passes the rest on (`thin`, Thin.antt).
 use mathlib.Core.Path.{refl}
 use mathlib.Core.List.{[], _∷_}
 use mir.Syntax.{w64}
 use base.Logic.{id⊢}
-use Rattle.thin.proofs.Thin.{lend, value, proves}
+use Rattle.thin.proofs.Thin.{literal, lend, value, proves}
 use Rattle.thin.proofs.Numbers.{sint}
-use Rattle.thin_types.proofs.Types.{range}
+use Rattle.thin_types.proofs.Types.{the-kind, range}
 use Rattle.inclusive_set.proofs.Sets.{range-inclusive-set}
-use Rattle.inclusive_set.proofs.numbers.get as g
-use Rattle.inclusive_set.proofs.numbers.get.Symbol as g-def
-use Rattle.inclusive_set.proofs.numbers.get.Met as g-thm
+use Rattle.set_numbers.proofs.get as g
+use Rattle.set_numbers.proofs.get.Symbol as g-def
+use Rattle.set_numbers.proofs.get.Met as g-thm
 use Rattle.inclusive_set.proofs.range_inclusive_set_get as f
 use Rattle.inclusive_set.proofs.range_inclusive_set_get.Key as f-key
 use Rattle.inclusive_set.proofs.range_inclusive_set_get.Statement as stated
@@ -18,6 +18,6 @@ use Rattle.inclusive_set.proofs.range_inclusive_set_get.Code as code
 pub range-inclusive-set-get-spec : {M : Type 1} → stated.statement M
 unfolding code.routine
 range-inclusive-set-get-spec 𝓤 H 𝓜 𝓖 𝓡 =
-    proves 𝓤 H 𝓜 𝓖 𝓡 (lend range-inclusive-set ∷ value (sint w64) ∷ []) range
+    proves 𝓤 H 𝓜 𝓖 𝓡 (literal (the-kind code.function) ∷ lend range-inclusive-set ∷ value (sint w64) ∷ []) range
     (f.clauses 𝓤 H) (g.clauses 𝓤 H) (λ κs a. tt) (λ κs a. tt) (λ κs a k. (id⊢ 𝓤 _, λ r zs. id⊢ 𝓤 _))
-    code.env f-key.name code.function (code.unfolded 𝓤 H 𝓜 𝓡) g-def.name code.calls-inclusive-set·numbers·get (g-thm.met 𝓤 H 𝓜 𝓖 𝓡) (λ κs a. (refl, refl, refl))
+    code.env f-key.name code.function (code.unfolded 𝓤 H 𝓜 𝓡) g-def.name code.calls-set-numbers·get (g-thm.met 𝓤 H 𝓜 𝓖 𝓡) (λ κs a. (refl, refl, refl))

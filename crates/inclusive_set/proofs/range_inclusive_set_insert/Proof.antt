@@ -1,14 +1,15 @@
--- `inclusive_set::range_inclusive_set_insert` meets its contract: it lends all the fields of each set to `numbers::insert`, and passes the rest on (`thin`, Thin.antt).
+-- `inclusive_set::range_inclusive_set_insert` meets its contract: it lends all the fields of each set to `set_numbers::insert`, and passes the rest on (`thin`, Thin.antt).
 use mathlib.Core.Path.{refl}
 use mathlib.Core.List.{[], _∷_}
 use mir.Syntax.{w8, w64}
 use base.Logic.{id⊢}
-use Rattle.thin.proofs.Thin.{lend-mut, value, proves}
+use Rattle.thin.proofs.Thin.{literal, lend-mut, value, proves}
 use Rattle.thin.proofs.Numbers.{number, sint, uint}
+use Rattle.thin_types.proofs.Types.{the-kind}
 use Rattle.inclusive_set.proofs.Sets.{range-inclusive-set}
-use Rattle.inclusive_set.proofs.numbers.insert as g
-use Rattle.inclusive_set.proofs.numbers.insert.Symbol as g-def
-use Rattle.inclusive_set.proofs.numbers.insert.Met as g-thm
+use Rattle.set_numbers.proofs.insert as g
+use Rattle.set_numbers.proofs.insert.Symbol as g-def
+use Rattle.set_numbers.proofs.insert.Met as g-thm
 use Rattle.inclusive_set.proofs.range_inclusive_set_insert as f
 use Rattle.inclusive_set.proofs.range_inclusive_set_insert.Key as f-key
 use Rattle.inclusive_set.proofs.range_inclusive_set_insert.Statement as stated
@@ -17,6 +18,6 @@ use Rattle.inclusive_set.proofs.range_inclusive_set_insert.Code as code
 pub range-inclusive-set-insert-spec : {M : Type 1} → stated.statement M
 unfolding code.routine
 range-inclusive-set-insert-spec 𝓤 H 𝓜 𝓖 𝓡 =
-    proves 𝓤 H 𝓜 𝓖 𝓡 (lend-mut range-inclusive-set ∷ value (sint w64) ∷ value (sint w64) ∷ []) (number (uint w8))
+    proves 𝓤 H 𝓜 𝓖 𝓡 (literal (the-kind code.function) ∷ lend-mut range-inclusive-set ∷ value (sint w64) ∷ value (sint w64) ∷ []) (number (uint w8))
     (f.clauses 𝓤 H) (g.clauses 𝓤 H) (λ κs a. tt) (λ κs a. tt) (λ κs a k. (id⊢ 𝓤 _, λ r zs. id⊢ 𝓤 _))
-    code.env f-key.name code.function (code.unfolded 𝓤 H 𝓜 𝓡) g-def.name code.calls-inclusive-set·numbers·insert (g-thm.met 𝓤 H 𝓜 𝓖 𝓡) (λ κs a. (refl, refl, refl))
+    code.env f-key.name code.function (code.unfolded 𝓤 H 𝓜 𝓡) g-def.name code.calls-set-numbers·insert (g-thm.met 𝓤 H 𝓜 𝓖 𝓡) (λ κs a. (refl, refl, refl))

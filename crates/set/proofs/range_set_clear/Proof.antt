@@ -1,13 +1,14 @@
--- `set::range_set_clear` meets its contract: it lends all the fields of each set to `numbers::clear`, and passes the rest on (`thin`, Thin.antt).
+-- `set::range_set_clear` meets its contract: it lends all the fields of each set to `set_numbers::clear`, and passes the rest on (`thin`, Thin.antt).
 use mathlib.Core.Path.{refl}
 use mathlib.Core.List.{[], _∷_}
 use base.Logic.{id⊢}
-use Rattle.thin.proofs.Thin.{lend-mut, proves}
+use Rattle.thin.proofs.Thin.{literal, lend-mut, proves}
 use Rattle.thin.proofs.Numbers.{unit}
+use Rattle.thin_types.proofs.Types.{the-kind}
 use Rattle.set.proofs.Sets.{range-set}
-use Rattle.set.proofs.numbers.clear as g
-use Rattle.set.proofs.numbers.clear.Symbol as g-def
-use Rattle.set.proofs.numbers.clear.Met as g-thm
+use Rattle.set_numbers.proofs.clear as g
+use Rattle.set_numbers.proofs.clear.Symbol as g-def
+use Rattle.set_numbers.proofs.clear.Met as g-thm
 use Rattle.set.proofs.range_set_clear as f
 use Rattle.set.proofs.range_set_clear.Key as f-key
 use Rattle.set.proofs.range_set_clear.Statement as stated
@@ -16,6 +17,6 @@ use Rattle.set.proofs.range_set_clear.Code as code
 pub range-set-clear-spec : {M : Type 1} → stated.statement M
 unfolding code.routine
 range-set-clear-spec 𝓤 H 𝓜 𝓖 𝓡 =
-    proves 𝓤 H 𝓜 𝓖 𝓡 (lend-mut range-set ∷ []) unit
+    proves 𝓤 H 𝓜 𝓖 𝓡 (literal (the-kind code.function) ∷ lend-mut range-set ∷ []) unit
     (f.clauses 𝓤 H) (g.clauses 𝓤 H) (λ κs a. tt) (λ κs a. tt) (λ κs a k. (id⊢ 𝓤 _, λ r zs. id⊢ 𝓤 _))
-    code.env f-key.name code.function (code.unfolded 𝓤 H 𝓜 𝓡) g-def.name code.calls-set·numbers·clear (g-thm.met 𝓤 H 𝓜 𝓖 𝓡) (λ κs a. (refl, refl, refl))
+    code.env f-key.name code.function (code.unfolded 𝓤 H 𝓜 𝓡) g-def.name code.calls-set-numbers·clear (g-thm.met 𝓤 H 𝓜 𝓖 𝓡) (λ κs a. (refl, refl, refl))

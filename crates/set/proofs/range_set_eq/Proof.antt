@@ -1,13 +1,13 @@
--- `set::range_set_eq` meets its contract: it lends all the fields of each set to `numbers::eq`, and passes the rest on (`thin`, Thin.antt).
+-- `set::range_set_eq` meets its contract: it lends all the fields of each set to `set_numbers::eq`, and passes the rest on (`thin`, Thin.antt).
 use mathlib.Core.Path.{refl}
 use mathlib.Core.List.{[], _∷_}
 use base.Logic.{id⊢}
-use Rattle.thin.proofs.Thin.{lend, proves}
-use Rattle.thin_types.proofs.Types.{told}
+use Rattle.thin.proofs.Thin.{literal, lend, proves}
+use Rattle.thin_types.proofs.Types.{the-kind, told}
 use Rattle.set.proofs.Sets.{range-set}
-use Rattle.set.proofs.numbers.eq as g
-use Rattle.set.proofs.numbers.eq.Symbol as g-def
-use Rattle.set.proofs.numbers.eq.Met as g-thm
+use Rattle.set_numbers.proofs.eq as g
+use Rattle.set_numbers.proofs.eq.Symbol as g-def
+use Rattle.set_numbers.proofs.eq.Met as g-thm
 use Rattle.set.proofs.range_set_eq as f
 use Rattle.set.proofs.range_set_eq.Key as f-key
 use Rattle.set.proofs.range_set_eq.Statement as stated
@@ -16,6 +16,6 @@ use Rattle.set.proofs.range_set_eq.Code as code
 pub range-set-eq-spec : {M : Type 1} → stated.statement M
 unfolding code.routine
 range-set-eq-spec 𝓤 H 𝓜 𝓖 𝓡 =
-    proves 𝓤 H 𝓜 𝓖 𝓡 (lend range-set ∷ lend range-set ∷ []) told
+    proves 𝓤 H 𝓜 𝓖 𝓡 (literal (the-kind code.function) ∷ lend range-set ∷ lend range-set ∷ []) told
     (f.clauses 𝓤 H) (g.clauses 𝓤 H) (λ κs a. tt) (λ κs a. tt) (λ κs a k. (id⊢ 𝓤 _, λ r zs. id⊢ 𝓤 _))
-    code.env f-key.name code.function (code.unfolded 𝓤 H 𝓜 𝓡) g-def.name code.calls-set·numbers·eq (g-thm.met 𝓤 H 𝓜 𝓖 𝓡) (λ κs a. (refl, refl, refl))
+    code.env f-key.name code.function (code.unfolded 𝓤 H 𝓜 𝓡) g-def.name code.calls-set-numbers·eq (g-thm.met 𝓤 H 𝓜 𝓖 𝓡) (λ κs a. (refl, refl, refl))

@@ -1,16 +1,16 @@
--- `set::range_set_gaps` meets its contract: it lends all the fields of each set to `numbers::gaps`, and passes the rest on (`thin`, Thin.antt).
+-- `set::range_set_gaps` meets its contract: it lends all the fields of each set to `set_numbers::gaps`, and passes the rest on (`thin`, Thin.antt).
 use mathlib.Core.Path.{refl}
 use mathlib.Core.List.{[], _∷_}
 use mir.Syntax.{w64}
 use base.Logic.{id⊢}
 use denote.Builtin.{i64}
-use Rattle.thin.proofs.Thin.{lend, slice-mut, value, proves}
+use Rattle.thin.proofs.Thin.{literal, lend, slice-mut, value, proves}
 use Rattle.thin.proofs.Numbers.{sint}
-use Rattle.thin_types.proofs.Types.{count}
+use Rattle.thin_types.proofs.Types.{the-kind, count}
 use Rattle.set.proofs.Sets.{range-set}
-use Rattle.set.proofs.numbers.gaps as g
-use Rattle.set.proofs.numbers.gaps.Symbol as g-def
-use Rattle.set.proofs.numbers.gaps.Met as g-thm
+use Rattle.set_numbers.proofs.gaps as g
+use Rattle.set_numbers.proofs.gaps.Symbol as g-def
+use Rattle.set_numbers.proofs.gaps.Met as g-thm
 use Rattle.set.proofs.range_set_gaps as f
 use Rattle.set.proofs.range_set_gaps.Key as f-key
 use Rattle.set.proofs.range_set_gaps.Statement as stated
@@ -19,6 +19,6 @@ use Rattle.set.proofs.range_set_gaps.Code as code
 pub range-set-gaps-spec : {M : Type 1} → stated.statement M
 unfolding code.routine
 range-set-gaps-spec 𝓤 H 𝓜 𝓖 𝓡 =
-    proves 𝓤 H 𝓜 𝓖 𝓡 (lend range-set ∷ value (sint w64) ∷ value (sint w64) ∷ slice-mut i64 ∷ slice-mut i64 ∷ []) count
+    proves 𝓤 H 𝓜 𝓖 𝓡 (literal (the-kind code.function) ∷ lend range-set ∷ value (sint w64) ∷ value (sint w64) ∷ slice-mut i64 ∷ slice-mut i64 ∷ []) count
     (f.clauses 𝓤 H) (g.clauses 𝓤 H) (λ κs a. tt) (λ κs a. tt) (λ κs a k. (id⊢ 𝓤 _, λ r zs. id⊢ 𝓤 _))
-    code.env f-key.name code.function (code.unfolded 𝓤 H 𝓜 𝓡) g-def.name code.calls-set·numbers·gaps (g-thm.met 𝓤 H 𝓜 𝓖 𝓡) (λ κs a. (refl, refl, refl))
+    code.env f-key.name code.function (code.unfolded 𝓤 H 𝓜 𝓡) g-def.name code.calls-set-numbers·gaps (g-thm.met 𝓤 H 𝓜 𝓖 𝓡) (λ κs a. (refl, refl, refl))

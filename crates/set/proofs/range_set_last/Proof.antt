@@ -1,13 +1,13 @@
--- `set::range_set_last` meets its contract: it lends all the fields of each set to `numbers::last`, and passes the rest on (`thin`, Thin.antt).
+-- `set::range_set_last` meets its contract: it lends all the fields of each set to `set_numbers::last`, and passes the rest on (`thin`, Thin.antt).
 use mathlib.Core.Path.{refl}
 use mathlib.Core.List.{[], _∷_}
 use base.Logic.{id⊢}
-use Rattle.thin.proofs.Thin.{lend, proves}
-use Rattle.thin_types.proofs.Types.{range}
+use Rattle.thin.proofs.Thin.{literal, lend, proves}
+use Rattle.thin_types.proofs.Types.{the-kind, range}
 use Rattle.set.proofs.Sets.{range-set}
-use Rattle.set.proofs.numbers.last as g
-use Rattle.set.proofs.numbers.last.Symbol as g-def
-use Rattle.set.proofs.numbers.last.Met as g-thm
+use Rattle.set_numbers.proofs.last as g
+use Rattle.set_numbers.proofs.last.Symbol as g-def
+use Rattle.set_numbers.proofs.last.Met as g-thm
 use Rattle.set.proofs.range_set_last as f
 use Rattle.set.proofs.range_set_last.Key as f-key
 use Rattle.set.proofs.range_set_last.Statement as stated
@@ -16,6 +16,6 @@ use Rattle.set.proofs.range_set_last.Code as code
 pub range-set-last-spec : {M : Type 1} → stated.statement M
 unfolding code.routine
 range-set-last-spec 𝓤 H 𝓜 𝓖 𝓡 =
-    proves 𝓤 H 𝓜 𝓖 𝓡 (lend range-set ∷ []) range
+    proves 𝓤 H 𝓜 𝓖 𝓡 (literal (the-kind code.function) ∷ lend range-set ∷ []) range
     (f.clauses 𝓤 H) (g.clauses 𝓤 H) (λ κs a. tt) (λ κs a. tt) (λ κs a k. (id⊢ 𝓤 _, λ r zs. id⊢ 𝓤 _))
-    code.env f-key.name code.function (code.unfolded 𝓤 H 𝓜 𝓡) g-def.name code.calls-set·numbers·last (g-thm.met 𝓤 H 𝓜 𝓖 𝓡) (λ κs a. (refl, refl, refl))
+    code.env f-key.name code.function (code.unfolded 𝓤 H 𝓜 𝓡) g-def.name code.calls-set-numbers·last (g-thm.met 𝓤 H 𝓜 𝓖 𝓡) (λ κs a. (refl, refl, refl))
