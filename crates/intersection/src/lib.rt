@@ -8,7 +8,7 @@ use outcomes::Counted;
 use outcomes::NOT_FORMED;
 use outcomes::PLACES;
 use outcomes::TOO_SHORT;
-use pairs::are_sets_of;
+use pairs::are_sets;
 use pairs::roomy;
 ghost use mathlib.Core.Path.{_≡_};
 ghost use Prim.Native.Nat.{_≤_};
@@ -175,7 +175,7 @@ pub fn intersection<'a, 'b>(
 ) -> Counted
     ensures { λ r. ⌜ wrote r (now («out_starts» .exit)) (now («out_ends» .exit)) ≡ intersecting (kindOf kind) (lent («count_a» .entry) («starts_a» .entry) («ends_a» .entry) («values_a» .entry)) (lent («count_b» .entry) («starts_b» .entry) («ends_b» .entry) («values_b» .entry)) (now («out_starts» .entry)) (now («out_ends» .entry)) ⌝ }
 {
-    if !are_sets_of(
+    if !are_sets(
         kind,
         *count_a,
         starts_a,

@@ -2,7 +2,7 @@
 // since no processor foresees which of two sets comes next.
 use key::RangeKind;
 use outcomes::PLACES;
-use places::plain;
+use places::plain::is_set;
 ghost use mathlib.Core.Path.{_≡_};
 ghost use mathlib.Core.Bool.{true, _&&_, cond};
 ghost use Prim.Native.Nat.{_+_, _≤_};
@@ -13,25 +13,8 @@ ghost use Rattle.outcomes.specs.Stored.{stored};
 ghost use Rattle.outcomes.specs.Sets.{formedSet, SoundSet};
 ghost use Rattle.pairs.specs.Kind.{wide};
 
-// Whether a lent set is as it must be.
-pub fn is_set_of(
-    kind: RangeKind,
-    count: usize,
-    starts: &[i64; PLACES],
-    ends: &[i64; PLACES],
-    values: &[u8; PLACES],
-) -> bool
-    ensures { λ r. ⌜ r ≡ formedSet (kindOf kind) (stored count (now (starts .entry)) (now (ends .entry)) (now (values .entry))) ⌝ }
-    ensures { λ r. ⌜ (r ≡ true → SoundSet (kindOf kind) (stored count (now (starts .entry)) (now (ends .entry)) (now (values .entry)))) ⌝ }
-{
-    match kind {
-        RangeKind::HalfOpen => plain::is_set(count, starts, ends, values),
-        RangeKind::Inclusive => plain::is_inclusive_set(count, starts, ends, values),
-    }
-}
-
 // Whether two lent sets are as they must be: the first is checked, then the second.
-pub fn are_sets_of(
+pub fn are_sets(
     kind: RangeKind,
     count_a: usize,
     starts_a: &[i64; PLACES],
@@ -45,10 +28,10 @@ pub fn are_sets_of(
     ensures { λ r. ⌜ r ≡ (formedSet (kindOf kind) (stored «count_a» (now («starts_a» .entry)) (now («ends_a» .entry)) (now («values_a» .entry))) && formedSet (kindOf kind) (stored «count_b» (now («starts_b» .entry)) (now («ends_b» .entry)) (now («values_b» .entry)))) ⌝ }
     ensures { λ r. ⌜ (r ≡ true → SoundSet (kindOf kind) (stored «count_a» (now («starts_a» .entry)) (now («ends_a» .entry)) (now («values_a» .entry))) × SoundSet (kindOf kind) (stored «count_b» (now («starts_b» .entry)) (now («ends_b» .entry)) (now («values_b» .entry)))) ⌝ }
 {
-    if !is_set_of(kind, count_a, starts_a, ends_a, values_a) {
+    if !is_set(kind, count_a, starts_a, ends_a, values_a) {
         return false;
     }
-    is_set_of(kind, count_b, starts_b, ends_b, values_b)
+    is_set(kind, count_b, starts_b, ends_b, values_b)
 }
 
 // Whether a range from `start` to `end` has a key: the one comparison in which the two kinds differ.

@@ -15,7 +15,6 @@ use outcomes::range_of;
 use outcomes::stretch_of;
 use outcomes::told_of;
 use outcomes::total_of;
-use places::plain::plain;
 ghost use mathlib.Core.Path.{_≡_};
 ghost use Rattle.key.specs.Range.{kindOf};
 ghost use Rattle.outcomes.specs.Stored.{lent};
@@ -281,10 +280,7 @@ pub fn is_formed<'a>(
 ) -> bool
     ensures { λ r. ⌜ r ≡ formedSet (kindOf kind) (lent (count .entry) (starts .entry) (ends .entry) (values .entry)) ⌝ }
 {
-    if !places::formed::is_formed(kind, *count, starts, ends, values) {
-        return false;
-    }
-    plain(values)
+    places::plain::is_set(kind, *count, starts, ends, values)
 }
 
 pub fn intersection<'a, 'b>(
@@ -302,32 +298,19 @@ pub fn intersection<'a, 'b>(
 ) -> Count
     ensures { λ r. ⌜ Listed r (now («out_starts» .exit)) (now («out_ends» .exit)) (intersecting (kindOf kind) (lent (count .entry) (starts .entry) (ends .entry) (values .entry)) (lent (count2 .entry) (starts2 .entry) (ends2 .entry) (values2 .entry)) (now («out_starts» .entry)) (now («out_ends» .entry))) ⌝ }
 {
-    match kind {
-        RangeKind::HalfOpen => count_of(intersection::half_open::intersection(
-            count,
-            starts,
-            ends,
-            values,
-            count2,
-            starts2,
-            ends2,
-            values2,
-            out_starts,
-            out_ends,
-        )),
-        RangeKind::Inclusive => count_of(intersection::inclusive::intersection(
-            count,
-            starts,
-            ends,
-            values,
-            count2,
-            starts2,
-            ends2,
-            values2,
-            out_starts,
-            out_ends,
-        )),
-    }
+    count_of(intersection::intersection(
+        kind,
+        count,
+        starts,
+        ends,
+        values,
+        count2,
+        starts2,
+        ends2,
+        values2,
+        out_starts,
+        out_ends,
+    ))
 }
 
 pub fn union<'a, 'b>(
@@ -345,32 +328,19 @@ pub fn union<'a, 'b>(
 ) -> Count
     ensures { λ r. ⌜ Listed r (now («out_starts» .exit)) (now («out_ends» .exit)) (uniting (kindOf kind) (lent (count .entry) (starts .entry) (ends .entry) (values .entry)) (lent (count2 .entry) (starts2 .entry) (ends2 .entry) (values2 .entry)) (now («out_starts» .entry)) (now («out_ends» .entry))) ⌝ }
 {
-    match kind {
-        RangeKind::HalfOpen => count_of(union::half_open::union(
-            count,
-            starts,
-            ends,
-            values,
-            count2,
-            starts2,
-            ends2,
-            values2,
-            out_starts,
-            out_ends,
-        )),
-        RangeKind::Inclusive => count_of(union::inclusive::union(
-            count,
-            starts,
-            ends,
-            values,
-            count2,
-            starts2,
-            ends2,
-            values2,
-            out_starts,
-            out_ends,
-        )),
-    }
+    count_of(union::union(
+        kind,
+        count,
+        starts,
+        ends,
+        values,
+        count2,
+        starts2,
+        ends2,
+        values2,
+        out_starts,
+        out_ends,
+    ))
 }
 
 pub fn total<'a>(
@@ -382,8 +352,5 @@ pub fn total<'a>(
 ) -> Total
     ensures { λ r. ⌜ r ≡ totalOf (totalling (kindOf kind) (lent (count .entry) (starts .entry) (ends .entry) (values .entry))) ⌝ }
 {
-    match kind {
-        RangeKind::HalfOpen => total_of(total::half_open::total(count, starts, ends, values)),
-        RangeKind::Inclusive => total_of(total::inclusive::total(count, starts, ends, values)),
-    }
+    total_of(total::total(kind, count, starts, ends, values))
 }

@@ -4,8 +4,8 @@ use outcomes::NOT_FORMED;
 use outcomes::PLACES;
 use outcomes::TOTAL_OVER;
 use outcomes::Totalled;
-use pairs::is_set_of;
 use pairs::width;
+use places::plain::is_set;
 ghost use mathlib.Core.Path.{_≡_};
 ghost use Prim.Native.Nat.{_-_, _≤_, _<_};
 ghost use Rattle.key.specs.Decides.{Decides};
@@ -84,7 +84,7 @@ pub fn total<'a>(
 ) -> Totalled
     ensures { λ r. ⌜ r ≡ totalling (kindOf kind) (lent (count .entry) (starts .entry) (ends .entry) (values .entry)) ⌝ }
 {
-    if !is_set_of(kind, *count, starts, ends, values) {
+    if !is_set(kind, *count, starts, ends, values) {
         return Totalled::Refused(NOT_FORMED);
     }
     total_unchecked(kind, *count, starts, ends, values)

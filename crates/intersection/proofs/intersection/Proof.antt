@@ -6,15 +6,15 @@ use Rattle.outcomes.specs.Sets.{intersecting}
 use Rattle.intersection.proofs.intersection.Statement.{statement}
 use Rattle.intersection.proofs.intersection.Tie as tie
 
-are-sets-of-requires : tie.Need-are-sets-of-requires
-are-sets-of-requires c κs = tt
+are-sets-requires : tie.Need-are-sets-requires
+are-sets-requires c κs = tt
 
 returns : tie.Need-returns
 unfolding intersecting
-returns c = let asked = c .before .are-sets-of in rw (sym (asked .ensures .0) ∙ not-true (asked .result) (c .if1 .taken))
+returns c = let asked = c .before .are-sets in rw (sym (asked .ensures .0) ∙ not-true (asked .result) (c .if1 .taken))
 
 intersection-unchecked-requires : tie.Need-intersection-unchecked-requires
-intersection-unchecked-requires c κs = let e = c .before .before .before .before .before .before .before .before in e .before .are-sets-of .ensures .1 (not-false (e .before .are-sets-of .result) (e .if1 .left))
+intersection-unchecked-requires c κs = let e = c .before .before .before .before .before .before .before .before in e .before .are-sets .ensures .1 (not-false (e .before .are-sets .result) (e .if1 .left))
 
 same-length : tie.Need-same-length
 same-length c = omega arith
@@ -26,14 +26,14 @@ returns-2 : tie.Need-returns-2
 unfolding intersecting
 returns-2 c =
     let e = c .before .before .before .before .before .before .before .before .before .before .before in
-    let asked = e .before .are-sets-of in
+    let asked = e .before .are-sets in
     rw (sym (asked .ensures .0) ∙ not-false (asked .result) (e .if1 .left)) (c .before .before .intersection-unchecked .ensures)
 
 pub intersection-spec : {M : Type 1} → statement M
 intersection-spec =
     tie.close
     (tie.spec
-    are-sets-of-requires
+    are-sets-requires
     returns
     intersection-unchecked-requires
     same-length

@@ -5,19 +5,19 @@ use Rattle.outcomes.specs.Sets.{totalling}
 use Rattle.total.proofs.total.Statement.{statement}
 use Rattle.total.proofs.total.Tie as tie
 
-is-set-of-requires : tie.Need-is-set-of-requires
-is-set-of-requires c κs = tt
+is-set-requires : tie.Need-is-set-requires
+is-set-requires c κs = tt
 
 returns : tie.Need-returns
 unfolding totalling
-returns c = rw (sym (c .before .is-set-of .ensures .0) ∙ not-true _ (c .if1 .taken))
+returns c = rw (sym (c .before .is-set .ensures .0) ∙ not-true _ (c .if1 .taken))
 
 total-unchecked-requires : tie.Need-total-unchecked-requires
-total-unchecked-requires c κs = let f = c .before .before .before in f .before .is-set-of .ensures .1 (not-false _ (f .if1 .left))
+total-unchecked-requires c κs = let f = c .before .before .before in f .before .is-set .ensures .1 (not-false _ (f .if1 .left))
 
 returns-2 : tie.Need-returns-2
 unfolding totalling
-returns-2 c = let f = c .before .before .before .before in rw (sym (f .before .is-set-of .ensures .0) ∙ not-false _ (f .if1 .left)) (c .total-unchecked .ensures)
+returns-2 c = let f = c .before .before .before .before in rw (sym (f .before .is-set .ensures .0) ∙ not-false _ (f .if1 .left)) (c .total-unchecked .ensures)
 
 pub total-spec : {M : Type 1} → statement M
-total-spec = tie.close (tie.spec is-set-of-requires returns total-unchecked-requires returns-2)
+total-spec = tie.close (tie.spec is-set-requires returns total-unchecked-requires returns-2)
