@@ -19,5 +19,5 @@ pub range-map-overlaps-spec : {M : Type 1} → stated.statement M
 unfolding code.routine
 range-map-overlaps-spec 𝓤 H 𝓜 𝓖 𝓡 =
     proves 𝓤 H 𝓜 𝓖 𝓡 (literal (the-kind code.function) ∷ lend range-map ∷ value (sint w64) ∷ value (sint w64) ∷ []) told
-    (f.clauses 𝓤 H) (g.clauses 𝓤 H) (λ κs a. tt) (λ κs a. tt) (λ κs a k. (id⊢ 𝓤 _, λ r zs. id⊢ 𝓤 _))
+    (f.clauses 𝓤 H) (g.clauses 𝓤 H) (λ κs a k x. (tt, id⊢ 𝓤 _, λ r zs. id⊢ 𝓤 _))
     code.env f-key.name code.function (code.unfolded 𝓤 H 𝓜 𝓡) g-def.name code.calls-numbers·overlaps (g-thm.met 𝓤 H 𝓜 𝓖 𝓡) (λ κs a. (refl, refl, refl))
