@@ -1,5 +1,5 @@
-// What a map holds at a key and over a range, over all its fields, for either kind: the check of the lent map, and then the inner door of
-// its kind. Any map is taken.
+// What a map holds at a key and over a range, over all its fields, for either kind: the check of the lent map, and then the inner door.
+// Any map is taken.
 use key::RangeKind;
 use outcomes::Asked;
 use outcomes::Counted;
@@ -48,10 +48,7 @@ pub fn contains_key<'a>(
     if !is_formed(kind, *count, starts, ends, values) {
         return Asked::Refused(NOT_FORMED);
     }
-    match kind {
-        RangeKind::HalfOpen => lookup::half_open::contains_key(*count, starts, ends, values, key),
-        RangeKind::Inclusive => lookup::inclusive::contains_key(*count, starts, ends, values, key),
-    }
+    lookup::contains_key(kind, *count, starts, ends, values, key)
 }
 
 // Whether some range has a key of the query.
@@ -69,24 +66,7 @@ pub fn overlaps<'a>(
     if !is_formed(kind, *count, starts, ends, values) {
         return Asked::Refused(NOT_FORMED);
     }
-    match kind {
-        RangeKind::HalfOpen => lookup::half_open::overlaps(
-            *count,
-            starts,
-            ends,
-            values,
-            start,
-            end,
-        ),
-        RangeKind::Inclusive => lookup::inclusive::overlaps(
-            *count,
-            starts,
-            ends,
-            values,
-            start,
-            end,
-        ),
-    }
+    lookup::overlaps(kind, *count, starts, ends, values, start, end)
 }
 
 // Which consecutive stored part meets the query.
@@ -104,24 +84,7 @@ pub fn overlapping<'a>(
     if !is_formed(kind, *count, starts, ends, values) {
         return Part::Refused(NOT_FORMED);
     }
-    match kind {
-        RangeKind::HalfOpen => lookup::half_open::overlapping(
-            *count,
-            starts,
-            ends,
-            values,
-            start,
-            end,
-        ),
-        RangeKind::Inclusive => lookup::inclusive::overlapping(
-            *count,
-            starts,
-            ends,
-            values,
-            start,
-            end,
-        ),
-    }
+    lookup::overlapping(kind, *count, starts, ends, values, start, end)
 }
 
 // The maximal uncovered ranges inside the outer range, into the first places of two lent lists.

@@ -21,10 +21,7 @@ pub fn get_key_value<'a>(
     requires { ⌜ Sound (kindOf kind) (lent count starts ends values) ⌝ }
     ensures { λ r. ⌜ r ≡ found (kindOf kind) (lent (count .entry) (starts .entry) (ends .entry) (values .entry)) key ⌝ }
 {
-    match kind {
-        RangeKind::HalfOpen => lookup::half_open::get_key_value(*count, starts, ends, values, key),
-        RangeKind::Inclusive => lookup::inclusive::get_key_value(*count, starts, ends, values, key),
-    }
+    lookup::get_key_value(kind, *count, starts, ends, values, key)
 }
 
 // The maximal uncovered ranges inside the outer range, into the first places of two lent lists.

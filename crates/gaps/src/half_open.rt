@@ -1,5 +1,7 @@
 // Gaps among half-open ranges, start..end.
 use crate::between;
+use crate::fits;
+use key::RangeKind;
 use lists::put;
 use lists::shorter;
 use outcomes::Counted;
@@ -9,7 +11,6 @@ use places::search;
 ghost use mathlib.Core.Path.{_≡_};
 ghost use Prim.Native.Nat.{_+_, _≤_, _<_};
 ghost use lib.ListN.{length};
-ghost use Rattle.key.specs.Decides.{Decides};
 ghost use Rattle.key.specs.Rank.{rank};
 ghost use Rattle.key.specs.Range.{halfOpen};
 ghost use Rattle.outcomes.specs.Stored.{Sound, stored};
@@ -18,7 +19,14 @@ ghost use Rattle.lists.specs.Lists.{wrote, Room, Puts};
 ghost use Rattle.gaps.specs.Walk.{gap, found, Places};
 
 // How many gaps the places from `from` on leave between start and end.
-fn counted(starts: &[i64], ends: &[i64], count: usize, from: usize, start: i64, end: i64) -> usize
+pub fn counted(
+    starts: &[i64],
+    ends: &[i64],
+    count: usize,
+    from: usize,
+    start: i64,
+    end: i64,
+) -> usize
     requires { ⌜ Places count from (now starts) (now ends) × (rank start < rank end) ⌝ }
     ensures { λ r. ⌜ r ≡ length (found halfOpen (now (starts .entry)) (now (ends .entry)) count from start end) ⌝ }
 {
@@ -38,28 +46,6 @@ fn counted(starts: &[i64], ends: &[i64], count: usize, from: usize, start: i64, 
         k += 1;
     }
     n + 1
-}
-
-// Whether `room` places are enough for the gaps. There is at most one before each range, and one more, so mostly none is counted.
-fn fits(
-    starts: &[i64],
-    ends: &[i64],
-    count: usize,
-    from: usize,
-    start: i64,
-    end: i64,
-    room: usize,
-) -> bool
-    requires { ⌜ Places count from (now starts) (now ends) × (rank start < rank end) ⌝ }
-    ensures { λ r. ⌜ Decides r (length (found halfOpen (now (starts .entry)) (now (ends .entry)) count from start end) ≤ room) ⌝ }
-{
-    if count - from < room {
-        return true;
-    }
-    if room < counted(starts, ends, count, from, start, end) {
-        return false;
-    }
-    true
 }
 
 // Writes the gap from the cursor up to the next range into place `n`, if there is one, and answers the next place.
@@ -138,7 +124,16 @@ pub fn gaps(
     }
     let from = search::ended(ends, count, start);
     let room = shorter(out_starts.len(), out_ends.len());
-    if !fits(starts, ends, count, from, start, end, room) {
+    if !fits(
+        RangeKind::HalfOpen,
+        starts,
+        ends,
+        count,
+        from,
+        start,
+        end,
+        room,
+    ) {
         return Counted::Refused(TOO_SHORT);
     }
     let n = write(starts, ends, count, from, start, end, out_starts, out_ends);

@@ -13,6 +13,7 @@ use Rattle.span.specs.Span.{Span, span}
 use Rattle.span.specs.Operations.{overlaps, any, holds}
 use Rattle.key.specs.Rank.{rank}
 use Rattle.key.specs.Range.{Kind, rangeOf}
+use Rattle.key.specs.Decides.{Decides}
 use Rattle.key.proofs.Lawful.{Lawful}
 use Rattle.outcomes.specs.Stored.{Stored, ranges, Sound}
 use Rattle.outcomes.specs.Outcomes.{firstPlace, howMany, partOf, placed, found, contained, met, metPart}
@@ -33,6 +34,10 @@ pub reached : {kind : Kind} {n p r : ℕ} {ends : List ℤ} {k : ℤ} → ((e : 
 reached {p = p} {ends = ends} f g b e =
     let h = passed-facts ends b e in
     record { within = h .within; below = λ j i. f (getD ends j (pos 0)) (h .below j i); at = λ i. omega (arith, g (getD ends p (pos 0)) (h .at i)) }
+
+-- what the test for an empty range leaves where it says no
+pub not-full : {r : Bool} {a b : ℕ} → Decides r (a < b) → r ≡ false → b ≤ a
+not-full {r} {a} {b} d e = elim (decLt a b) [ yes h ↦ absurd (d .wrong e h) | no h ↦ omega arith ]
 
 -- a place of a map
 module _ (m : Stored) (i : ℕ) where

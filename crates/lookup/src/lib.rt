@@ -1,15 +1,21 @@
-// Lookup in a map, for half-open ranges (mod half_open) and inclusive ones (mod inclusive). These are the inner doors: they check nothing.
-// From map.rs and inclusive_map.rs of rangemap.
+// Lookup in a map of either kind. These are the inner doors: they check nothing. From map.rs and inclusive_map.rs of rangemap.
+// The kinds differ in two places: whether an end is in its range (`first_reaching`), and whether a range from one key to another is empty
+// (`full`, of the check).
+use key::RangeKind;
+use outcomes::Asked;
 use outcomes::Found;
-
-pub mod half_open;
-pub mod inclusive;
-
+use outcomes::Part;
+use places::check::full;
 ghost use mathlib.Core.Path.{_≡_};
 ghost use Prim.Native.Nat.{_≤_};
 ghost use lib.ListN.{length};
-ghost use Rattle.outcomes.specs.Stored.{stored};
-ghost use Rattle.outcomes.specs.Outcomes.{placed};
+ghost use Rattle.span.specs.Operations.{holds};
+ghost use Rattle.key.specs.Rank.{rank};
+ghost use Rattle.key.specs.Range.{kindOf};
+ghost use Rattle.outcomes.specs.Stored.{stored, ranges, Sound};
+ghost use Rattle.outcomes.specs.Outcomes.{placed, firstPlace, found, contained, met, metPart};
+ghost use Rattle.places.specs.Search.{Ascends};
+ghost use Rattle.lookup.specs.Walk.{Reached, Walked};
 
 // The range and the value at a place. The kind of range is no matter here.
 pub fn range_at(count: usize, starts: &[i64], ends: &[i64], values: &[u8], place: usize) -> Found
@@ -20,4 +26,139 @@ pub fn range_at(count: usize, starts: &[i64], ends: &[i64], values: &[u8], place
         return Found::Refused(outcomes::NONE_THERE);
     }
     Found::Range(starts[place], ends[place], values[place])
+}
+
+// The first place whose range is not past at the key: `count` if there is none. A half-open range is past at its end, an inclusive one after it.
+fn first_reaching(kind: RangeKind, count: usize, ends: &[i64], key: i64) -> usize
+    requires { ⌜ (count ≤ length (now ends)) × Ascends count (now ends) ⌝ }
+    ensures { λ r. ⌜ Reached (kindOf kind) count (now (ends .entry)) key r ⌝ }
+{
+    match kind {
+        RangeKind::HalfOpen => places::search::ended(ends, count, key),
+        RangeKind::Inclusive => places::search::short_of(ends, count, key),
+    }
+}
+
+// The place of the range that holds the key: `count` if none does.
+fn place_of(
+    kind: RangeKind,
+    count: usize,
+    starts: &[i64],
+    ends: &[i64],
+    values: &[u8],
+    key: i64,
+) -> usize
+    requires { ⌜ Sound (kindOf kind) (stored count (now starts) (now ends) (now values)) ⌝ }
+    ensures { λ r. ⌜ r ≡ firstPlace (holds (rank key)) (ranges (kindOf kind) (stored count (now (starts .entry)) (now (ends .entry)) (now (values .entry)))) ⌝ }
+{
+    let place = first_reaching(kind, count, ends, key);
+    if count <= place {
+        return count;
+    }
+    if key < starts[place] {
+        return count;
+    }
+    place
+}
+
+// The range that holds the key, and its value.
+pub fn get_key_value(
+    kind: RangeKind,
+    count: usize,
+    starts: &[i64],
+    ends: &[i64],
+    values: &[u8],
+    key: i64,
+) -> Found
+    requires { ⌜ Sound (kindOf kind) (stored count (now starts) (now ends) (now values)) ⌝ }
+    ensures { λ r. ⌜ r ≡ found (kindOf kind) (stored count (now (starts .entry)) (now (ends .entry)) (now (values .entry))) key ⌝ }
+{
+    let place = place_of(kind, count, starts, ends, values, key);
+    range_at(count, starts, ends, values, place)
+}
+
+// Whether some range holds the key.
+pub fn contains_key(
+    kind: RangeKind,
+    count: usize,
+    starts: &[i64],
+    ends: &[i64],
+    values: &[u8],
+    key: i64,
+) -> Asked
+    requires { ⌜ Sound (kindOf kind) (stored count (now starts) (now ends) (now values)) ⌝ }
+    ensures { λ r. ⌜ r ≡ contained (kindOf kind) (stored count (now (starts .entry)) (now (ends .entry)) (now (values .entry))) key ⌝ }
+{
+    if place_of(kind, count, starts, ends, values, key) < count {
+        return Asked::Yes;
+    }
+    Asked::No
+}
+
+// Whether some range has a key of the query. The first that is not past at `start` has one, or none has.
+pub fn overlaps(
+    kind: RangeKind,
+    count: usize,
+    starts: &[i64],
+    ends: &[i64],
+    values: &[u8],
+    start: i64,
+    end: i64,
+) -> Asked
+    requires { ⌜ Sound (kindOf kind) (stored count (now starts) (now ends) (now values)) ⌝ }
+    ensures { λ r. ⌜ r ≡ met (kindOf kind) (stored count (now (starts .entry)) (now (ends .entry)) (now (values .entry))) start end ⌝ }
+{
+    if !full(kind, start, end) {
+        return Asked::Refused(outcomes::EMPTY_RANGE);
+    }
+    let place = first_reaching(kind, count, ends, start);
+    if count <= place {
+        return Asked::No;
+    }
+    let next = starts[place];
+    if !full(kind, next, end) {
+        return Asked::No;
+    }
+    Asked::Yes
+}
+
+// The first place from `from` on that begins too late for a range up to `end`.
+fn walk(kind: RangeKind, count: usize, starts: &[i64], from: usize, end: i64) -> usize
+    requires { ⌜ (from ≤ count) × (count ≤ length (now starts)) ⌝ }
+    ensures { λ r. ⌜ Walked (kindOf kind) count (now (starts .entry)) from end r ⌝ }
+{
+    let mut k = from;
+    while k < count {
+        let first = starts[k];
+        if !full(kind, first, end) {
+            return k;
+        }
+        k += 1;
+    }
+    k
+}
+
+// Which consecutive part of the places has keys of the query: place 0 and count 0 if none has.
+pub fn overlapping(
+    kind: RangeKind,
+    count: usize,
+    starts: &[i64],
+    ends: &[i64],
+    values: &[u8],
+    start: i64,
+    end: i64,
+) -> Part
+    requires { ⌜ Sound (kindOf kind) (stored count (now starts) (now ends) (now values)) ⌝ }
+    ensures { λ r. ⌜ r ≡ metPart (kindOf kind) (stored count (now (starts .entry)) (now (ends .entry)) (now (values .entry))) start end ⌝ }
+{
+    if !full(kind, start, end) {
+        return Part::Refused(outcomes::EMPTY_RANGE);
+    }
+    let first = first_reaching(kind, count, ends, start);
+    let next = walk(kind, count, starts, first, end);
+    if next == first {
+        return Part::Places(0, 0);
+    }
+    let many = next - first;
+    Part::Places(first, many)
 }

@@ -76,7 +76,7 @@ fn step(kind: RangeKind, starts: &[i64], ends: &[i64], values: &[u8], k: usize) 
 }
 
 // Whether a range is not empty.
-fn full(kind: RangeKind, start: i64, end: i64) -> bool
+pub fn full(kind: RangeKind, start: i64, end: i64) -> bool
     ensures { λ r. ⌜ Decides r (rank start < kindOf kind .past end) ⌝ }
 {
     match kind {
