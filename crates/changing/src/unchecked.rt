@@ -21,18 +21,7 @@ pub fn insert(
     requires { ⌜ Sound (kindOf kind) (lent count starts ends values) ⌝ }
     ensures { λ r. ⌜ leaving r (lent (count .exit) (starts .exit) (ends .exit) (values .exit)) ≡ editing (kindOf kind) places (lent (count .entry) (starts .entry) (ends .entry) (values .entry)) start end (some value) ⌝ }
 {
-    match kind {
-        RangeKind::HalfOpen => edit::insert(count, starts, ends, values, start, end, value),
-        RangeKind::Inclusive => inclusive_edit::insert(
-            count,
-            starts,
-            ends,
-            values,
-            start,
-            end,
-            value,
-        ),
-    }
+    editing::insert(kind, count, starts, ends, values, start, end, value)
 }
 
 // Uncovers the instants of the range.
@@ -48,8 +37,5 @@ pub fn remove(
     requires { ⌜ Sound (kindOf kind) (lent count starts ends values) ⌝ }
     ensures { λ r. ⌜ leaving r (lent (count .exit) (starts .exit) (ends .exit) (values .exit)) ≡ editing (kindOf kind) places (lent (count .entry) (starts .entry) (ends .entry) (values .entry)) start end none ⌝ }
 {
-    match kind {
-        RangeKind::HalfOpen => edit::remove(count, starts, ends, values, start, end),
-        RangeKind::Inclusive => inclusive_edit::remove(count, starts, ends, values, start, end),
-    }
+    editing::remove(kind, count, starts, ends, values, start, end)
 }

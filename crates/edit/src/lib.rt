@@ -1,19 +1,23 @@
-// Insert and remove in a half-open map that is well formed: the inner doors.
+// What an edit of a half-open map that is well formed meets or touches, and the plan over that.
 use plan::Replacement;
 use plan::met::Met;
 use splice::Entry;
-ghost use mathlib.Core.Path.{_≡_};
 ghost use mathlib.Core.Option.{some, none};
 ghost use Prim.Native.Nat.{_<_};
-ghost use lib.ListN.{length};
 ghost use Rattle.key.specs.Rank.{rank};
 ghost use Rattle.key.specs.Range.{halfOpen};
-ghost use Rattle.outcomes.specs.Stored.{stored, lent, ranges, Sound};
-ghost use Rattle.outcomes.specs.Outcomes.{leaving, editing};
+ghost use Rattle.outcomes.specs.Stored.{stored, ranges, Sound};
 ghost use Rattle.plan.specs.Plan.{Touching, Planned};
 
 // The places that start..end meets or touches.
-fn touched(count: usize, starts: &[i64], ends: &[i64], values: &[u8], start: i64, end: i64) -> Met
+pub fn touched(
+    count: usize,
+    starts: &[i64],
+    ends: &[i64],
+    values: &[u8],
+    start: i64,
+    end: i64,
+) -> Met
     requires { ⌜ Sound halfOpen (stored count (now starts) (now ends) (now values)) × (rank start < rank end) ⌝ }
     ensures { λ r. ⌜ Touching (ranges halfOpen (stored count (now (starts .entry)) (now (ends .entry)) (now (values .entry)))) (rank start) (rank end) (r .from) (r .to) ⌝ }
 {
@@ -25,7 +29,7 @@ fn touched(count: usize, starts: &[i64], ends: &[i64], values: &[u8], start: i64
 }
 
 // The plan of an insert over the places that it meets or touches, of which there is one at least.
-fn insert_over(
+pub fn insert_over(
     count: usize,
     starts: &[i64],
     ends: &[i64],
@@ -47,6 +51,8 @@ fn insert_over(
     let above = values[to - 1];
     let left = plan::sides::left_of(first, below, start, value);
     let right = plan::sides::right_of(last, above, end, value);
+    let low = left.key;
+    let high = right.key;
     plan::sides::around(
         from,
         to,
@@ -57,8 +63,8 @@ fn insert_over(
             value: below,
         },
         Entry {
-            start: left.key,
-            end: right.key,
+            start: low,
+            end: high,
             value: value,
         },
         right.kept,
@@ -70,35 +76,8 @@ fn insert_over(
     )
 }
 
-// The plan of an insert.
-fn insert_plan(
-    count: usize,
-    starts: &[i64],
-    ends: &[i64],
-    values: &[u8],
-    start: i64,
-    end: i64,
-    value: u8,
-) -> Replacement
-    requires { ⌜ Sound halfOpen (stored count (now starts) (now ends) (now values)) × (rank start < rank end) ⌝ }
-    ensures { λ r. ⌜ Planned halfOpen (stored count (now (starts .entry)) (now (ends .entry)) (now (values .entry))) (rank start) (rank end) (some value) r ⌝ }
-{
-    let met = touched(count, starts, ends, values, start, end);
-    let from = met.from;
-    let to = met.to;
-    if from < to {
-        return insert_over(count, starts, ends, values, met, start, end, value);
-    }
-    let new = Entry {
-        start: start,
-        end: end,
-        value: value,
-    };
-    plan::sides::around(from, to, false, new, new, false, new)
-}
-
 // The plan of a remove over the places that it meets or touches, of which there is one at least.
-fn remove_over(
+pub fn remove_over(
     count: usize,
     starts: &[i64],
     ends: &[i64],
@@ -133,71 +112,4 @@ fn remove_over(
             value: above,
         },
     )
-}
-
-// The plan of a remove.
-fn remove_plan(
-    count: usize,
-    starts: &[i64],
-    ends: &[i64],
-    values: &[u8],
-    start: i64,
-    end: i64,
-) -> Replacement
-    requires { ⌜ Sound halfOpen (stored count (now starts) (now ends) (now values)) × (rank start < rank end) ⌝ }
-    ensures { λ r. ⌜ Planned halfOpen (stored count (now (starts .entry)) (now (ends .entry)) (now (values .entry))) (rank start) (rank end) none r ⌝ }
-{
-    let met = touched(count, starts, ends, values, start, end);
-    let from = met.from;
-    let to = met.to;
-    if from < to {
-        return remove_over(count, starts, ends, values, met, start, end);
-    }
-    let none = Entry {
-        start: start,
-        end: end,
-        value: 0,
-    };
-    plan::sides::beside(from, to, false, none, false, none)
-}
-
-// Gives the value to each instant of start..end and to no other.
-pub fn insert(
-    count: &mut usize,
-    starts: &mut [i64],
-    ends: &mut [i64],
-    values: &mut [u8],
-    start: i64,
-    end: i64,
-    value: u8,
-) -> u8
-    requires { ⌜ Sound halfOpen (lent count starts ends values) ⌝ }
-    ensures { λ r. ⌜ leaving r (lent (count .exit) (starts .exit) (ends .exit) (values .exit))
-        ≡ editing halfOpen (length (now (starts .entry))) (lent (count .entry) (starts .entry) (ends .entry) (values .entry)) start end (some value) ⌝ }
-{
-    if end <= start {
-        return 1;
-    }
-    let plan = insert_plan(*count, starts, ends, values, start, end, value);
-    plan::carry_out(count, starts, ends, values, plan)
-}
-
-// Uncovers exactly the instants of start..end.
-pub fn remove(
-    count: &mut usize,
-    starts: &mut [i64],
-    ends: &mut [i64],
-    values: &mut [u8],
-    start: i64,
-    end: i64,
-) -> u8
-    requires { ⌜ Sound halfOpen (lent count starts ends values) ⌝ }
-    ensures { λ r. ⌜ leaving r (lent (count .exit) (starts .exit) (ends .exit) (values .exit))
-        ≡ editing halfOpen (length (now (starts .entry))) (lent (count .entry) (starts .entry) (ends .entry) (values .entry)) start end none ⌝ }
-{
-    if end <= start {
-        return 1;
-    }
-    let plan = remove_plan(*count, starts, ends, values, start, end);
-    plan::carry_out(count, starts, ends, values, plan)
 }

@@ -1,4 +1,4 @@
-// Insert and remove in a map of inclusive ranges that is well formed: the inner doors.
+// What an edit of a map of inclusive ranges that is well formed meets or touches, and the plan over that.
 use plan::Replacement;
 use plan::met::Met;
 use splice::Entry;
@@ -9,8 +9,7 @@ ghost use Prim.Native.Nat.{suc, _-_, _≤_, _<_, min};
 ghost use lib.ListN.{length};
 ghost use Rattle.key.specs.Rank.{rank, keys};
 ghost use Rattle.key.specs.Range.{inclusive};
-ghost use Rattle.outcomes.specs.Stored.{stored, lent, ranges, Sound};
-ghost use Rattle.outcomes.specs.Outcomes.{leaving, editing};
+ghost use Rattle.outcomes.specs.Stored.{stored, ranges, Sound};
 ghost use Rattle.places.specs.Search.{Ascends};
 ghost use Rattle.plan.specs.Plan.{Parted, Touching, Planned};
 
@@ -62,7 +61,14 @@ fn after_end(kept: bool, end: i64) -> i64
 }
 
 // The places that start..=end meets or touches.
-fn touched(count: usize, starts: &[i64], ends: &[i64], values: &[u8], start: i64, end: i64) -> Met
+pub fn touched(
+    count: usize,
+    starts: &[i64],
+    ends: &[i64],
+    values: &[u8],
+    start: i64,
+    end: i64,
+) -> Met
     requires { ⌜ Sound inclusive (stored count (now starts) (now ends) (now values)) × (rank start < suc (rank end)) ⌝ }
     ensures { λ r. ⌜ Touching (ranges inclusive (stored count (now (starts .entry)) (now (ends .entry)) (now (values .entry)))) (rank start) (suc (rank end)) (r .from) (r .to) ⌝ }
 {
@@ -75,7 +81,7 @@ fn touched(count: usize, starts: &[i64], ends: &[i64], values: &[u8], start: i64
 }
 
 // The plan of an insert over the places that it meets or touches, of which there is one at least.
-fn insert_over(
+pub fn insert_over(
     count: usize,
     starts: &[i64],
     ends: &[i64],
@@ -99,6 +105,8 @@ fn insert_over(
     let right = plan::sides::right_of(last, above, end, value);
     let before = before_start(left.kept, start);
     let after = after_end(right.kept, end);
+    let low = left.key;
+    let high = right.key;
     plan::sides::around(
         from,
         to,
@@ -109,8 +117,8 @@ fn insert_over(
             value: below,
         },
         Entry {
-            start: left.key,
-            end: right.key,
+            start: low,
+            end: high,
             value: value,
         },
         right.kept,
@@ -122,35 +130,8 @@ fn insert_over(
     )
 }
 
-// The plan of an insert.
-fn insert_plan(
-    count: usize,
-    starts: &[i64],
-    ends: &[i64],
-    values: &[u8],
-    start: i64,
-    end: i64,
-    value: u8,
-) -> Replacement
-    requires { ⌜ Sound inclusive (stored count (now starts) (now ends) (now values)) × (rank start < suc (rank end)) ⌝ }
-    ensures { λ r. ⌜ Planned inclusive (stored count (now (starts .entry)) (now (ends .entry)) (now (values .entry))) (rank start) (suc (rank end)) (some value) r ⌝ }
-{
-    let met = touched(count, starts, ends, values, start, end);
-    let from = met.from;
-    let to = met.to;
-    if from < to {
-        return insert_over(count, starts, ends, values, met, start, end, value);
-    }
-    let new = Entry {
-        start: start,
-        end: end,
-        value: value,
-    };
-    plan::sides::around(from, to, false, new, new, false, new)
-}
-
 // The plan of a remove over the places that it meets or touches, of which there is one at least.
-fn remove_over(
+pub fn remove_over(
     count: usize,
     starts: &[i64],
     ends: &[i64],
@@ -189,71 +170,4 @@ fn remove_over(
             value: above,
         },
     )
-}
-
-// The plan of a remove.
-fn remove_plan(
-    count: usize,
-    starts: &[i64],
-    ends: &[i64],
-    values: &[u8],
-    start: i64,
-    end: i64,
-) -> Replacement
-    requires { ⌜ Sound inclusive (stored count (now starts) (now ends) (now values)) × (rank start < suc (rank end)) ⌝ }
-    ensures { λ r. ⌜ Planned inclusive (stored count (now (starts .entry)) (now (ends .entry)) (now (values .entry))) (rank start) (suc (rank end)) none r ⌝ }
-{
-    let met = touched(count, starts, ends, values, start, end);
-    let from = met.from;
-    let to = met.to;
-    if from < to {
-        return remove_over(count, starts, ends, values, met, start, end);
-    }
-    let none = Entry {
-        start: start,
-        end: end,
-        value: 0,
-    };
-    plan::sides::beside(from, to, false, none, false, none)
-}
-
-// Gives the value to each instant of start..=end and to no other.
-pub fn insert(
-    count: &mut usize,
-    starts: &mut [i64],
-    ends: &mut [i64],
-    values: &mut [u8],
-    start: i64,
-    end: i64,
-    value: u8,
-) -> u8
-    requires { ⌜ Sound inclusive (lent count starts ends values) ⌝ }
-    ensures { λ r. ⌜ leaving r (lent (count .exit) (starts .exit) (ends .exit) (values .exit))
-        ≡ editing inclusive (length (now (starts .entry))) (lent (count .entry) (starts .entry) (ends .entry) (values .entry)) start end (some value) ⌝ }
-{
-    if end < start {
-        return 1;
-    }
-    let plan = insert_plan(*count, starts, ends, values, start, end, value);
-    plan::carry_out(count, starts, ends, values, plan)
-}
-
-// Uncovers exactly the instants of start..=end.
-pub fn remove(
-    count: &mut usize,
-    starts: &mut [i64],
-    ends: &mut [i64],
-    values: &mut [u8],
-    start: i64,
-    end: i64,
-) -> u8
-    requires { ⌜ Sound inclusive (lent count starts ends values) ⌝ }
-    ensures { λ r. ⌜ leaving r (lent (count .exit) (starts .exit) (ends .exit) (values .exit))
-        ≡ editing inclusive (length (now (starts .entry))) (lent (count .entry) (starts .entry) (ends .entry) (values .entry)) start end none ⌝ }
-{
-    if end < start {
-        return 1;
-    }
-    let plan = remove_plan(*count, starts, ends, values, start, end);
-    plan::carry_out(count, starts, ends, values, plan)
 }

@@ -1,15 +1,14 @@
--- `edit::remove_plan` meets its contract.
+-- `editing::remove_plan` meets its contract.
 use native.Mathlib.Omega.{arith}
-use mathlib.Core.Path.{_≡_, refl}
+use mathlib.Core.Path.{refl}
 use mir.Facts.{toZ-ofZ}
-use Rattle.key.specs.Range.{halfOpen}
-use Rattle.key.proofs.Laws.{rank-back}
-use Rattle.key.proofs.Lawful.{half-open}
+use Rattle.key.specs.Range.{kindOf}
+use Rattle.key.proofs.Lawful.{lawful}
 use Rattle.outcomes.specs.Stored.{Stored, stored}
 use Rattle.plan.proofs.Planning.{planned-alone}
 use borrow.Author.Needs.{needs}
-use Rattle.edit.proofs.remove_plan.Statement.{statement}
-use Rattle.edit.proofs.remove_plan.Tie as tie
+use Rattle.editing.proofs.remove_plan.Statement.{statement}
+use Rattle.editing.proofs.remove_plan.Tie as tie
 
 touched-requires : tie.Need-touched-requires
 touched-requires c κs = search needs
@@ -18,7 +17,9 @@ remove-over-requires : tie.Need-remove-over-requires
 remove-over-requires c κs = search needs
 
 returns : tie.Need-returns
-returns c = simp rank-back at (c .remove-over .ensures)
+returns c =
+    let s = c .before .before .before .before in
+    rw (toZ-ofZ (s .fits .start), toZ-ofZ (s .fits .end)) at (c .remove-over .ensures)
 
 beside-requires : tie.Need-beside-requires
 beside-requires c κs = search needs
@@ -28,8 +29,8 @@ returns-2 c =
     let s = c .before .before .before .before in
     let g = s .args in
     let m : Stored = stored (g .count) (g .starts .now) (g .ends .now) (g .values .now) in
-    let t = simp rank-back at (c .before .before .touched .ensures) in
-    planned-alone halfOpen half-open m (s .pre .0) (g .start) (g .end) (s .pre .1) t (c .beside .result) (omega (arith, t .ascending))
+    let t = rw (toZ-ofZ (s .fits .start), toZ-ofZ (s .fits .end)) at (c .before .before .touched .ensures) in
+    planned-alone (kindOf (g .kind)) (lawful (g .kind)) m (s .pre .0) (g .start) (g .end) (s .pre .1) t (c .beside .result) (omega (arith, t .ascending))
     (c .beside .ensures) tt refl
 
 pub remove-plan-spec : {M : Type 1} → statement M
