@@ -7,7 +7,7 @@ use mathlib.Core.Bool.{Bool, true, false, _||_, cond}
 use mathlib.Core.List.{List, [], _∷_}
 use lib.Dec.{T, eqb, leb, eqb→eq, leb→le}
 use lib.ListN.{getD, List·getD-eq-default}
-use borrow.Author.Tests.{ne-eqb, le-leb, lt-leb}
+use borrow.Author.Tests.{ne-eqb}
 use Rattle.calendar.specs.Calendar.{leap, yearLength, monthLength, total, yearsBefore, monthsBefore}
 use Rattle.calendar.specs.Years.{Known}
 use Rattle.calendar.proofs.Every.{every, at}
@@ -86,48 +86,15 @@ pub year-of-months : (y : ℕ) → monthsBefore y 13 ≡ yearLength y
 unfolding monthsBefore monthLength yearLength
 year-of-months y = all-months (leap y)
 
--- the months before a month: the code's table has them, with February left out
-abbrev pub before : List ℕ
-before = 0 ∷ 0 ∷ 31 ∷ 31 ∷ 62 ∷ 92 ∷ 123 ∷ 153 ∷ 184 ∷ 215 ∷ 245 ∷ 276 ∷ 306 ∷ []
-
-as-added : Bool → ℕ → Bool
-as-added b m = eqb (getD before m 0 + cond (leb m 2) 0 (cond b 29 28)) (total (λ (i : ℕ). getD (lengths b) i 0) m)
-
-as-addeds : (b : Bool) → T (every (as-added b) 13)
-unfolding as-added total
-as-addeds true = tt
-as-addeds false = tt
-
-added : (y m : ℕ) → m ≤ 12 → getD before m 0 + cond (leb m 2) 0 (monthLength y 2) ≡ monthsBefore y m
-unfolding monthsBefore monthLength as-added
-added y m h = eqb→eq _ _ (at (as-added (leap y)) 13 (as-addeds (leap y)) m (omega arith))
-
-pub months-early : (y m : ℕ) → m ≤ 2 → getD before m 0 ≡ monthsBefore y m
-months-early y m h = let e = rw (le-leb m 2 h) at (added y m (omega arith)) in omega arith
-
-pub months-later : (y m : ℕ) → 2 < m → m ≤ 12 → getD before m 0 + monthLength y 2 ≡ monthsBefore y m
-months-later y m h i = rw (lt-leb m 2 h) at (added y m i)
-
--- past the twelve no month adds a day
-whole-year : (b : Bool) → 337 + getD (lengths b) 2 0 ≡ total (λ (i : ℕ). getD (lengths b) i 0) 13
-unfolding total
-whole-year true = refl
-whole-year false = refl
-
-all-twelve : (y : ℕ) → 337 + monthLength y 2 ≡ monthsBefore y 13
-unfolding monthsBefore monthLength
-all-twelve y = whole-year (leap y)
-
-pub months-past : (y m : ℕ) → 12 < m → 337 + monthLength y 2 ≡ monthsBefore y m
+-- the months before the first, and before a later one
+pub no-months : (y m : ℕ) → m ≡ 0 → 0 ≡ monthsBefore y m
 unfolding monthsBefore total
-months-past y zero h = absurd (omega arith)
-months-past y (suc m) h = elim (decLt 12 m) [ yes p ↦ omega (arith, months-past y m p, no-month y m p) | no p ↦ let e : 13 ≡ suc m = omega arith in subst (λ (n : ℕ). 337 + monthLength y 2 ≡ total (monthLength y) n) e (all-twelve y) ]
+no-months y m e = rw e
 
--- they are no longer than 31 days each
-pub months-most : (y m : ℕ) → monthsBefore y m ≤ 31 * m
+pub more-months : (y m : ℕ) → 1 ≤ m → monthsBefore y (m - 1) + monthLength y (m - 1) ≡ monthsBefore y m
 unfolding monthsBefore total
-months-most y zero = omega arith
-months-most y (suc m) = omega (arith, months-most y m, month-short y m)
+more-months y zero h = absurd (omega arith)
+more-months y (suc m) h = let e : suc m - 1 ≡ m = omega arith in rw e
 
 -- a month that is there has at least 28 days
 long : (b : Bool) → T (every (λ (m : ℕ). leb 28 (getD (lengths b) (suc m) 0)) 12)

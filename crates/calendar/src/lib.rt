@@ -52,21 +52,14 @@ fn month_length(year: u16, month: u8) -> u8
     LENGTHS[month as usize]
 }
 
-// The days of the months before each month, with February left out.
-const BEFORE: [u32; 13] = [0, 0, 31, 31, 62, 92, 123, 153, 184, 215, 245, 276, 306];
-
-// The days of the months before a month. All twelve come before a month that is past them.
+// The days of the months before a month: those before the last of them, and the last. The month falls with each call.
 fn months_before(year: u16, month: u8) -> u32
     ensures { λ r. ⌜ (r ≡ monthsBefore year month) × (r ≤ 31 * month) ⌝ }
 {
-    if 12 < month {
-        return 337 + february(year) as u32;
+    if month == 0 {
+        return 0;
     }
-    let others = BEFORE[month as usize];
-    if month <= 2 {
-        return others;
-    }
-    others + february(year) as u32
+    months_before(year, month - 1) + month_length(year, month - 1) as u32
 }
 
 // The days of the years before a year: one more for every fourth. Of the hundreds only 2000 comes before one of these years, and it is a leap year.
