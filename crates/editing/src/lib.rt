@@ -1,6 +1,6 @@
 // Insert and remove in a map of either kind that is well formed: the inner doors. What the kinds differ in stands in a crate for each.
 use key::RangeKind;
-use places::check::full;
+use key::full;
 use plan::Replacement;
 use plan::met::Met;
 use splice::Entry;

@@ -21,6 +21,8 @@ pub record Lawful (kind : Kind) : Type 0 where
   pub ends-within : (e : ℤ) → kind .past e ≤ limit
   pub written : (r : ℕ) → 0 < r → r ≤ limit → kind .past (kind .ending r) ≡ r
   pub written-fits : (r : ℕ) → 0 < r → r ≤ limit → SFits w64 (kind .ending r)
+  -- a range goes up to its end
+  pub up-to : (e : ℤ) → rank e ≤ kind .past e
   -- a later end ends later
   pub later : (e e′ : ℤ) → rank e < rank e′ → kind .past e < kind .past e′
   pub no-later : (e e′ : ℤ) → rank e ≤ rank e′ → kind .past e ≤ kind .past e′
@@ -36,6 +38,7 @@ half-open = record {
   ends-within = λ e. omega (arith, rank-below (ofZ w64 e));
   written = λ r h w. rank-key r (omega arith);
   written-fits = λ r h w. key-fits r (omega arith);
+  up-to = λ e. omega arith;
   later = λ e e′ h. h;
   no-later = λ e e′ h. h;
   least = rank-lesser;
@@ -50,6 +53,7 @@ inclusive-too = record {
   ends-within = λ e. omega (arith, rank-below (ofZ w64 e));
   written = λ r h w. omega (arith, rank-key (r - 1) (omega arith));
   written-fits = λ r h w. key-fits (r - 1) (omega arith);
+  up-to = λ e. omega arith;
   later = λ e e′ h. omega arith;
   no-later = λ e e′ h. omega arith;
   least = λ e e′. omega (arith, rank-lesser e e′);

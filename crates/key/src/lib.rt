@@ -2,8 +2,9 @@
 // Contracts speak of a key's rank, its place among all keys counted from 0, so that nothing overflows in them.
 ghost use mathlib.Core.Path.{_≡_};
 ghost use Prim.Native.Nat.{_+_, _<_};
+ghost use Rattle.key.specs.Decides.{Decides};
 ghost use Rattle.key.specs.Rank.{rank, keys, lesser, greater};
-ghost use Rattle.key.specs.Range.{halfOpen, inclusive, rangeOf, size, lengthOf};
+ghost use Rattle.key.specs.Range.{halfOpen, inclusive, kindOf, rangeOf, size, lengthOf};
 
 // The least key, of rank 0.
 pub const LEAST: i64 = -9223372036854775808;
@@ -58,6 +59,26 @@ pub fn rank_of(a: i64) -> u64
         return (a - LEAST) as u64;
     }
     a as u64 + 9223372036854775808
+}
+
+// Whether a range has a key: it is neither empty nor reversed. The one comparison in which the two kinds differ.
+pub fn full(kind: RangeKind, start: i64, end: i64) -> bool
+    ensures { λ r. ⌜ Decides r (rank start < kindOf kind .past end) ⌝ }
+{
+    match kind {
+        RangeKind::HalfOpen => {
+            if start < end {
+                return true;
+            }
+            false
+        }
+        RangeKind::Inclusive => {
+            if start <= end {
+                return true;
+            }
+            false
+        }
+    }
 }
 
 // How many keys a range has, where a u64 holds the number.

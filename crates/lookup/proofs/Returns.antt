@@ -35,10 +35,6 @@ reached {p = p} {ends = ends} f g b e =
     let h = passed-facts ends b e in
     record { within = h .within; below = λ j i. f (getD ends j (pos 0)) (h .below j i); at = λ i. omega (arith, g (getD ends p (pos 0)) (h .at i)) }
 
--- what the test for an empty range leaves where it says no
-pub not-full : {r : Bool} {a b : ℕ} → Decides r (a < b) → r ≡ false → b ≤ a
-not-full {r} {a} {b} d e = elim (decLt a b) [ yes h ↦ absurd (d .wrong e h) | no h ↦ omega arith ]
-
 -- a place of a map
 module _ (m : Stored) (i : ℕ) where
   pub placed-at : i < m .count → Found.Range (getD (m .starts) i (pos 0)) (getD (m .ends) i (pos 0)) (getD (m .values) i 0) ≡ placed m i

@@ -2,10 +2,10 @@
 // The kinds differ in two places: whether an end is in its range (`first_reaching`), and whether a range from one key to another is empty
 // (`full`, of the check).
 use key::RangeKind;
+use key::full;
 use outcomes::Asked;
 use outcomes::Found;
 use outcomes::Part;
-use places::check::full;
 ghost use mathlib.Core.Path.{_≡_};
 ghost use Prim.Native.Nat.{_≤_};
 ghost use lib.ListN.{length};

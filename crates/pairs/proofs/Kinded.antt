@@ -1,5 +1,5 @@
 -- The kind of range that the code names: both kinds differ by one in how far past its end a range reaches.
-use Prim.Native.Nat.{ℕ, suc, _+_, min, max}
+use Prim.Native.Nat.{ℕ, _+_, _<_, min, max}
 use native.Mathlib.Omega.{arith}
 use mathlib.Core.Path.{_≡_, refl, sym, ap, _∙_}
 use mathlib.Core.Bool.{Bool, true, false}
@@ -8,15 +8,17 @@ use borrow.Author.Tests.{lt-ltb, le-ltb}
 use lib.Dec.{ltb}
 use lib.ListN.{set}
 use lib.IntN.{ℤ}
-use lib.Signed.{ltZ, leZ}
+use lib.Signed.{ltZ}
 use mir.Syntax.{w64}
 use mir.Val.{SFits, toZ, ofZ}
 use mir.Facts.{toZ-ofZ}
 use Rattle.key.specs.Rank.{rank, bitRank, keyAt, lesser, greater}
 use Rattle.key.specs.Range.{kindOf}
+use Rattle.key.specs.Decides.{Decides}
 use Rattle.key.specs.declared.RangeKind.{RangeKind}
 use Rattle.key.specs.declared.RangeKind.the-variants as RangeKind
-use Rattle.key.proofs.Laws.{rank-lt, rank-ge, rank-le, rank-gt, rank-back, rank-lesser, rank-greater, key-rank, toZ-fit}
+use Rattle.key.proofs.Laws.{rank-lt, rank-ge, rank-back, rank-lesser, rank-greater, key-rank, toZ-fit}
+use Rattle.key.proofs.Answers.{not-full}
 use Rattle.key.proofs.Lawful.{lawful}
 use Rattle.pairs.specs.Kind.{wide}
 
@@ -32,17 +34,9 @@ by-answer false f g = sym (g refl)
 pub lt-test : (m n : ℕ) → ltZ (toZ w64 m) (toZ w64 n) ≡ ltb (bitRank m) (bitRank n)
 lt-test m n = by-answer (ltZ (toZ w64 m) (toZ w64 n)) (λ e. lt-ltb (bitRank m) (bitRank n) (rank-lt m n e)) (λ e. le-ltb (bitRank m) (bitRank n) (rank-ge m n e))
 
-pub le-test : (m n : ℕ) → leZ (toZ w64 m) (toZ w64 n) ≡ ltb (bitRank m) (suc (bitRank n))
-le-test m n = by-answer (leZ (toZ w64 m) (toZ w64 n))
-    (λ e. let h = rank-le m n e in lt-ltb (bitRank m) (suc (bitRank n)) (omega arith))
-    (λ e. let h = rank-gt m n e in le-ltb (bitRank m) (suc (bitRank n)) (omega arith))
-
--- what `meets` answers, by the kind
-pub meets-open : (s e : ℤ) → ltZ (toZ w64 (ofZ w64 s)) (toZ w64 (ofZ w64 e)) ≡ ltb (rank s) (0 + rank e)
-meets-open s e = let none : 0 + rank e ≡ rank e = omega arith in rw none (lt-test (ofZ w64 s) (ofZ w64 e))
-
-pub meets-closed : (s e : ℤ) → leZ (toZ w64 (ofZ w64 s)) (toZ w64 (ofZ w64 e)) ≡ ltb (rank s) (1 + rank e)
-meets-closed s e = let one : 1 + rank e ≡ suc (rank e) = omega arith in rw one (le-test (ofZ w64 s) (ofZ w64 e))
+-- what `meets` answers
+pub meets-is : {r : Bool} (kind : RangeKind) (s e : ℤ) → Decides r (rank s < kindOf kind .past e) → r ≡ ltb (rank s) (wide kind + rank e)
+meets-is {r} kind s e d = let p = past-is kind e in by-answer r (λ t. let h = d .right t in lt-ltb (rank s) (wide kind + rank e) (omega arith)) (λ f. let h = not-full d f in le-ltb (rank s) (wide kind + rank e) (omega arith))
 
 -- a key as the code stores it, by its rank: as a start, and as an end
 start-bits : (b : ℕ) → toZ w64 b ≡ keyAt (bitRank b)

@@ -1,6 +1,7 @@
 // What the walks over two sets share, for either kind of range. A walk has no branch that depends on the keys: what would be a branch is a choice of two values,
 // since no processor foresees which of two sets comes next.
 use key::RangeKind;
+use key::full;
 use outcomes::PLACES;
 use places::plain::is_set;
 ghost use mathlib.Core.Path.{_≡_};
@@ -34,14 +35,11 @@ pub fn are_sets(
     is_set(kind, count_b, starts_b, ends_b, values_b)
 }
 
-// Whether a range from `start` to `end` has a key: the one comparison in which the two kinds differ.
+// Whether a range from `start` to `end` has a key, as an equation: the walks compute with it.
 pub fn meets(kind: RangeKind, start: i64, end: i64) -> bool
     ensures { λ r. ⌜ r ≡ ltb (rank start) (wide kind + rank end) ⌝ }
 {
-    match kind {
-        RangeKind::HalfOpen => start < end,
-        RangeKind::Inclusive => start <= end,
-    }
+    full(kind, start, end)
 }
 
 // How far past its end a range reaches: 1 if the end is in it.

@@ -75,26 +75,6 @@ fn step(kind: RangeKind, starts: &[i64], ends: &[i64], values: &[u8], k: usize) 
     }
 }
 
-// Whether a range is not empty.
-pub fn full(kind: RangeKind, start: i64, end: i64) -> bool
-    ensures { λ r. ⌜ Decides r (rank start < kindOf kind .past end) ⌝ }
-{
-    match kind {
-        RangeKind::HalfOpen => {
-            if start < end {
-                return true;
-            }
-            false
-        }
-        RangeKind::Inclusive => {
-            if start <= end {
-                return true;
-            }
-            false
-        }
-    }
-}
-
 // Whether the live places are tidy: no range empty or reversed, all ascending without overlap, none joining the next. The last has no next.
 fn tidy(kind: RangeKind, starts: &[i64], ends: &[i64], values: &[u8], count: usize) -> bool
     requires { ⌜ (count ≤ length (now starts)) × (length (now ends) ≡ length (now starts)) × (length (now values) ≡ length (now starts)) ⌝ }
@@ -114,7 +94,7 @@ fn tidy(kind: RangeKind, starts: &[i64], ends: &[i64], values: &[u8], count: usi
     }
     let start = starts[last];
     let end = ends[last];
-    full(kind, start, end)
+    key::full(kind, start, end)
 }
 
 // Whether all keys from a place on are 0. With no early return the loop takes several places at a time.

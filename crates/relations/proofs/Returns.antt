@@ -1,5 +1,7 @@
 -- The answers of the relations, as code finds them by its tests: once for both kinds.
 use Prim.Native.Nat.{ℕ, _≤_, _<_}
+use native.Mathlib.Omega.{arith}
+use native.Mathlib.Decide.{decLt}
 use mathlib.Core.Path.{_≡_, refl}
 use mathlib.Core.Logic.{_⊎_, ⊎-elim}
 use mathlib.Core.Bool.{Bool, true, false, _||_, _&&_}
@@ -19,6 +21,9 @@ empty-yes x h = le-leb (x .hi) (x .lo) h
 
 pub empty-no : (x : Span) → x .lo < x .hi → empty x ≡ false
 empty-no x h = lt-leb (x .hi) (x .lo) h
+
+not-lt : (a b : ℕ) → (a < b → ⊥) → b ≤ a
+not-lt a b n = omega (arith, n)
 
 -- a range is empty, the first or the second
 or-right : (t : Bool) → (t || true) ≡ true
@@ -51,27 +56,19 @@ module _ (kind : Kind) (s e : ℤ) where
     y = rangeOf kind s′ e′ 0
 
     -- the two relations ask the same of the ranges first
-    none-first : (t : Bool) → x .hi ≤ x .lo → Empty ≡ related (empty x || empty y) t
-    none-first t h = rw (empty-yes x h)
+    none : (t : Bool) → ((x .lo < x .hi) × (y .lo < y .hi) → ⊥) → Empty ≡ related (empty x || empty y) t
+    none t n = elim (decLt (x .lo) (x .hi)) [
+      | yes h ↦ rw (empty-yes y (not-lt (y .lo) (y .hi) (λ i. n (h, i))), or-right (empty x))
+      | no h ↦ rw (empty-yes x (not-lt (x .lo) (x .hi) h))
+    ]
 
-    none-second : (t : Bool) → y .hi ≤ y .lo → Empty ≡ related (empty x || empty y) t
-    none-second t h = rw (empty-yes y h, or-right (empty x))
-
-    pub overlaps-first : x .hi ≤ x .lo → Empty ≡ overlapping kind s e s′ e′
+    pub overlaps-empty : ((x .lo < x .hi) × (y .lo < y .hi) → ⊥) → Empty ≡ overlapping kind s e s′ e′
     unfolding overlapping
-    overlaps-first h = none-first (overlaps x y) h
+    overlaps-empty n = none (overlaps x y) n
 
-    pub overlaps-second : y .hi ≤ y .lo → Empty ≡ overlapping kind s e s′ e′
-    unfolding overlapping
-    overlaps-second h = none-second (overlaps x y) h
-
-    pub touches-first : x .hi ≤ x .lo → Empty ≡ touching kind s e s′ e′
+    pub touches-empty : ((x .lo < x .hi) × (y .lo < y .hi) → ⊥) → Empty ≡ touching kind s e s′ e′
     unfolding touching
-    touches-first h = none-first (touches x y) h
-
-    pub touches-second : y .hi ≤ y .lo → Empty ≡ touching kind s e s′ e′
-    unfolding touching
-    touches-second h = none-second (touches x y) h
+    touches-empty n = none (touches x y) n
 
     module _ (h : x .lo < x .hi) (i : y .lo < y .hi) where
       pub overlaps-after : y .hi ≤ x .lo → No ≡ overlapping kind s e s′ e′

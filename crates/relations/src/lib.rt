@@ -1,10 +1,16 @@
-// Module 1: contains, overlaps, touches and intersect, for half-open ranges (mod half_open) and inclusive ones (mod inclusive).
-// From range_wrapper.rs, std_ext.rs and operations.rs of rangemap.
+// Module 1: contains, overlaps, touches and intersect, for ranges of either kind. From range_wrapper.rs, std_ext.rs and operations.rs of rangemap.
+// The exported functions stand in mod half_open and mod inclusive, and name their kind.
 pub mod half_open;
 pub mod inclusive;
 
+use key::RangeKind;
+use key::full;
 ghost use mathlib.Core.Path.{_≡_};
-ghost use Rattle.relations.specs.Relations.{relationNumbers, commonNumbers};
+ghost use Prim.Native.Nat.{_<_};
+ghost use Rattle.key.specs.Decides.{Decides};
+ghost use Rattle.key.specs.Rank.{rank};
+ghost use Rattle.key.specs.Range.{kindOf};
+ghost use Rattle.relations.specs.Relations.{containing, overlapping, touching, intersecting, relationNumbers, commonNumbers};
 
 // Whether two ranges are related; there is no answer for a range that is empty or reversed.
 pub enum Relation {
@@ -32,6 +38,95 @@ pub struct Intersected {
     pub answer: u8,
     pub start: i64,
     pub end: i64,
+}
+
+// Whether the key is in the range: not before its start, and before its end.
+pub fn contains(kind: RangeKind, start: i64, end: i64, key: i64) -> Relation
+    ensures { λ r. ⌜ r ≡ containing (kindOf kind) start end key ⌝ }
+{
+    if !full(kind, start, end) {
+        return Relation::Empty;
+    }
+    if key < start {
+        return Relation::No;
+    }
+    if !full(kind, key, end) {
+        return Relation::No;
+    }
+    Relation::Yes
+}
+
+// Whether each of two ranges has a key.
+fn both_full(kind: RangeKind, start: i64, end: i64, other_start: i64, other_end: i64) -> bool
+    ensures { λ r. ⌜ Decides r ((rank start < kindOf kind .past end) × (rank «other_start» < kindOf kind .past «other_end»)) ⌝ }
+{
+    if !full(kind, start, end) {
+        return false;
+    }
+    full(kind, other_start, other_end)
+}
+
+// Whether some key is in both ranges: each starts before the other's end.
+pub fn overlaps(kind: RangeKind, start: i64, end: i64, other_start: i64, other_end: i64) -> Relation
+    ensures { λ r. ⌜ r ≡ overlapping (kindOf kind) start end «other_start» «other_end» ⌝ }
+{
+    if !both_full(kind, start, end, other_start, other_end) {
+        return Relation::Empty;
+    }
+    if !full(kind, start, other_end) {
+        return Relation::No;
+    }
+    if !full(kind, other_start, end) {
+        return Relation::No;
+    }
+    Relation::Yes
+}
+
+// Whether some key lies past a range that ends with `end` and before `start`. One is added to an end only where a later key was seen, so the
+// greatest key is an end like any other.
+fn apart(kind: RangeKind, end: i64, start: i64) -> bool
+    ensures { λ r. ⌜ Decides r (kindOf kind .past end < rank start) ⌝ }
+{
+    if start <= end {
+        return false;
+    }
+    match kind {
+        RangeKind::HalfOpen => true,
+        RangeKind::Inclusive => {
+            if key::next(end) < start {
+                return true;
+            }
+            false
+        }
+    }
+}
+
+// Whether nothing lies between the ranges: they overlap, or one begins right where the other ends.
+pub fn touches(kind: RangeKind, start: i64, end: i64, other_start: i64, other_end: i64) -> Relation
+    ensures { λ r. ⌜ r ≡ touching (kindOf kind) start end «other_start» «other_end» ⌝ }
+{
+    if !both_full(kind, start, end, other_start, other_end) {
+        return Relation::Empty;
+    }
+    if apart(kind, other_end, start) {
+        return Relation::No;
+    }
+    if apart(kind, end, other_start) {
+        return Relation::No;
+    }
+    Relation::Yes
+}
+
+// What both ranges have: from the greater start to the lesser end, if a key is left. Any pair is taken.
+pub fn intersect(kind: RangeKind, start: i64, end: i64, other_start: i64, other_end: i64) -> Common
+    ensures { λ r. ⌜ r ≡ intersecting (kindOf kind) start end «other_start» «other_end» ⌝ }
+{
+    let s = key::max(start, other_start);
+    let e = key::min(end, other_end);
+    if !full(kind, s, e) {
+        return Common::Nothing;
+    }
+    Common::Between(s, e)
 }
 
 pub fn relation_numbers(r: Relation) -> Related

@@ -9,7 +9,8 @@ use Rattle.key.specs.Rank.{rank}
 use Rattle.key.specs.Range.{kindOf}
 use Rattle.key.proofs.Lawful.{lawful}
 use Rattle.lookup.specs.Walk.{Reached, Walked}
-use Rattle.lookup.proofs.Returns.{not-full, searched, good, part-empty, part-none, part-some}
+use Rattle.key.proofs.Answers.{not-full}
+use Rattle.lookup.proofs.Returns.{searched, good, part-empty, part-none, part-some}
 use Rattle.lookup.proofs.overlapping.Statement.{statement}
 use Rattle.lookup.proofs.overlapping.Tie as tie
 

@@ -13,7 +13,8 @@ use Rattle.key.specs.Rank.{rank}
 use Rattle.key.specs.Range.{kindOf}
 use Rattle.key.proofs.Lawful.{lawful}
 use Rattle.lookup.specs.Walk.{Reached}
-use Rattle.lookup.proofs.Returns.{not-full, searched, good, met-empty, met-yes, met-no}
+use Rattle.key.proofs.Answers.{not-full}
+use Rattle.lookup.proofs.Returns.{searched, good, met-empty, met-yes, met-no}
 use Rattle.lookup.proofs.overlaps.Statement.{statement}
 use Rattle.lookup.proofs.overlaps.Tie as tie
 

@@ -11,7 +11,7 @@ use mir.Val.{toZ, SFits}
 use mir.Facts.{toZ-ofZ}
 use Rattle.key.specs.Rank.{rank}
 use Rattle.key.specs.Range.{kindOf}
-use Rattle.lookup.proofs.Returns.{not-full}
+use Rattle.key.proofs.Answers.{not-full}
 use Rattle.lookup.proofs.walk.Statement.{statement}
 use Rattle.lookup.proofs.walk.Tie as tie
 
