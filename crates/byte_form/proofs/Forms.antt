@@ -21,6 +21,7 @@ use Rattle.outcomes.specs.Outcomes.{Entry, entries, formed, Edited, leaving}
 use Rattle.outcomes.proofs.Formed.{Spare, Formed, and-yes}
 use Rattle.outcomes.proofs.Formed as Formed
 use Rattle.outcomes.proofs.Bulk.{length-entries}
+use Rattle.outcomes.proofs.Storing.{length-filled}
 use Rattle.bytes_of.specs.Bytes.{bytesOf, numberOf, rangeIn, Bytes}
 use Rattle.bytes_of.proofs.Laws.{length-bytes, number-bytes, bytes-number, bytes-take, bytes-drop}
 use Rattle.byte_form.specs.Form.{mark, entriesOf, rangesBytes, formOf, rangesIn, countIn, mapOf, mapIn, same, isForm, reading, InMemory}
@@ -184,10 +185,6 @@ filled-all : {A : Type 0} (P : A → Type 0) (f : Entry → A) (p : ℕ) (z : A)
     → (n : ℕ) (bs : List ℕ) → Bytes bs → (k : ℕ) → P (getD (filled p z (map f (rangesIn n bs))) k z)
 unfolding filled
 filled-all P f p z pz pf n bs b k = column-all P f z (p - length (map f (rangesIn n bs))) pz pf n bs b k
-
-length-filled : {A : Type 0} (n : ℕ) (z : A) (l : List A) → length l ≤ n → length (filled n z l) ≡ n
-unfolding filled
-length-filled n z l h = length-append l (replicate (n - length l) z) ∙ omega (arith, length-replicate (n - length l) z)
 
 -- the map of some bytes is one as memory holds it
 pub count-in-map : (bs : List ℕ) → mapIn bs .count ≡ countIn bs

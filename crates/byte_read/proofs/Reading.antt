@@ -14,6 +14,7 @@ use Rattle.outcomes.specs.Stored.{places, Stored, stored, filled}
 use Rattle.outcomes.specs.Outcomes.{Entry, formed, leaving}
 use Rattle.outcomes.proofs.Formed.{Spare}
 use Rattle.outcomes.proofs.Formed as Formed
+use Rattle.outcomes.proofs.Storing.{spare-filled}
 use Rattle.places.specs.Check.{Steps, Unused}
 use Rattle.places.proofs.Checked.{answers}
 use Rattle.bytes_of.specs.Bytes.{keyOf, rangeIn, Bytes}
@@ -114,24 +115,13 @@ form-marked bs f = ap (take 4) (sym (f .bytes))
 pub form-few : (bs : List ℕ) → Form bs → countIn bs ≤ places
 form-few bs f = let h = Formed.formed halfOpen places (mapIn bs) (f .well) .held in omega (arith, count-in-map bs)
 
-spare-filled : {A : Type 0} (n : ℕ) (z : A) (l : List A) → Spare (filled n z l) (length l) z
-unfolding filled
-spare-filled n z l k h =
-    let e : length l + (k - length l) ≡ k = omega arith in
-    ap (λ (j : ℕ). getD (l ++ replicate (n - length l) z) j z) (sym e) ∙ getD-append-add l (replicate (n - length l) z) (k - length l) z ∙ all-same (n - length l) (k - length l)
-  where
-    all-same : (m j : ℕ) → getD (replicate m z) j z ≡ z
-    all-same zero j = refl
-    all-same (suc m) zero = refl
-    all-same (suc m) (suc j) = all-same m j
-
 unused-of : (xs : List Entry) → length xs ≤ places → Unused places (mapOf xs)
 unfolding mapOf
 unused-of xs h = record {
   held = h;
-  starts = λ k b. spare-filled places (pos 0) (map (λ (x : Entry). x .start) xs) k (omega (arith, length-map xs (λ (x : Entry). x .start)));
-  ends = λ k b. spare-filled places (pos 0) (map (λ (x : Entry). x .end) xs) k (omega (arith, length-map xs (λ (x : Entry). x .end)));
-  values = λ k b. spare-filled places 0 (map (λ (x : Entry). x .value) xs) k (omega (arith, length-map xs (λ (x : Entry). x .value)));
+  starts = λ k b. spare-filled places (pos 0) (map (λ (x : Entry). x .start) xs) (omega (arith, length-map xs (λ (x : Entry). x .start))) k (omega (arith, length-map xs (λ (x : Entry). x .start)));
+  ends = λ k b. spare-filled places (pos 0) (map (λ (x : Entry). x .end) xs) (omega (arith, length-map xs (λ (x : Entry). x .end))) k (omega (arith, length-map xs (λ (x : Entry). x .end)));
+  values = λ k b. spare-filled places 0 (map (λ (x : Entry). x .value) xs) (omega (arith, length-map xs (λ (x : Entry). x .value))) k (omega (arith, length-map xs (λ (x : Entry). x .value)));
 }
 
 -- the answer is that of the ranges

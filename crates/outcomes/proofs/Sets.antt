@@ -32,7 +32,8 @@ plain-spans kind (s ∷ ss) [] vs e = tt
 plain-spans kind (s ∷ ss) (e ∷ es) [] h = tt
 plain-spans kind (s ∷ ss) (e ∷ es) (v ∷ vs) h = let (a, b) = both (eqb v 0) (noughts vs) h in (eqb-true v 0 a, plain-spans kind ss es vs b)
 
-plain-take : (n : ℕ) (xs : List Span) → Plain xs → Plain (take n xs)
+-- and so those of a part of them
+pub plain-take : (n : ℕ) (xs : List Span) → Plain xs → Plain (take n xs)
 plain-take zero xs p = tt
 plain-take (suc n) [] p = tt
 plain-take (suc n) (x ∷ xs) p = (p .0, plain-take n xs (p .1))

@@ -63,11 +63,11 @@ values-back kind (s ∷ ss) (e ∷ es) (v ∷ vs) p q = rw (values-back kind ss 
 
 -- a column that is filled up: its length, its first places, and the others
 module _ {A : Type 0} (n : ℕ) (z : A) (l : List A) (room : length l ≤ n) where
-  length-filled : length (filled n z l) ≡ n
+  pub length-filled : length (filled n z l) ≡ n
   unfolding filled
   length-filled = rw (length-append, length-replicate (n - length l) z) (omega arith)
 
-  spare-filled : Spare (filled n z l) (length l) z
+  pub spare-filled : Spare (filled n z l) (length l) z
   unfolding filled
   spare-filled k h =
       let e : length l + (k - length l) ≡ k = omega arith in

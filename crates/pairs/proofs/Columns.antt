@@ -17,6 +17,7 @@ use Rattle.key.specs.Range.{Kind, kindOf, rangeOf}
 use Rattle.key.specs.declared.RangeKind.{RangeKind}
 use Rattle.outcomes.specs.Stored.{spans}
 use Rattle.outcomes.proofs.Formed.{length-spans, getD-spans}
+use Rattle.outcomes.proofs.Sets.{plain-take}
 use Rattle.pairs.specs.Kind.{wide}
 use Rattle.pairs.specs.Sides.{rows, rest, Side}
 use Rattle.pairs.proofs.Kinded.{past-is}
@@ -30,11 +31,6 @@ getD-noughts : (n k : ℕ) → _≡_ {A = ℕ} (getD (replicate n 0) k 0) 0
 getD-noughts zero k = refl
 getD-noughts (suc n) zero = refl
 getD-noughts (suc n) (suc k) = getD-noughts n k
-
-plain-take : (n : ℕ) (xs : List Span) → Plain xs → Plain (take n xs)
-plain-take zero xs p = tt
-plain-take (suc n) [] p = tt
-plain-take (suc n) (x ∷ xs) p = (p .0, plain-take n xs (p .1))
 
 plain-bare : (kind : Kind) (ss es : List ℤ) → Plain (spans kind ss es (replicate (length ss) 0))
 unfolding spans
