@@ -39,26 +39,15 @@ pub fn gaps<'a>(
     requires { ⌜ Sound (kindOf kind) (lent count starts ends values) ⌝ }
     ensures { λ r. ⌜ wrote r (now («out_starts» .exit)) (now («out_ends» .exit)) ≡ uncovered (kindOf kind) (lent (count .entry) (starts .entry) (ends .entry) (values .entry)) start end (now («out_starts» .entry)) (now («out_ends» .entry)) ⌝ }
 {
-    match kind {
-        RangeKind::HalfOpen => gaps::half_open::gaps(
-            *count,
-            starts,
-            ends,
-            values,
-            start,
-            end,
-            out_starts,
-            out_ends,
-        ),
-        RangeKind::Inclusive => gaps::inclusive::gaps(
-            *count,
-            starts,
-            ends,
-            values,
-            start,
-            end,
-            out_starts,
-            out_ends,
-        ),
-    }
+    gaps::gaps(
+        kind,
+        *count,
+        starts,
+        ends,
+        values,
+        start,
+        end,
+        out_starts,
+        out_ends,
+    )
 }

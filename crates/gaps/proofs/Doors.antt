@@ -1,4 +1,4 @@
--- What the doors answer, for both kinds: of a well-formed map the walk from the right place finds the gaps.
+-- What the door answers, for either kind: of a well-formed map the walk from the right place finds the gaps.
 use Prim.Native.Nat.{ℕ, zero, suc, _+_, _≤_, _<_, min}
 use native.Mathlib.Omega.{arith}
 use native.Mathlib.Decide.{decLt}

@@ -1,20 +1,22 @@
--- The loops, one place at a time, for both kinds: what is found from here on, and what is written.
+-- The loops, one place at a time, for either kind: what is found from here on, and what is written.
 use Prim.Native.Nat.{ℕ, suc, _+_, _-_, _≤_, _<_}
 use native.Mathlib.Omega.{arith}
 use native.Mathlib.Decide.{decLt}
 use native.Mathlib.Numerals.{add-one}
 use mathlib.Core.Path.{_≡_, refl, sym, ap, _∙_}
+use mathlib.Core.Bool.{Bool, false}
 use mathlib.Core.List.{List, [], _∷_, _++_, map, append-nil, map-append}
 use lib.ListN.{length, getD, set, take, replicate, length-append, length-map, length-replicate, length-drop, drop-of-length-le}
 use lib.Seq.{sets, length-sets, drop-cons, getD-take, length-take-le}
-use lib.IntN.{ℤ, pos, _-ℤ_}
+use lib.IntN.{ℤ, pos}
 use mir.Syntax.{w64}
-use mir.Val.{SFits, toZ, ofZ}
+use mir.Val.{toZ, ofZ}
 use mir.Facts.{toZ-ofZ}
 use Rattle.span.specs.Span.{Span, span}
-use Rattle.key.specs.Rank.{rank, bitRank, keyAt}
-use Rattle.key.specs.Range.{Kind, inclusive, rangeOf}
-use Rattle.key.proofs.Laws.{rank-back, rank-prev, key-rank, toZ-fit}
+use Rattle.key.specs.Decides.{Decides}
+use Rattle.key.specs.Rank.{rank, bitRank, keyAt, keys}
+use Rattle.key.specs.Range.{Kind, rangeOf}
+use Rattle.key.proofs.Laws.{rank-back, key-rank, toZ-fit}
 use Rattle.key.proofs.Lawful.{Lawful}
 use Rattle.outcomes.proofs.Formed.{length-spans, getD-spans}
 use Rattle.lists.specs.Lists.{startsOf, endsOf, Room, Puts}
@@ -35,6 +37,24 @@ start ss k = rank (getD ss k (pos 0))
 -- the rank just past a place
 abbrev past : Kind → List ℤ → ℕ → ℕ
 past kind es k = kind .past (getD es k (pos 0))
+
+-- THE TESTS
+-- a range that is empty
+pub not-full : {r : Bool} {a b : ℕ} → Decides r (a < b) → r ≡ false → b ≤ a
+not-full d f = let h = d .wrong f in omega arith
+
+-- an end e, and the outer range's end, of which the code has the bits
+module _ {kind : Kind} (law : Lawful kind) (b : ℕ) (e : ℤ) where
+  pub reaches : bitRank b ≤ rank e → kind .past (toZ w64 b) ≤ kind .past e
+  reaches h = law .no-later (toZ w64 b) e (simp rank-back h)
+
+  module _ (h : rank e < bitRank b) where
+    pub falls-short : kind .past e < kind .past (toZ w64 b)
+    falls-short = law .later e (toZ w64 b) (simp rank-back h)
+
+    -- so a key follows it
+    pub followed : kind .past e < keys
+    followed = omega (arith, falls-short, law .ends-within (toZ w64 b), law .limit-keys)
 
 module _ (kind : Kind) {n from : ℕ} {ss es : List ℤ} (p : Places n from ss es) where
   length-bare : length (bare kind ss es) ≡ length ss
@@ -83,28 +103,27 @@ module _ (kind : Kind) {n from : ℕ} {ss es : List ℤ} (p : Places n from ss e
     met-last b e h i = rw e (rw (found-last c hi k b h i) at (m .sum))
 
     -- it does not: the cursor goes on to where it ends
-    pub met-on : {r c₁ : ℕ} → k < n → r ≡ length (gap c (start ss k)) → start ss k < hi → c₁ ≡ past kind es k → c₁ < hi → Met kind ss es n from lo hi (k + 1) c₁ (found + r)
+    pub met-on : {r c₁ : ℕ} → k < n → r ≡ length (gap c (start ss k)) → start ss k < hi → c₁ ≡ past kind es k → past kind es k < hi → Met kind ss es n from lo hi (k + 1) c₁ (found + r)
     met-on b e h q i =
-        let s = rw (found-on c hi k b h (omega arith), length-append) at (m .sum) in
-        record { within = omega arith; few = omega (arith, length-gap c (start ss k)); short = i; sum = rw (e, q) (omega (arith, s)) }
+        let s = rw (found-on c hi k b h i, length-append) at (m .sum) in
+        record { within = omega arith; few = omega (arith, length-gap c (start ss k)); short = omega arith; sum = rw (e, q) (omega (arith, s)) }
 
 -- WRITING
 -- a key as the code stores it, by its rank
-key-bits : (b : ℕ) → toZ w64 b ≡ keyAt (bitRank b)
+pub key-bits : (b : ℕ) → toZ w64 b ≡ keyAt (bitRank b)
 key-bits b = sym (ap keyAt (sym (rank-back b)) ∙ key-rank (toZ-fit b))
 
 pub set-key : (l : List ℤ) {l₁ : List ℤ} (n b : ℕ) → l₁ ≡ set l n (toZ w64 b) → l₁ ≡ set l n (keyAt (bitRank b))
 set-key l n b e = rw (← key-bits b) e
 
--- the key before one
-pub set-prev : (l : List ℤ) {l₁ : List ℤ} (n b : ℕ) → 0 < bitRank b → l₁ ≡ set l n (toZ w64 (ofZ w64 (toZ w64 b -ℤ pos 1))) → l₁ ≡ set l n (inclusive .ending (bitRank b))
-set-prev l n b h e =
-    let p : rank (toZ w64 b -ℤ pos 1) ≡ bitRank b - 1 = omega (arith, rank-prev b h) in
-    rw p at (set-key l n (ofZ w64 (toZ w64 b -ℤ pos 1)) e)
+module _ {kind : Kind} (law : Lawful kind) (l : List ℤ) {l₁ : List ℤ} (n : ℕ) where
+  -- the end of the outer range
+  pub set-end : (b : ℕ) → l₁ ≡ set l n (toZ w64 b) → l₁ ≡ set l n (kind .ending (kind .past (toZ w64 b)))
+  set-end b w = rw (law .back (toZ-fit b)) w
 
--- the end of the outer range
-pub set-end : {kind : Kind} → Lawful kind → (l : List ℤ) {l₁ : List ℤ} (n : ℕ) {e : ℤ} → SFits w64 e → l₁ ≡ set l n (toZ w64 (ofZ w64 e)) → l₁ ≡ set l n (kind .ending (kind .past e))
-set-end law l n f e = rw (law .back f, ← toZ-ofZ f) e
+  -- the end of a range up to a key
+  pub set-before : (d : ℤ) → 0 < rank d → {e : ℤ} → e ≡ kind .ending (rank d) → l₁ ≡ set l n (toZ w64 (ofZ w64 e)) → l₁ ≡ set l n (kind .ending (rank d))
+  set-before d h q w = rw (toZ-ofZ (law .written-fits (rank d) h (law .keys-within d))) at (rw q at w)
 
 -- one gap, or none
 pub gap-room : {os oe : List ℤ} (n c d : ℕ) → c < d → Room n (gap c d) os oe → (n < length os) × (n < length oe)
@@ -161,9 +180,9 @@ module _ (kind : Kind) {n from : ℕ} {ss es : List ℤ} (p : Places n from ss e
           let last = found-last kind p c hi k b h i in
           (w .0 ∙ met-last kind p (g .met) b refl h i, record { starts = w .1 .starts ∙ (rw last at (g .starts)); ends = w .1 .ends ∙ (rw last at (g .ends)) })
 
-      pub going-on : {c₁ : ℕ} → c₁ ≡ past kind es k → c₁ < hi → Going kind ss es os oe n from lo hi (k + 1) c₁ r os₂ oe₂
+      pub going-on : {c₁ : ℕ} → c₁ ≡ past kind es k → past kind es k < hi → Going kind ss es os oe n from lo hi (k + 1) c₁ r os₂ oe₂
       going-on {c₁} q i =
-          let on : walked c hi (rest kind ss es n k) ≡ gap c (start ss k) ++ walked c₁ hi (rest kind ss es n (k + 1)) = rw q (found-on kind p c hi k b h (omega arith)) in
+          let on : walked c hi (rest kind ss es n k) ≡ gap c (start ss k) ++ walked c₁ hi (rest kind ss es n (k + 1)) = rw q (found-on kind p c hi k b h i) in
           record {
             met = rw (w .0) (met-on kind p (g .met) b refl h q i);
             starts-as = rw (w .1 .starts) (length-sets os₁ found (startsOf (gap c (start ss k))) ∙ g .starts-as);

@@ -1,20 +1,62 @@
-// GAPS, for half-open ranges (mod half_open) and inclusive ones (mod inclusive): the maximal uncovered ranges inside an outer range.
+// GAPS, for either kind of range: the maximal uncovered ranges inside an outer range. It is one walk over the places, with a cursor: the first key that may be free.
 // Nothing is written before it is known that the lent lists are long enough; the gaps are counted for that only where there may be too many.
+// The kinds differ in four places: where a walk begins (`first`), whether a range from one key to another is empty (`full`, of the check), which end is written for
+// a range up to a key (`end_before`), and which key follows a range (`after`).
 use key::RangeKind;
-
-pub mod half_open;
-pub mod inclusive;
-
+use lists::put;
+use lists::shorter;
+use outcomes::Counted;
+use outcomes::EMPTY_RANGE;
+use outcomes::TOO_SHORT;
+use places::check::full;
+use places::search;
 ghost use mathlib.Core.Path.{_≡_};
-ghost use Prim.Native.Nat.{_≤_, _<_};
+ghost use Prim.Native.Nat.{_+_, _≤_, _<_};
 ghost use lib.ListN.{length};
 ghost use Rattle.key.specs.Decides.{Decides};
-ghost use Rattle.key.specs.Rank.{rank};
+ghost use Rattle.key.specs.Rank.{rank, keys};
 ghost use Rattle.key.specs.Range.{kindOf};
-ghost use Rattle.gaps.specs.Walk.{gap, found, Places};
+ghost use Rattle.outcomes.specs.Stored.{Sound, stored};
+ghost use Rattle.outcomes.specs.Outcomes.{uncovered};
+ghost use Rattle.places.specs.Search.{Ascends};
+ghost use Rattle.lists.specs.Lists.{wrote, Room, Puts};
+ghost use Rattle.gaps.specs.Walk.{gap, found, Places, First};
 
-// How many gaps lie between the cursor, the first key that may be free, and the next range: one or none.
-pub fn between(cursor: i64, start: i64) -> usize
+// The place of the first range that the key has not passed: a half-open range is past at its end, an inclusive one after it.
+fn first(kind: RangeKind, ends: &[i64], count: usize, key: i64) -> usize
+    requires { ⌜ (count ≤ length (now ends)) × Ascends count (now ends) ⌝ }
+    ensures { λ r. ⌜ First (kindOf kind) (now (ends .entry)) count (rank key) r ⌝ }
+{
+    match kind {
+        RangeKind::HalfOpen => search::ended(ends, count, key),
+        RangeKind::Inclusive => search::short_of(ends, count, key),
+    }
+}
+
+// The first key after a range. One is added to an inclusive end, so a later key must be known: the greatest key may be an end.
+fn after(kind: RangeKind, end: i64) -> i64
+    requires { ⌜ kindOf kind .past end < keys ⌝ }
+    ensures { λ r. ⌜ rank r ≡ kindOf kind .past end ⌝ }
+{
+    match kind {
+        RangeKind::HalfOpen => end,
+        RangeKind::Inclusive => end + 1,
+    }
+}
+
+// The end of a range that goes up to a key, without it.
+fn end_before(kind: RangeKind, key: i64) -> i64
+    requires { ⌜ 0 < rank key ⌝ }
+    ensures { λ r. ⌜ r ≡ kindOf kind .ending (rank key) ⌝ }
+{
+    match kind {
+        RangeKind::HalfOpen => key,
+        RangeKind::Inclusive => key - 1,
+    }
+}
+
+// How many gaps lie between the cursor and the next range: one or none.
+fn between(cursor: i64, start: i64) -> usize
     ensures { λ r. ⌜ r ≡ length (gap (rank cursor) (rank start)) ⌝ }
 {
     if cursor < start {
@@ -36,14 +78,27 @@ fn counted(
     requires { ⌜ Places count from (now starts) (now ends) × (rank start < kindOf kind .past end) ⌝ }
     ensures { λ r. ⌜ r ≡ length (found (kindOf kind) (now (starts .entry)) (now (ends .entry)) count from start end) ⌝ }
 {
-    match kind {
-        RangeKind::HalfOpen => half_open::counted(starts, ends, count, from, start, end),
-        RangeKind::Inclusive => inclusive::counted(starts, ends, count, from, start, end),
+    let mut n = 0;
+    let mut cursor = start;
+    let mut k = from;
+    while k < count {
+        let s = starts[k];
+        if !full(kind, s, end) {
+            return n + 1;
+        }
+        n += between(cursor, s);
+        let e = ends[k];
+        if end <= e {
+            return n;
+        }
+        cursor = after(kind, e);
+        k += 1;
     }
+    n + 1
 }
 
 // Whether `room` places are enough for the gaps. There is at most one before each range, and one more, so mostly none is counted.
-pub fn fits(
+fn fits(
     kind: RangeKind,
     starts: &[i64],
     ends: &[i64],
@@ -63,4 +118,101 @@ pub fn fits(
         return false;
     }
     true
+}
+
+// Writes the gap from the cursor up to the next range into place `n`, if there is one, and answers the next place.
+fn write_before(
+    kind: RangeKind,
+    out_starts: &mut [i64],
+    out_ends: &mut [i64],
+    n: usize,
+    cursor: i64,
+    next: i64,
+) -> usize
+    requires { ⌜ Room n (gap (rank cursor) (rank next)) (now «out_starts») (now «out_ends») ⌝ }
+    ensures { λ r. ⌜ (r ≡ n + length (gap (rank cursor) (rank next)))
+        × Puts (kindOf kind) n (gap (rank cursor) (rank next)) (now («out_starts» .entry)) (now («out_ends» .entry)) (now («out_starts» .exit)) (now («out_ends» .exit)) ⌝ }
+{
+    if cursor < next {
+        put(out_starts, out_ends, n, cursor, end_before(kind, next));
+        return n + 1;
+    }
+    n
+}
+
+// Writes the gaps, and answers how many there are. The cursor goes past a range only where the outer end was seen to lie after it.
+fn write(
+    kind: RangeKind,
+    starts: &[i64],
+    ends: &[i64],
+    count: usize,
+    from: usize,
+    start: i64,
+    end: i64,
+    out_starts: &mut [i64],
+    out_ends: &mut [i64],
+) -> usize
+    requires { ⌜ Places count from (now starts) (now ends) × (rank start < kindOf kind .past end)
+        × Room 0 (found (kindOf kind) (now starts) (now ends) count from start end) (now «out_starts») (now «out_ends») ⌝ }
+    ensures { λ r. ⌜ (r ≡ length (found (kindOf kind) (now (starts .entry)) (now (ends .entry)) count from start end))
+        × Puts (kindOf kind) 0 (found (kindOf kind) (now (starts .entry)) (now (ends .entry)) count from start end)
+        (now («out_starts» .entry)) (now («out_ends» .entry)) (now («out_starts» .exit)) (now («out_ends» .exit)) ⌝ }
+{
+    let mut at = 0;
+    let mut cursor = start;
+    let mut k = from;
+    while k < count {
+        let next = starts[k];
+        if !full(kind, next, end) {
+            put(out_starts, out_ends, at, cursor, end);
+            return at + 1;
+        }
+        at = write_before(kind, out_starts, out_ends, at, cursor, next);
+        let last = ends[k];
+        if end <= last {
+            return at;
+        }
+        cursor = after(kind, last);
+        k += 1;
+    }
+    put(out_starts, out_ends, at, cursor, end);
+    at + 1
+}
+
+// GAPS. The walk begins at the first range that the outer range's start has not passed. The values are lent as a part of the map, and none is read.
+pub fn gaps(
+    kind: RangeKind,
+    count: usize,
+    starts: &[i64],
+    ends: &[i64],
+    values: &[u8],
+    start: i64,
+    end: i64,
+    out_starts: &mut [i64],
+    out_ends: &mut [i64],
+) -> Counted
+    requires { ⌜ Sound (kindOf kind) (stored count (now starts) (now ends) (now values)) ⌝ }
+    ensures { λ r. ⌜ wrote r (now («out_starts» .exit)) (now («out_ends» .exit))
+        ≡ uncovered (kindOf kind) (stored count (now (starts .entry)) (now (ends .entry)) (now (values .entry))) start end (now («out_starts» .entry)) (now («out_ends» .entry)) ⌝ }
+{
+    if !full(kind, start, end) {
+        return Counted::Refused(EMPTY_RANGE);
+    }
+    let from = first(kind, ends, count, start);
+    let room = shorter(out_starts.len(), out_ends.len());
+    if !fits(kind, starts, ends, count, from, start, end, room) {
+        return Counted::Refused(TOO_SHORT);
+    }
+    let n = write(
+        kind,
+        starts,
+        ends,
+        count,
+        from,
+        start,
+        end,
+        out_starts,
+        out_ends,
+    );
+    Counted::Count(n)
 }
