@@ -3,6 +3,7 @@
 // The file `stdout` is what rangemap 1.8.0 answers, with document 01's numbers:
 //     rust/compare --replay set > crates/test_set/stdout
 // A line has a set by its ranges, what it is asked with, and the answers, each behind a letter: its number first, then all its fields.
+// A set is passed by value, and lent once for all the questions of a line: that is proved soonest.
 use key::RangeKind;
 use outcomes::Count;
 use outcomes::Order;
@@ -11,14 +12,14 @@ use outcomes::Range;
 use outcomes::Stretch;
 use outcomes::Told;
 use outcomes::Total;
-use outcomes::count_of;
-use outcomes::order_of;
-use outcomes::range_of;
-use outcomes::stretch_of;
-use outcomes::told_of;
-use sets::changed;
-use sets::found;
-use sets::stored;
+use test_text::Ends;
+use test_text::key_at;
+use test_text::print;
+use test_text::print_field;
+use test_text::print_key;
+use test_text::print_list;
+use test_text::print_range;
+use test_text::range_at;
 
 struct Set {
     count: usize,
@@ -27,31 +28,7 @@ struct Set {
     values: [u8; PLACES],
 }
 
-struct Ends {
-    start: i64,
-    end: i64,
-}
-
-// ---- keys, ranges and sets by number
-
-// The five keys: both ends of the i64, the key before the last, and two between.
-fn key_at(i: u32) -> i64 {
-    match i {
-        0 => -9223372036854775808,
-        1 => 0,
-        2 => 1,
-        3 => 9223372036854775806,
-        _ => 9223372036854775807,
-    }
-}
-
-// The 25 ranges over the keys, of which some are empty or reversed.
-fn range_at(i: u32) -> Ends {
-    Ends {
-        start: key_at(i / 5),
-        end: key_at(i % 5),
-    }
-}
+// ---- sets by number
 
 // The four cells, side by side.
 fn cell_at(kind: RangeKind, i: u32) -> Ends {
@@ -114,7 +91,7 @@ fn edit(kind: RangeKind, m: Set, r: Ends, inserts: bool) -> Edited {
     let mut ends = m.ends;
     let mut values = m.values;
     let answer = if inserts {
-        changed::insert(
+        set_numbers::insert(
             kind,
             &mut count,
             &mut starts,
@@ -124,7 +101,7 @@ fn edit(kind: RangeKind, m: Set, r: Ends, inserts: bool) -> Edited {
             r.end,
         )
     } else {
-        changed::remove(
+        set_numbers::remove(
             kind,
             &mut count,
             &mut starts,
@@ -181,109 +158,62 @@ fn set_at(kind: RangeKind, i: u32) -> Set {
 
 // ---- printing
 
-fn print(byte: u8) {
-    let bytes = [byte; 1];
-    io::write_all(1, &bytes);
-}
-
-// A space and a number.
-fn print_number(n: u64) {
-    print(b' ');
-    io::print_decimal(1, n);
-}
-
-// The ends of the i64 by name, and keys near them by their distance: the kit prints only numbers without a sign.
-fn print_key(key: i64) {
-    let near = 10000;
-    let zero = 9223372036854775808;
-    let greatest = 18446744073709551615;
-    let rank = key::rank_of(key);
-    if rank == 0 {
-        io::write_all(1, b"min");
-    } else if rank == greatest {
-        io::write_all(1, b"max");
-    } else if rank < near {
-        io::write_all(1, b"min+");
-        io::print_decimal(1, rank);
-    } else if greatest - rank < near {
-        io::write_all(1, b"max-");
-        io::print_decimal(1, greatest - rank);
-    } else if rank < zero {
-        print(b'-');
-        io::print_decimal(1, zero - rank);
-    } else {
-        io::print_decimal(1, rank - zero);
-    }
-}
-
-fn print_dots(kind: RangeKind) {
-    match kind {
-        RangeKind::HalfOpen => {
-            io::write_all(1, b"..");
-        }
-        RangeKind::Inclusive => {
-            io::write_all(1, b"..=");
-        }
-    }
-}
-
-// A space and a range.
-fn print_range(kind: RangeKind, start: i64, end: i64) {
-    print(b' ');
-    print_key(start);
-    print_dots(kind);
-    print_key(end);
-}
-
 // What was asked, a letter, and the number of the answer.
 fn print_answer(what: u8, answer: u8) {
     print(b' ');
     print(what);
-    print_number(answer as u64);
+    print_field(answer as u64);
 }
 
 fn print_told(what: u8, r: Told) {
     print_answer(what, r.answer);
-    print_number(r.yes as u64);
+    print_field(r.yes as u64);
 }
 
 fn print_count(what: u8, r: Count) {
     print_answer(what, r.answer);
-    print_number(r.count as u64);
+    print_field(r.count as u64);
+}
+
+fn print_total(what: u8, r: Total) {
+    print_answer(what, r.answer);
+    print_field(r.total);
 }
 
 fn print_found(what: u8, kind: RangeKind, r: Range) {
     print_answer(what, r.answer);
+    print(b' ');
     print_range(kind, r.start, r.end);
-    print_number(r.value as u64);
+    print_field(r.value as u64);
 }
 
 fn print_stretch(what: u8, r: Stretch) {
     print_answer(what, r.answer);
-    print_number(r.place as u64);
-    print_number(r.count as u64);
+    print_field(r.place as u64);
+    print_field(r.count as u64);
 }
 
 // The order plus one.
 fn print_order(what: u8, r: Order) {
     print_answer(what, r.answer);
     if r.order == -1 {
-        print_number(0);
+        print_field(0);
     } else if r.order == 1 {
-        print_number(2);
+        print_field(2);
     } else {
-        print_number(1);
+        print_field(1);
     }
 }
 
 fn range_of_set(kind: RangeKind, m: Set, place: usize) -> Range {
-    range_of(stored::range_at(kind, &m.count, &m.starts, &m.ends, &m.values, place))
+    set_numbers::range_at(kind, &m.count, &m.starts, &m.ends, &m.values, place)
 }
 
 // The range at a place, if there is one.
 fn print_place(kind: RangeKind, m: Set, place: usize) {
     let r = range_of_set(kind, m, place);
     if r.answer == 0 {
+        print(b' ');
         print_range(kind, r.start, r.end);
     }
 }
@@ -304,217 +234,276 @@ fn print_edited(what: u8, kind: RangeKind, r: Edited) {
     print_set(kind, r.set);
 }
 
-// The ranges of two lists of three places.
-fn print_list(kind: RangeKind, starts: [i64; 3], ends: [i64; 3]) {
-    print_range(kind, starts[0], ends[0]);
-    print_range(kind, starts[1], ends[1]);
-    print_range(kind, starts[2], ends[2]);
-}
-
 // ---- one set
 
-fn total(kind: RangeKind, m: Set) -> Total {
-    set_numbers::total(kind, &m.count, &m.starts, &m.ends, &m.values)
-}
-
-fn print_total(what: u8, r: Total) {
-    print_answer(what, r.answer);
-    print_number(r.total);
-}
-
 // Is empty, len, first, last, the second range and the total.
-fn print_whole(kind: RangeKind, m: Set) {
-    print_set(kind, m);
+fn ask_whole<'a>(
+    kind: RangeKind,
+    count: &'a usize,
+    starts: &'a [i64; PLACES],
+    ends: &'a [i64; PLACES],
+    values: &'a [u8; PLACES],
+) {
     print_told(
         b'e',
-        told_of(stored::is_empty(kind, &m.count, &m.starts, &m.ends, &m.values)),
+        set_numbers::is_empty(kind, count, starts, ends, values),
     );
-    print_count(
-        b'n',
-        count_of(stored::len(kind, &m.count, &m.starts, &m.ends, &m.values)),
-    );
+    print_count(b'n', set_numbers::len(kind, count, starts, ends, values));
     print_found(
         b'f',
         kind,
-        range_of(stored::first(kind, &m.count, &m.starts, &m.ends, &m.values)),
+        set_numbers::first(kind, count, starts, ends, values),
     );
     print_found(
         b'l',
         kind,
-        range_of(stored::last(kind, &m.count, &m.starts, &m.ends, &m.values)),
+        set_numbers::last(kind, count, starts, ends, values),
     );
-    print_found(b's', kind, range_of_set(kind, m, 1));
-    print_total(b't', total(kind, m));
+    print_found(
+        b's',
+        kind,
+        set_numbers::range_at(kind, count, starts, ends, values, 1),
+    );
+    print_total(b't', set_numbers::total(kind, count, starts, ends, values));
+}
+
+fn print_whole(kind: RangeKind, m: Set) {
+    print_set(kind, m);
+    ask_whole(kind, &m.count, &m.starts, &m.ends, &m.values);
     print(b'\n');
 }
 
 // Get and contains.
+fn ask_at<'a>(
+    kind: RangeKind,
+    count: &'a usize,
+    starts: &'a [i64; PLACES],
+    ends: &'a [i64; PLACES],
+    values: &'a [u8; PLACES],
+    key: i64,
+) {
+    print_found(
+        b'g',
+        kind,
+        set_numbers::get(kind, count, starts, ends, values, key),
+    );
+    print_told(
+        b'c',
+        set_numbers::contains(kind, count, starts, ends, values, key),
+    );
+}
+
 fn print_at(kind: RangeKind, m: Set, key: i64) {
     print_set(kind, m);
     print(b' ');
     print_key(key);
-    print_found(
-        b'g',
-        kind,
-        range_of(found::get(kind, &m.count, &m.starts, &m.ends, &m.values, key)),
-    );
-    print_told(
-        b'c',
-        told_of(found::contains(kind, &m.count, &m.starts, &m.ends, &m.values, key)),
-    );
+    ask_at(kind, &m.count, &m.starts, &m.ends, &m.values, key);
     print(b'\n');
 }
 
-// The gaps into three places, which hold 0 before.
-fn print_gaps(kind: RangeKind, m: Set, r: Ends) {
-    let mut starts = [0i64; 3];
-    let mut ends = [0i64; 3];
-    print_count(
-        b'w',
-        count_of(found::gaps(
-            kind,
-            &m.count,
-            &m.starts,
-            &m.ends,
-            &m.values,
-            r.start,
-            r.end,
-            &mut starts,
-            &mut ends,
-        )),
-    );
-    print_list(kind, starts, ends);
-}
-
-// Overlapping and overlaps.
-fn print_met(kind: RangeKind, m: Set, r: Ends) {
+// Overlapping, overlaps, and the gaps into three places, which hold 0 before.
+fn ask_over<'a>(
+    kind: RangeKind,
+    count: &'a usize,
+    starts: &'a [i64; PLACES],
+    ends: &'a [i64; PLACES],
+    values: &'a [u8; PLACES],
+    start: i64,
+    end: i64,
+) {
     print_stretch(
         b'o',
-        stretch_of(found::overlapping(
-            kind,
-            &m.count,
-            &m.starts,
-            &m.ends,
-            &m.values,
-            r.start,
-            r.end,
-        )),
+        set_numbers::overlapping(kind, count, starts, ends, values, start, end),
     );
     print_told(
         b'v',
-        told_of(found::overlaps(
-            kind,
-            &m.count,
-            &m.starts,
-            &m.ends,
-            &m.values,
-            r.start,
-            r.end,
-        )),
+        set_numbers::overlaps(kind, count, starts, ends, values, start, end),
     );
+    let mut gap_starts = [0i64; 3];
+    let mut gap_ends = [0i64; 3];
+    print_count(
+        b'w',
+        set_numbers::gaps(
+            kind,
+            count,
+            starts,
+            ends,
+            values,
+            start,
+            end,
+            &mut gap_starts,
+            &mut gap_ends,
+        ),
+    );
+    print_list(kind, &gap_starts, &gap_ends);
 }
 
-// Insert, remove, overlapping, overlaps and gaps.
+// Insert and remove, and the questions.
 fn print_over(kind: RangeKind, m: Set, r: Ends) {
     print_set(kind, m);
+    print(b' ');
     print_range(kind, r.start, r.end);
     print_edited(b'i', kind, edit(kind, m, r, true));
     print_edited(b'r', kind, edit(kind, m, r, false));
-    print_met(kind, m, r);
-    print_gaps(kind, m, r);
+    ask_over(
+        kind,
+        &m.count,
+        &m.starts,
+        &m.ends,
+        &m.values,
+        r.start,
+        r.end,
+    );
     print(b'\n');
 }
 
 // ---- two sets
 
-fn intersection(
+// The intersection into three places, which hold 0 before.
+fn ask_intersection<'a, 'b>(
     kind: RangeKind,
-    a: Set,
-    b: Set,
-    out_starts: &mut [i64],
-    out_ends: &mut [i64],
-) -> Count {
-    set_numbers::intersection(
-        kind,
-        &a.count,
-        &a.starts,
-        &a.ends,
-        &a.values,
-        &b.count,
-        &b.starts,
-        &b.ends,
-        &b.values,
-        out_starts,
-        out_ends,
-    )
+    count: &'a usize,
+    starts: &'a [i64; PLACES],
+    ends: &'a [i64; PLACES],
+    values: &'a [u8; PLACES],
+    count2: &'b usize,
+    starts2: &'b [i64; PLACES],
+    ends2: &'b [i64; PLACES],
+    values2: &'b [u8; PLACES],
+) {
+    let mut out_starts = [0i64; 3];
+    let mut out_ends = [0i64; 3];
+    print_count(
+        b'a',
+        set_numbers::intersection(
+            kind,
+            count,
+            starts,
+            ends,
+            values,
+            count2,
+            starts2,
+            ends2,
+            values2,
+            &mut out_starts,
+            &mut out_ends,
+        ),
+    );
+    print_list(kind, &out_starts, &out_ends);
 }
 
-fn union(kind: RangeKind, a: Set, b: Set, out_starts: &mut [i64], out_ends: &mut [i64]) -> Count {
-    set_numbers::union(
-        kind,
-        &a.count,
-        &a.starts,
-        &a.ends,
-        &a.values,
-        &b.count,
-        &b.starts,
-        &b.ends,
-        &b.values,
-        out_starts,
-        out_ends,
-    )
-}
-
-// Both into three places, which hold 0 before.
-fn print_intersection(kind: RangeKind, a: Set, b: Set) {
-    let mut starts = [0i64; 3];
-    let mut ends = [0i64; 3];
-    print_count(b'a', intersection(kind, a, b, &mut starts, &mut ends));
-    print_list(kind, starts, ends);
-}
-
-fn print_union(kind: RangeKind, a: Set, b: Set) {
-    let mut starts = [0i64; 3];
-    let mut ends = [0i64; 3];
-    print_count(b'u', union(kind, a, b, &mut starts, &mut ends));
-    print_list(kind, starts, ends);
+// The union in the same way.
+fn ask_union<'a, 'b>(
+    kind: RangeKind,
+    count: &'a usize,
+    starts: &'a [i64; PLACES],
+    ends: &'a [i64; PLACES],
+    values: &'a [u8; PLACES],
+    count2: &'b usize,
+    starts2: &'b [i64; PLACES],
+    ends2: &'b [i64; PLACES],
+    values2: &'b [u8; PLACES],
+) {
+    let mut out_starts = [0i64; 3];
+    let mut out_ends = [0i64; 3];
+    print_count(
+        b'u',
+        set_numbers::union(
+            kind,
+            count,
+            starts,
+            ends,
+            values,
+            count2,
+            starts2,
+            ends2,
+            values2,
+            &mut out_starts,
+            &mut out_ends,
+        ),
+    );
+    print_list(kind, &out_starts, &out_ends);
 }
 
 // Equality, order, intersection and union.
+fn ask_pair<'a, 'b>(
+    kind: RangeKind,
+    count: &'a usize,
+    starts: &'a [i64; PLACES],
+    ends: &'a [i64; PLACES],
+    values: &'a [u8; PLACES],
+    count2: &'b usize,
+    starts2: &'b [i64; PLACES],
+    ends2: &'b [i64; PLACES],
+    values2: &'b [u8; PLACES],
+) {
+    print_told(
+        b'q',
+        set_numbers::eq(
+            kind,
+            count,
+            starts,
+            ends,
+            values,
+            count2,
+            starts2,
+            ends2,
+            values2,
+        ),
+    );
+    print_order(
+        b'm',
+        set_numbers::cmp(
+            kind,
+            count,
+            starts,
+            ends,
+            values,
+            count2,
+            starts2,
+            ends2,
+            values2,
+        ),
+    );
+    ask_intersection(
+        kind,
+        count,
+        starts,
+        ends,
+        values,
+        count2,
+        starts2,
+        ends2,
+        values2,
+    );
+    ask_union(
+        kind,
+        count,
+        starts,
+        ends,
+        values,
+        count2,
+        starts2,
+        ends2,
+        values2,
+    );
+}
+
 fn print_pair(kind: RangeKind, a: Set, b: Set) {
     print_set(kind, a);
     print(b' ');
     print_set(kind, b);
-    print_told(
-        b'q',
-        told_of(stored::eq(
-            kind,
-            &a.count,
-            &a.starts,
-            &a.ends,
-            &a.values,
-            &b.count,
-            &b.starts,
-            &b.ends,
-            &b.values,
-        )),
+    ask_pair(
+        kind,
+        &a.count,
+        &a.starts,
+        &a.ends,
+        &a.values,
+        &b.count,
+        &b.starts,
+        &b.ends,
+        &b.values,
     );
-    print_order(
-        b'm',
-        order_of(stored::cmp(
-            kind,
-            &a.count,
-            &a.starts,
-            &a.ends,
-            &a.values,
-            &b.count,
-            &b.starts,
-            &b.ends,
-            &b.values,
-        )),
-    );
-    print_intersection(kind, a, b);
-    print_union(kind, a, b);
     print(b'\n');
 }
 
