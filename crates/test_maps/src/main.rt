@@ -4,6 +4,7 @@
 // A line that begins with # is printed as it is: document 01's cases are among the steps by name.
 // The file `stdout` is what rangemap 1.8.0 answers, with document 01's numbers:
 //     rust/compare --replay maps > crates/test_maps/stdout
+// A map is passed by value, and lent once for the question of a step: that is proved soonest.
 use key::RangeKind;
 use outcomes::Applied;
 use outcomes::Count;
@@ -12,6 +13,15 @@ use outcomes::PLACES;
 use outcomes::Range;
 use outcomes::Stretch;
 use outcomes::Told;
+use test_text::Ends;
+use test_text::print;
+use test_text::print_field;
+use test_text::print_key;
+use test_text::print_list;
+use test_text::print_number;
+use test_text::print_range;
+use test_text::print_told;
+use test_text::read_byte;
 
 // As many places as the lists of a step have at most.
 const LISTED: usize = 9;
@@ -39,27 +49,7 @@ struct Step {
     three: u8,
 }
 
-struct Ends {
-    start: i64,
-    end: i64,
-}
-
 // ---- reading
-
-// The next byte of the input, 0 at its end.
-fn read_byte() -> u8 {
-    let mut byte = [0u8; 1];
-    let n = io::read_full(0, &mut byte);
-    if n == 0 {
-        return 0;
-    }
-    byte[0]
-}
-
-fn print_byte(byte: u8) {
-    let bytes = [byte; 1];
-    io::write_all(1, &bytes);
-}
 
 // Prints the rest of a line.
 fn echo_line() {
@@ -69,7 +59,7 @@ fn echo_line() {
         if byte == 0 {
             return;
         }
-        print_byte(byte);
+        print(byte);
         if byte == b'\n' {
             return;
         }
@@ -150,135 +140,97 @@ fn ends_of(s: Step) -> Ends {
 
 // ---- printing
 
-fn print_number(n: usize) {
-    io::print_decimal(1, n as u64);
+// What stands between a question and its answer.
+fn print_colon() {
+    print(b':');
+    print(b' ');
 }
 
-fn print_digits(n: u8) {
-    io::print_decimal(1, n as u64);
+// The number of an answer.
+fn print_answer(answer: u8) {
+    print_colon();
+    print_number(answer as u64);
 }
 
-// The ends of the i64 by name, and keys near them by their distance: the kit prints only numbers without a sign.
-fn print_key(key: i64) {
-    let near = 10000;
-    let zero = 9223372036854775808;
-    let greatest = 18446744073709551615;
-    let rank = key::rank_of(key);
-    if rank == 0 {
-        io::write_all(1, b"min");
-    } else if rank == greatest {
-        io::write_all(1, b"max");
-    } else if rank < near {
-        io::write_all(1, b"min+");
-        io::print_decimal(1, rank);
-    } else if greatest - rank < near {
-        io::write_all(1, b"max-");
-        io::print_decimal(1, greatest - rank);
-    } else if rank < zero {
-        io::write_all(1, b"-");
-        io::print_decimal(1, zero - rank);
-    } else {
-        io::print_decimal(1, rank - zero);
-    }
+// What was asked, and over which range.
+fn print_asked(name: &[u8], kind: RangeKind, start: i64, end: i64) {
+    io::write_all(1, name);
+    print(b' ');
+    print_range(kind, start, end);
 }
 
-fn print_dots(kind: RangeKind) {
-    io::write_all(1, b"..");
-    match kind {
-        RangeKind::HalfOpen => {}
-        RangeKind::Inclusive => {
-            io::write_all(1, b"=");
-        }
-    }
-}
-
-fn print_range(kind: RangeKind, r: Ends) {
-    print_key(r.start);
-    print_dots(kind);
-    print_key(r.end);
+fn print_value(value: u8) {
+    print(b'>');
+    print_number(value as u64);
 }
 
 fn print_entry(kind: RangeKind, r: Range) {
-    print_range(
-        kind,
-        Ends {
-            start: r.start,
-            end: r.end,
-        },
-    );
-    io::write_all(1, b">");
-    print_digits(r.value);
+    print_range(kind, r.start, r.end);
+    print_value(r.value);
 }
 
-fn print_yes(yes: bool) {
-    if yes {
-        io::write_all(1, b" yes");
-    } else {
-        io::write_all(1, b" no");
-    }
-}
-
-fn print_told(r: Told) {
-    io::write_all(1, b": ");
-    print_digits(r.answer);
-    print_yes(r.yes);
-    io::write_all(1, b"\n");
+fn print_yes(r: Told) {
+    print_colon();
+    print_told(r.answer, r.yes);
 }
 
 fn print_found(kind: RangeKind, r: Range) {
-    io::write_all(1, b": ");
-    print_digits(r.answer);
-    io::write_all(1, b" ");
+    print_answer(r.answer);
+    print(b' ');
     print_entry(kind, r);
-    io::write_all(1, b"\n");
 }
 
 fn print_count(r: Count) {
-    io::write_all(1, b": ");
-    print_digits(r.answer);
-    io::write_all(1, b" ");
-    print_number(r.count);
+    print_answer(r.answer);
+    print_field(r.count as u64);
 }
 
 fn print_stretch(r: Stretch) {
-    io::write_all(1, b": ");
-    print_digits(r.answer);
+    print_answer(r.answer);
     io::write_all(1, b" place ");
-    print_number(r.place);
+    print_number(r.place as u64);
     io::write_all(1, b" count ");
-    print_number(r.count);
-    io::write_all(1, b"\n");
+    print_number(r.count as u64);
 }
 
 fn print_order(r: Order) {
-    print_digits(r.answer);
+    print_answer(r.answer);
+    print(b' ');
     if r.order == -1 {
-        io::write_all(1, b" -1\n");
+        print(b'-');
+        print(b'1');
     } else if r.order == 1 {
-        io::write_all(1, b" 1\n");
+        print(b'1');
     } else {
-        io::write_all(1, b" 0\n");
+        print(b'0');
     }
 }
 
 fn print_applied(r: Applied) {
-    print_digits(r.answer);
+    print_answer(r.answer);
     io::write_all(1, b" applied ");
-    print_number(r.applied);
+    print_number(r.applied as u64);
+}
+
+fn len(m: Map) -> Count {
+    numbers::len(m.kind, &m.count, &m.starts, &m.ends, &m.values)
+}
+
+fn range_at(m: Map, place: usize) -> Range {
+    numbers::range_at(m.kind, &m.count, &m.starts, &m.ends, &m.values, place)
 }
 
 // The range at a place, with a comma before it, if it is among the first so many.
 fn print_place(m: Map, place: usize, many: usize) {
+    let kind = m.kind;
     if place >= many {
         return;
     }
     if place > 0 {
-        io::write_all(1, b", ");
+        print(b',');
+        print(b' ');
     }
-    print_entry(
-        m.kind,
-        numbers::range_at(m.kind, &m.count, &m.starts, &m.ends, &m.values, place),
-    );
+    print_entry(kind, range_at(m, place));
 }
 
 // The first places, of which there are eight at most.
@@ -294,38 +246,36 @@ fn print_places(m: Map, many: usize) {
 }
 
 // A long map by its first three ranges, its last and their number.
-fn print_long(m: Map, count: usize) {
+fn print_ranges(m: Map, count: usize) {
+    if count <= 8 {
+        print_places(m, count);
+        return;
+    }
+    let kind = m.kind;
     print_places(m, 3);
     io::write_all(1, b", .., ");
-    print_entry(
-        m.kind,
-        numbers::last_range_value(m.kind, &m.count, &m.starts, &m.ends, &m.values),
-    );
-    io::write_all(1, b": ");
-    print_number(count);
+    print_entry(kind, range_at(m, count - 1));
+    print_colon();
+    print_number(count as u64);
     io::write_all(1, b" ranges");
 }
 
-fn print_ranges(m: Map, count: usize) {
-    io::write_all(1, b"{");
-    if count > 8 {
-        print_long(m, count);
+fn print_map(m: Map) {
+    let r = len(m);
+    if r.answer == 0 {
+        print(b'{');
+        print_ranges(m, r.count);
+        print(b'}');
     } else {
-        print_places(m, count);
+        io::write_all(1, b"not well formed");
     }
-    io::write_all(1, b"}");
 }
 
 // The map after a step.
 fn print_now(m: Map) {
     io::write_all(1, b", now ");
-    let r = numbers::len(m.kind, &m.count, &m.starts, &m.ends, &m.values);
-    if r.answer == 0 {
-        print_ranges(m, r.count);
-    } else {
-        io::write_all(1, b"not well formed");
-    }
-    io::write_all(1, b"\n");
+    print_map(m);
+    print(b'\n');
 }
 
 // ---- edits
@@ -340,7 +290,21 @@ fn new(kind: RangeKind) -> Map {
     }
 }
 
-fn insert(m: Map, r: Ends, value: u8) -> Map {
+// What an edit answers, and the map that it leaves.
+struct Edited {
+    answer: u8,
+    map: Map,
+}
+
+// Both printed, behind what was asked.
+fn shown(r: Edited) -> Map {
+    let left = r.map;
+    print_answer(r.answer);
+    print_now(left);
+    left
+}
+
+fn insert(m: Map, r: Ends, value: u8) -> Edited {
     let kind = m.kind;
     let mut count = m.count;
     let mut starts = m.starts;
@@ -356,24 +320,26 @@ fn insert(m: Map, r: Ends, value: u8) -> Map {
         r.end,
         value,
     );
-    io::write_all(1, b"insert ");
-    print_range(kind, r);
-    io::write_all(1, b">");
-    print_digits(value);
-    io::write_all(1, b": ");
-    print_digits(answer);
-    let left = Map {
-        kind: kind,
-        count: count,
-        starts: starts,
-        ends: ends,
-        values: values,
-    };
-    print_now(left);
-    left
+    Edited {
+        answer: answer,
+        map: Map {
+            kind: kind,
+            count: count,
+            starts: starts,
+            ends: ends,
+            values: values,
+        },
+    }
 }
 
-fn remove(m: Map, r: Ends) -> Map {
+fn show_insert(m: Map, r: Ends, value: u8) -> Map {
+    let kind = m.kind;
+    print_asked(b"insert", kind, r.start, r.end);
+    print_value(value);
+    shown(insert(m, r, value))
+}
+
+fn remove(m: Map, r: Ends) -> Edited {
     let kind = m.kind;
     let mut count = m.count;
     let mut starts = m.starts;
@@ -388,19 +354,22 @@ fn remove(m: Map, r: Ends) -> Map {
         r.start,
         r.end,
     );
-    io::write_all(1, b"remove ");
-    print_range(kind, r);
-    io::write_all(1, b": ");
-    print_digits(answer);
-    let left = Map {
-        kind: kind,
-        count: count,
-        starts: starts,
-        ends: ends,
-        values: values,
-    };
-    print_now(left);
-    left
+    Edited {
+        answer: answer,
+        map: Map {
+            kind: kind,
+            count: count,
+            starts: starts,
+            ends: ends,
+            values: values,
+        },
+    }
+}
+
+fn show_remove(m: Map, r: Ends) -> Map {
+    let kind = m.kind;
+    print_asked(b"remove", kind, r.start, r.end);
+    shown(remove(m, r))
 }
 
 fn clear(m: Map) -> Map {
@@ -420,38 +389,24 @@ fn clear(m: Map) -> Map {
     }
 }
 
-// The end of the range that has one key, by the key and the next.
-fn end_of_one(kind: RangeKind, key: u32, next: u32) -> i64 {
+// The range that has one key, by the key and the next.
+fn range_of_one(kind: RangeKind, key: u32, next: u32) -> Ends {
     match kind {
-        RangeKind::HalfOpen => next as i64,
-        RangeKind::Inclusive => key as i64,
+        RangeKind::HalfOpen => Ends {
+            start: key as i64,
+            end: next as i64,
+        },
+        RangeKind::Inclusive => Ends {
+            start: key as i64,
+            end: key as i64,
+        },
     }
 }
 
 // A range of one key and of value 7, and nothing printed.
 fn put(m: Map, key: u32, next: u32) -> Map {
     let kind = m.kind;
-    let mut count = m.count;
-    let mut starts = m.starts;
-    let mut ends = m.ends;
-    let mut values = m.values;
-    numbers::insert(
-        kind,
-        &mut count,
-        &mut starts,
-        &mut ends,
-        &mut values,
-        key as i64,
-        end_of_one(kind, key, next),
-        7,
-    );
-    Map {
-        kind: kind,
-        count: count,
-        starts: starts,
-        ends: ends,
-        values: values,
-    }
+    insert(m, range_of_one(kind, key, next), 7).map
 }
 
 // Document 01's full map: 512 ranges of one value at 0..1, 2..3, and so on; its inclusive sibling has 0..=0, 2..=2, and so on.
@@ -488,8 +443,8 @@ fn edit(m: Map, s: Step) -> Map {
     let what = s.what;
     let kind = m.kind;
     match what {
-        b'i' => insert(m, ends_of(s), digit(s.three)),
-        b'r' => remove(m, ends_of(s)),
+        b'i' => show_insert(m, ends_of(s), digit(s.three)),
+        b'r' => show_remove(m, ends_of(s)),
         b'c' => clear(m),
         b'f' => fill(kind),
         b'd' => damage(m),
@@ -499,164 +454,239 @@ fn edit(m: Map, s: Step) -> Map {
 
 // ---- questions
 
-fn ask_whole(m: Map, what: u8) {
+fn ask_whole<'a>(
+    kind: RangeKind,
+    count: &'a usize,
+    starts: &'a [i64; PLACES],
+    ends: &'a [i64; PLACES],
+    values: &'a [u8; PLACES],
+    what: u8,
+) {
     match what {
         b'e' => {
             io::write_all(1, b"is_empty");
-            print_told(numbers::is_empty(m.kind, &m.count, &m.starts, &m.ends, &m.values));
+            print_yes(numbers::is_empty(kind, count, starts, ends, values));
         }
         b'n' => {
             io::write_all(1, b"len");
-            print_count(numbers::len(m.kind, &m.count, &m.starts, &m.ends, &m.values));
-            io::write_all(1, b"\n");
+            print_count(numbers::len(kind, count, starts, ends, values));
         }
         b'h' => {
             io::write_all(1, b"first");
             print_found(
-                m.kind,
-                numbers::first_range_value(m.kind, &m.count, &m.starts, &m.ends, &m.values),
+                kind,
+                numbers::first_range_value(kind, count, starts, ends, values),
             );
         }
         b'l' => {
             io::write_all(1, b"last");
             print_found(
-                m.kind,
-                numbers::last_range_value(m.kind, &m.count, &m.starts, &m.ends, &m.values),
+                kind,
+                numbers::last_range_value(kind, count, starts, ends, values),
             );
         }
         _ => {}
     }
 }
 
-fn ask_place(m: Map, place: u8) {
+fn ask_place<'a>(
+    kind: RangeKind,
+    count: &'a usize,
+    starts: &'a [i64; PLACES],
+    ends: &'a [i64; PLACES],
+    values: &'a [u8; PLACES],
+    place: u8,
+) {
     io::write_all(1, b"range_at ");
-    print_digits(place);
+    print_number(place as u64);
     print_found(
-        m.kind,
-        numbers::range_at(
-            m.kind,
-            &m.count,
-            &m.starts,
-            &m.ends,
-            &m.values,
-            place as usize,
-        ),
+        kind,
+        numbers::range_at(kind, count, starts, ends, values, place as usize),
     );
 }
 
-fn ask_get(m: Map, key: i64) {
+fn ask_get<'a>(
+    kind: RangeKind,
+    count: &'a usize,
+    starts: &'a [i64; PLACES],
+    ends: &'a [i64; PLACES],
+    values: &'a [u8; PLACES],
+    key: i64,
+) {
     io::write_all(1, b"get ");
     print_key(key);
     print_found(
-        m.kind,
-        numbers::get_key_value(m.kind, &m.count, &m.starts, &m.ends, &m.values, key),
+        kind,
+        numbers::get_key_value(kind, count, starts, ends, values, key),
     );
 }
 
-fn ask_contains(m: Map, key: i64) {
+fn ask_contains<'a>(
+    kind: RangeKind,
+    count: &'a usize,
+    starts: &'a [i64; PLACES],
+    ends: &'a [i64; PLACES],
+    values: &'a [u8; PLACES],
+    key: i64,
+) {
     io::write_all(1, b"contains ");
     print_key(key);
-    print_told(numbers::contains_key(m.kind, &m.count, &m.starts, &m.ends, &m.values, key));
+    print_yes(numbers::contains_key(kind, count, starts, ends, values, key));
 }
 
-fn ask_overlapping(m: Map, r: Ends) {
-    io::write_all(1, b"overlapping ");
-    print_range(m.kind, r);
-    print_stretch(numbers::overlapping(
-        m.kind,
-        &m.count,
-        &m.starts,
-        &m.ends,
-        &m.values,
-        r.start,
-        r.end,
-    ));
-    io::write_all(1, b"overlaps ");
-    print_range(m.kind, r);
-    print_told(numbers::overlaps(
-        m.kind,
-        &m.count,
-        &m.starts,
-        &m.ends,
-        &m.values,
-        r.start,
-        r.end,
-    ));
+fn ask_overlapping<'a>(
+    kind: RangeKind,
+    count: &'a usize,
+    starts: &'a [i64; PLACES],
+    ends: &'a [i64; PLACES],
+    values: &'a [u8; PLACES],
+    start: i64,
+    end: i64,
+) {
+    print_asked(b"overlapping", kind, start, end);
+    print_stretch(numbers::overlapping(kind, count, starts, ends, values, start, end));
+    print(b'\n');
+    print_asked(b"overlaps", kind, start, end);
+    print_yes(numbers::overlaps(kind, count, starts, ends, values, start, end));
 }
 
-// The range at a place of two lists.
-fn print_listed(kind: RangeKind, starts: &[i64], ends: &[i64], i: usize) {
-    if i >= starts.len() {
-        return;
-    }
-    if i >= ends.len() {
-        return;
-    }
-    io::write_all(1, b" ");
-    print_range(
-        kind,
-        Ends {
-            start: starts[i],
-            end: ends[i],
-        },
-    );
-}
-
-fn print_list(kind: RangeKind, starts: &[i64], ends: &[i64]) {
-    for i in 0..LISTED {
-        print_listed(kind, starts, ends, i);
-    }
-    io::write_all(1, b"\n");
-}
-
-// The gaps into lists of so many places, which hold 0 before.
-fn ask_gaps(m: Map, r: Ends, out_starts: &mut [i64], out_ends: &mut [i64]) {
-    io::write_all(1, b"gaps ");
-    print_range(m.kind, r);
+// The gaps into lists of which the first has so many places; all hold 0 before.
+fn ask_gaps<'a>(
+    kind: RangeKind,
+    count: &'a usize,
+    starts: &'a [i64; PLACES],
+    ends: &'a [i64; PLACES],
+    values: &'a [u8; PLACES],
+    start: i64,
+    end: i64,
+    out_starts: &mut [i64],
+    out_ends: &mut [i64],
+) {
+    print_asked(b"gaps", kind, start, end);
     io::write_all(1, b" into ");
-    print_number(out_starts.len());
+    print_number(out_starts.len() as u64);
     print_count(numbers::gaps(
-        m.kind,
-        &m.count,
-        &m.starts,
-        &m.ends,
-        &m.values,
-        r.start,
-        r.end,
+        kind,
+        count,
+        starts,
+        ends,
+        values,
+        start,
+        end,
         out_starts,
         out_ends,
     ));
-    print_list(m.kind, out_starts, out_ends);
+    print_list(kind, out_starts, out_ends);
 }
 
 // Only one list is cut: the shorter decides.
-fn ask_gaps_into(m: Map, r: Ends, many: usize, out_starts: &mut [i64], out_ends: &mut [i64]) {
-    if many <= out_starts.len() {
-        ask_gaps(m, r, &mut out_starts[..many], out_ends);
+fn ask_some_gaps<'a>(
+    kind: RangeKind,
+    count: &'a usize,
+    starts: &'a [i64; PLACES],
+    ends: &'a [i64; PLACES],
+    values: &'a [u8; PLACES],
+    start: i64,
+    end: i64,
+    many: usize,
+) {
+    let mut out_starts = [0i64; LISTED];
+    let mut out_ends = [0i64; LISTED];
+    if many <= LISTED {
+        ask_gaps(
+            kind,
+            count,
+            starts,
+            ends,
+            values,
+            start,
+            end,
+            &mut out_starts[0..many],
+            &mut out_ends,
+        );
     }
 }
 
-fn ask_some_gaps(m: Map, r: Ends, many: u8) {
-    let mut starts = [0i64; LISTED];
-    let mut ends = [0i64; LISTED];
-    ask_gaps_into(m, r, many as usize, &mut starts, &mut ends);
+fn ask_by<'a>(
+    kind: RangeKind,
+    count: &'a usize,
+    starts: &'a [i64; PLACES],
+    ends: &'a [i64; PLACES],
+    values: &'a [u8; PLACES],
+    s: Step,
+) {
+    let what = s.what;
+    match what {
+        b'p' => ask_place(kind, count, starts, ends, values, digit(s.one)),
+        b'g' => ask_get(kind, count, starts, ends, values, key_of(s.one)),
+        b'k' => ask_contains(kind, count, starts, ends, values, key_of(s.one)),
+        b'o' => ask_overlapping(
+            kind,
+            count,
+            starts,
+            ends,
+            values,
+            key_of(s.one),
+            key_of(s.two),
+        ),
+        b'w' => ask_some_gaps(
+            kind,
+            count,
+            starts,
+            ends,
+            values,
+            key_of(s.one),
+            key_of(s.two),
+            digit(s.three) as usize,
+        ),
+        _ => ask_whole(kind, count, starts, ends, values, what),
+    }
 }
 
 fn ask(m: Map, s: Step) {
-    let what = s.what;
-    match what {
-        b'p' => ask_place(m, digit(s.one)),
-        b'g' => ask_get(m, key_of(s.one)),
-        b'k' => ask_contains(m, key_of(s.one)),
-        b'o' => ask_overlapping(m, ends_of(s)),
-        b'w' => ask_some_gaps(m, ends_of(s), digit(s.three)),
-        _ => ask_whole(m, what),
-    }
+    ask_by(m.kind, &m.count, &m.starts, &m.ends, &m.values, s);
+    print(b'\n');
+}
+
+fn compare_by<'a, 'b>(
+    kind: RangeKind,
+    count: &'a usize,
+    starts: &'a [i64; PLACES],
+    ends: &'a [i64; PLACES],
+    values: &'a [u8; PLACES],
+    count2: &'b usize,
+    starts2: &'b [i64; PLACES],
+    ends2: &'b [i64; PLACES],
+    values2: &'b [u8; PLACES],
+) {
+    io::write_all(1, b"eq");
+    print_yes(numbers::eq(
+        kind,
+        count,
+        starts,
+        ends,
+        values,
+        count2,
+        starts2,
+        ends2,
+        values2,
+    ));
+    io::write_all(1, b", cmp");
+    print_order(numbers::cmp(
+        kind,
+        count,
+        starts,
+        ends,
+        values,
+        count2,
+        starts2,
+        ends2,
+        values2,
+    ));
 }
 
 fn compare(a: Map, b: Map) {
-    io::write_all(1, b"eq");
-    let told = numbers::eq(
+    compare_by(
         a.kind,
         &a.count,
         &a.starts,
@@ -667,21 +697,7 @@ fn compare(a: Map, b: Map) {
         &b.ends,
         &b.values,
     );
-    io::write_all(1, b": ");
-    print_digits(told.answer);
-    print_yes(told.yes);
-    io::write_all(1, b", cmp: ");
-    print_order(numbers::cmp(
-        a.kind,
-        &a.count,
-        &a.starts,
-        &a.ends,
-        &a.values,
-        &b.count,
-        &b.starts,
-        &b.ends,
-        &b.values,
-    ));
+    print(b'\n');
 }
 
 // ---- bulk insert
@@ -716,13 +732,14 @@ fn listed(list: List, r: Ends, value: u8) -> List {
     }
 }
 
+// The map with the entries, whose number is printed with the answer.
 fn extend(m: Map, new_starts: &[i64], new_ends: &[i64], new_values: &[u8]) -> Map {
     let kind = m.kind;
     let mut count = m.count;
     let mut starts = m.starts;
     let mut ends = m.ends;
     let mut values = m.values;
-    let told = numbers::extend(
+    print_applied(numbers::extend(
         kind,
         &mut count,
         &mut starts,
@@ -731,28 +748,22 @@ fn extend(m: Map, new_starts: &[i64], new_ends: &[i64], new_values: &[u8]) -> Ma
         new_starts,
         new_ends,
         new_values,
-    );
-    io::write_all(1, b"extend by ");
-    print_number(new_starts.len());
-    io::write_all(1, b": ");
-    print_applied(told);
-    let left = Map {
+    ));
+    Map {
         kind: kind,
         count: count,
         starts: starts,
         ends: ends,
         values: values,
-    };
-    print_now(left);
-    left
+    }
 }
 
 // The first so many entries. Only one list is cut: the shortest decides.
 fn extend_by(m: Map, many: usize, starts: &[i64], ends: &[i64], values: &[u8]) -> Map {
-    if many > starts.len() {
-        return m;
+    if many <= starts.len() {
+        return extend(m, &starts[0..many], ends, values);
     }
-    extend(m, &starts[..many], ends, values)
+    m
 }
 
 fn extend_list(m: Map, list: List) -> Map {
@@ -760,6 +771,14 @@ fn extend_list(m: Map, list: List) -> Map {
     let ends = list.ends;
     let values = list.values;
     extend_by(m, list.length, &starts, &ends, &values)
+}
+
+fn show_extend(m: Map, list: List) -> Map {
+    io::write_all(1, b"extend by ");
+    print_number(list.length as u64);
+    let left = extend_list(m, list);
+    print_now(left);
+    left
 }
 
 // What the steps work on.
@@ -809,17 +828,18 @@ fn take(state: State, s: Step) -> State {
             list: listed(list, ends_of(s), digit(s.three)),
         },
         b'x' => State {
-            map: extend_list(map, list),
+            map: show_extend(map, list),
             other: other,
             list: no_list(),
         },
+        b'i' | b'r' | b'c' | b'f' | b'd' => State {
+            map: edit(map, s),
+            other: other,
+            list: list,
+        },
         _ => {
             ask(map, s);
-            State {
-                map: edit(map, s),
-                other: other,
-                list: list,
-            }
+            state
         }
     }
 }
@@ -833,7 +853,7 @@ fn main() {
             return;
         }
         if what == b'#' {
-            print_byte(what);
+            print(what);
             echo_line();
         } else {
             state = take(state, read_step(what));

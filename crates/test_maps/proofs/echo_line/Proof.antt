@@ -18,8 +18,8 @@ read-byte-requires c κs = tt
 returns : tie.Need-returns Inv-loop μ-loop
 returns c = tt
 
-print-byte-requires : tie.Need-print-byte-requires Inv-loop μ-loop
-print-byte-requires c κs = tt
+print-requires : tie.Need-print-requires Inv-loop μ-loop
+print-requires c κs = tt
 
 returns-2 : tie.Need-returns-2 Inv-loop μ-loop
 returns-2 c = tt
@@ -45,7 +45,7 @@ echo-line-spec =
     loop-holds
     read-byte-requires
     returns
-    print-byte-requires
+    print-requires
     returns-2
     sub-turns
     loop-less

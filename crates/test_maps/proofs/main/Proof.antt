@@ -21,8 +21,8 @@ read-byte-requires c κs = tt
 returns : tie.Need-returns Inv-loop μ-loop
 returns c = tt
 
-print-byte-requires : tie.Need-print-byte-requires Inv-loop μ-loop
-print-byte-requires c κs = tt
+print-requires : tie.Need-print-requires Inv-loop μ-loop
+print-requires c κs = tt
 
 echo-line-requires : tie.Need-echo-line-requires Inv-loop μ-loop
 echo-line-requires c κs = tt
@@ -55,7 +55,7 @@ main-spec =
     loop-holds
     read-byte-requires
     returns
-    print-byte-requires
+    print-requires
     echo-line-requires
     read-step-requires
     take-requires
