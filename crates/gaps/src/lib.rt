@@ -3,12 +3,12 @@
 // The kinds differ in four places: where a walk begins (`first`), whether a range from one key to another is empty (`full`, of the check), which end is written for
 // a range up to a key (`end_before`), and which key follows a range (`after`).
 use key::RangeKind;
+use key::full;
 use lists::put;
 use lists::shorter;
 use outcomes::Counted;
 use outcomes::EMPTY_RANGE;
 use outcomes::TOO_SHORT;
-use places::check::full;
 use places::search;
 ghost use mathlib.Core.Path.{_≡_};
 ghost use Prim.Native.Nat.{_+_, _≤_, _<_};
