@@ -1,25 +1,26 @@
 -- What the door answers, for either kind: of a well-formed map the walk from the right place finds the gaps.
-use Prim.Native.Nat.{ℕ, zero, suc, _+_, _≤_, _<_, min}
+use Prim.Native.Nat.{ℕ, zero, suc, _≤_, _<_, min}
 use native.Mathlib.Omega.{arith}
 use native.Mathlib.Decide.{decLt}
 use mathlib.Core.Path.{_≡_, refl, ap, _∙_}
 use mathlib.Core.List.{List, [], _∷_, map}
-use borrow.Author.Tests.{lt-ltb, le-ltb, le-leb, lt-leb}
-use lib.ListN.{length, getD, take, drop, length-map, take-append-drop, drop-of-length-le}
-use lib.Seq.{sets, sets-eq, drop-cons}
+use borrow.Author.Tests.{le-leb, lt-leb}
+use lib.ListN.{length, getD, take, drop, take-append-drop, drop-of-length-le}
+use lib.Seq.{drop-cons}
 use lib.IntN.{ℤ, pos}
 use Rattle.span.specs.Span.{Span, span, Upto}
 use Rattle.span.specs.Operations.{gaps}
-use Rattle.key.specs.Rank.{rank, keyAt}
+use Rattle.key.specs.Rank.{rank}
 use Rattle.key.specs.Range.{Kind}
 use Rattle.outcomes.specs.Stored.{Stored, spans, ranges, Sound}
-use Rattle.outcomes.specs.Outcomes.{over, writing, uncovered}
+use Rattle.outcomes.specs.Outcomes.{writing, uncovered}
 use Rattle.outcomes.specs.declared.Counted.the-variants as Counted
 use Rattle.outcomes.proofs.Storing.{map-take, map-drop}
 use Rattle.outcomes.proofs.Formed.{Formed, Shaped, formed, length-ranges, getD-ranges}
+use Rattle.places.specs.Search.{Reached}
 use Rattle.lists.specs.Lists.{wrote, Puts}
 use Rattle.lists.proofs.Answering as answering
-use Rattle.gaps.specs.Walk.{walked, bare, rest, found, Places, First}
+use Rattle.gaps.specs.Walk.{walked, bare, rest, found, Places}
 use Rattle.gaps.proofs.Walk.{Ahead, walked-gaps}
 
 -- a gap does not depend on values
@@ -78,24 +79,25 @@ module _ (kind : Kind) {m : Stored} (sound : Sound kind m) where
       rw (plain-spans kind (m .starts) (m .ends) (m .values) (sound .ends-as) (sound .values-as), ← map-take plain (m .count) xs, ← map-drop plain p (take (m .count) xs))
       (walked-plain lo hi (drop p (take (m .count) xs)))
 
-  module _ {p lo : ℕ} (first : First kind (m .ends) (m .count) lo p) where
+  module _ {p : ℕ} {s : ℤ} (first : Reached kind (m .count) (m .ends) s p) where
     pub places : Places (m .count) p (m .starts) (m .ends)
     places = record { held = well .held; ends-as = sound .ends-as; from = first .within }
 
-    -- THE WALK from the first range that ends past lo finds the gaps
-    finds-gaps : (hi : ℕ) → lo < hi → walked lo hi (rest kind (m .starts) (m .ends) (m .count) p) ≡ gaps lo hi (ranges kind m)
+    -- THE WALK from the first range that s has not passed finds the gaps
+    finds-gaps : (hi : ℕ) → rank s < hi → walked (rank s) hi (rest kind (m .starts) (m .ends) (m .count) p) ≡ gaps (rank s) hi (ranges kind m)
     finds-gaps hi h =
+        let lo = rank s in
         let xs = ranges kind m in
         let n = length-ranges kind (length (m .starts)) m shape (well .held) in
         let whole = take-append-drop p xs in
-        let ended : (j : ℕ) → j < p → getD xs j (span 0 0 0) .hi ≤ lo = λ j b. rw (end-at j (omega (arith, first .within))) (first .ended j b) in
-        let goes-on : p < length xs → lo ≤ getD xs p (span 0 0 0) .hi = λ b. rw (end-at p (omega arith)) (omega (arith, first .goes-on (omega arith))) in
+        let ended : (j : ℕ) → j < p → getD xs j (span 0 0 0) .hi ≤ lo = λ j b. rw (end-at j (omega (arith, first .within))) (first .below j b) in
+        let goes-on : p < length xs → lo ≤ getD xs p (span 0 0 0) .hi = λ b. rw (end-at p (omega arith)) (omega (arith, first .at (omega arith))) in
         rest-plain lo hi p
         ∙ walked-gaps lo hi 0 (take p xs) (drop p xs) h (rw whole (well .tidy .ordered)) (upto-take lo p (span 0 0 0) xs (omega (arith, first .within)) ended) (ahead-drop lo p (span 0 0 0) xs goes-on)
         ∙ ap (gaps lo hi) whole
 
   -- THE ANSWERS where the outer range is not empty, by what the parts find. r is the room that there is
-  module _ {p : ℕ} (s e : ℤ) (first : First kind (m .ends) (m .count) (rank s) p) (real : rank s < kind .past e) (os oe : List ℤ) {r : ℕ} (room : r ≡ min (length os) (length oe)) where
+  module _ {p : ℕ} (s e : ℤ) (first : Reached kind (m .count) (m .ends) s p) (real : rank s < kind .past e) (os oe : List ℤ) {r : ℕ} (room : r ≡ min (length os) (length oe)) where
     pub answers-short : (length (found kind (m .starts) (m .ends) (m .count) p s e) ≤ r → ⊥) → wrote (Counted.Refused 3) os oe ≡ uncovered kind m s e os oe
     answers-short h =
         answering.answers-short kind _ os oe room (rw (finds-gaps first (kind .past e) real) at h) ∙ real-range kind m s e os oe real

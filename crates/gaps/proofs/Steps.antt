@@ -4,7 +4,6 @@ use native.Mathlib.Omega.{arith}
 use native.Mathlib.Decide.{decLt}
 use native.Mathlib.Numerals.{add-one}
 use mathlib.Core.Path.{_≡_, refl, sym, ap, _∙_}
-use mathlib.Core.Bool.{Bool, false}
 use mathlib.Core.List.{List, [], _∷_, _++_, map, append-nil, map-append}
 use lib.ListN.{length, getD, set, take, replicate, length-append, length-map, length-replicate, length-drop, drop-of-length-le}
 use lib.Seq.{sets, length-sets, drop-cons, getD-take, length-take-le}
@@ -13,7 +12,6 @@ use mir.Syntax.{w64}
 use mir.Val.{toZ, ofZ}
 use mir.Facts.{toZ-ofZ}
 use Rattle.span.specs.Span.{Span, span}
-use Rattle.key.specs.Decides.{Decides}
 use Rattle.key.specs.Rank.{rank, bitRank, keyAt, keys}
 use Rattle.key.specs.Range.{Kind, rangeOf}
 use Rattle.key.proofs.Laws.{rank-back, key-rank, toZ-fit}
@@ -38,12 +36,7 @@ start ss k = rank (getD ss k (pos 0))
 abbrev past : Kind → List ℤ → ℕ → ℕ
 past kind es k = kind .past (getD es k (pos 0))
 
--- THE TESTS
--- a range that is empty
-pub not-full : {r : Bool} {a b : ℕ} → Decides r (a < b) → r ≡ false → b ≤ a
-not-full d f = let h = d .wrong f in omega arith
-
--- an end e, and the outer range's end, of which the code has the bits
+-- THE TEST of an end: an end e, and the outer range's end, of which the code has the bits
 module _ {kind : Kind} (law : Lawful kind) (b : ℕ) (e : ℤ) where
   pub reaches : bitRank b ≤ rank e → kind .past (toZ w64 b) ≤ kind .past e
   reaches h = law .no-later (toZ w64 b) e (simp rank-back h)

@@ -1,18 +1,15 @@
 -- The walk that finds the gaps. `kind` is `halfOpen` or `inclusive`.
-use Prim.Native.Nat.{ℕ, _+_, _≤_, _<_}
+use Prim.Native.Nat.{ℕ, _≤_}
 use mathlib.Core.Path.{_≡_}
 use mathlib.Core.Bool.{cond}
 use mathlib.Core.List.{List, [], _∷_, _++_}
 use lib.Dec.{leb}
-use lib.ListN.{length, getD, take, drop, replicate}
-use lib.Seq.{sets}
-use lib.IntN.{ℤ, pos}
+use lib.ListN.{length, take, drop, replicate}
+use lib.IntN.{ℤ}
 use Rattle.span.specs.Span.{Span, span, keep}
-use Rattle.key.specs.Rank.{rank, keyAt}
+use Rattle.key.specs.Rank.{rank}
 use Rattle.key.specs.Range.{Kind}
 use Rattle.outcomes.specs.Stored.{spans}
-use Rattle.outcomes.specs.Outcomes.{Written}
-use Rattle.outcomes.specs.declared.Counted.{Counted}
 
 -- the gap from c up to d, if there is one
 unfoldable pub gap : ℕ → ℕ → List Span
@@ -40,9 +37,3 @@ pub record Places (n k : ℕ) (ss es : List ℤ) : Type 0 where
   pub held : n ≤ length ss
   pub ends-as : length es ≡ length ss
   pub from : k ≤ n
-
--- of the first n places, p is the first whose range ends past lo
-pub record First (kind : Kind) (es : List ℤ) (n lo p : ℕ) : Type 0 where
-  pub within : p ≤ n
-  pub ended : (j : ℕ) → j < p → kind .past (getD es j (pos 0)) ≤ lo
-  pub goes-on : p < n → lo < kind .past (getD es p (pos 0))

@@ -1,6 +1,6 @@
 // GAPS, for either kind of range: the maximal uncovered ranges inside an outer range. It is one walk over the places, with a cursor: the first key that may be free.
 // Nothing is written before it is known that the lent lists are long enough; the gaps are counted for that only where there may be too many.
-// The kinds differ in four places: where a walk begins (`first`), whether a range from one key to another is empty (`full`, of the check), which end is written for
+// The kinds differ in four places: where a walk begins (`reaching`, of the search), whether a range from one key to another is empty (`full`, of the keys), which end is written for
 // a range up to a key (`end_before`), and which key follows a range (`after`).
 use key::RangeKind;
 use key::full;
@@ -9,7 +9,7 @@ use lists::shorter;
 use outcomes::Counted;
 use outcomes::EMPTY_RANGE;
 use outcomes::TOO_SHORT;
-use places::search;
+use places::search::reaching;
 ghost use mathlib.Core.Path.{_≡_};
 ghost use Prim.Native.Nat.{_+_, _≤_, _<_};
 ghost use lib.ListN.{length};
@@ -18,20 +18,8 @@ ghost use Rattle.key.specs.Rank.{rank, keys};
 ghost use Rattle.key.specs.Range.{kindOf};
 ghost use Rattle.outcomes.specs.Stored.{Sound, stored};
 ghost use Rattle.outcomes.specs.Outcomes.{uncovered};
-ghost use Rattle.places.specs.Search.{Ascends};
 ghost use Rattle.lists.specs.Lists.{wrote, Room, Puts};
-ghost use Rattle.gaps.specs.Walk.{gap, found, Places, First};
-
-// The place of the first range that the key has not passed: a half-open range is past at its end, an inclusive one after it.
-fn first(kind: RangeKind, ends: &[i64], count: usize, key: i64) -> usize
-    requires { ⌜ (count ≤ length (now ends)) × Ascends count (now ends) ⌝ }
-    ensures { λ r. ⌜ First (kindOf kind) (now (ends .entry)) count (rank key) r ⌝ }
-{
-    match kind {
-        RangeKind::HalfOpen => search::ended(ends, count, key),
-        RangeKind::Inclusive => search::short_of(ends, count, key),
-    }
-}
+ghost use Rattle.gaps.specs.Walk.{gap, found, Places};
 
 // The first key after a range. One is added to an inclusive end, so a later key must be known: the greatest key may be an end.
 fn after(kind: RangeKind, end: i64) -> i64
@@ -198,7 +186,7 @@ pub fn gaps(
     if !full(kind, start, end) {
         return Counted::Refused(EMPTY_RANGE);
     }
-    let from = first(kind, ends, count, start);
+    let from = reaching(kind, ends, count, start);
     let room = shorter(out_starts.len(), out_ends.len());
     if !fits(kind, starts, ends, count, from, start, end, room) {
         return Counted::Refused(TOO_SHORT);

@@ -23,7 +23,8 @@ use Rattle.outcomes.specs.declared.Found.{Found}
 use Rattle.outcomes.specs.declared.Found.the-variants as Found
 use Rattle.outcomes.specs.declared.Part.the-variants as Part
 use Rattle.places.specs.Check.{place}
-use Rattle.lookup.specs.Walk.{Reached, Walked}
+use Rattle.places.specs.Search.{Reached}
+use Rattle.lookup.specs.Walk.{Walked}
 use Rattle.lookup.proofs.Places.{nth, Exactly, exactly-inside, missed-free, meets-none}
 use Rattle.lookup.proofs.Returns.{good, as-many, nth-place, the-first-range, rising, placed-at, placed-none, met-empty, met-yes, met-no, exactly-met, part-empty, part-none, part-some}
 

@@ -5,15 +5,13 @@ use native.Mathlib.Decide.{decLt}
 use native.Mathlib.Numerals.{add-one}
 use mathlib.Core.Path.{_≡_, refl, sym, ap, _∙_}
 use mathlib.Core.Bool.{Bool, true, false}
-use mathlib.Core.List.{List}
 use borrow.Author.Tests.{lt-ltb, le-ltb, le-leb, lt-leb, eq-eqb, ne-eqb}
-use lib.ListN.{length, getD, take}
+use lib.ListN.{length, getD}
 use lib.IntN.{ℤ, pos}
 use Rattle.span.specs.Span.{Span, span}
 use Rattle.span.specs.Operations.{overlaps, any, holds}
 use Rattle.key.specs.Rank.{rank}
 use Rattle.key.specs.Range.{Kind, rangeOf}
-use Rattle.key.specs.Decides.{Decides}
 use Rattle.key.proofs.Lawful.{Lawful}
 use Rattle.outcomes.specs.Stored.{Stored, ranges, Sound}
 use Rattle.outcomes.specs.Outcomes.{firstPlace, howMany, partOf, placed, found, contained, met, metPart}
@@ -22,18 +20,11 @@ use Rattle.outcomes.specs.declared.Found.the-variants as Found
 use Rattle.outcomes.specs.declared.Part.the-variants as Part
 use Rattle.outcomes.proofs.Formed.{Formed, Shaped, formed, length-ranges, getD-ranges}
 use Rattle.places.specs.Check.{place}
-use Rattle.places.specs.Search.{Ascends, passed}
+use Rattle.places.specs.Search.{Ascends, Reached}
 use Rattle.places.proofs.Checked.{formed-steps}
-use Rattle.places.proofs.Seeking.{passed-facts, ends-ascend}
-use Rattle.lookup.specs.Walk.{Reached, Walked}
+use Rattle.places.proofs.Seeking.{ends-ascend}
+use Rattle.lookup.specs.Walk.{Walked}
 use Rattle.lookup.proofs.Places.{nth, First, Exactly, exactly-first, first-as, exactly-as, is-first, the-first, any-first, how-many, Rising, holds-meets, meets-at, meets-none, meets-part}
-
--- what the search finds, where the ends up to rank r, and no others, are past at the key k
-pub reached : {kind : Kind} {n p r : ℕ} {ends : List ℤ} {k : ℤ} → ((e : ℤ) → rank e ≤ r → kind .past e ≤ rank k) → ((e : ℤ) → r < rank e → rank k < kind .past e)
-    → n ≤ length ends → p ≡ passed r (take n ends) → Reached kind n ends k p
-reached {p = p} {ends = ends} f g b e =
-    let h = passed-facts ends b e in
-    record { within = h .within; below = λ j i. f (getD ends j (pos 0)) (h .below j i); at = λ i. omega (arith, g (getD ends p (pos 0)) (h .at i)) }
 
 -- a place of a map
 module _ (m : Stored) (i : ℕ) where

@@ -1,16 +1,10 @@
--- What the steps of a lookup find among the ends and the starts of a map. `kind` is `halfOpen` or `inclusive`.
+-- What the walk of a lookup finds among the starts of a map. `kind` is `halfOpen` or `inclusive`.
 use Prim.Native.Nat.{ℕ, _≤_, _<_}
 use mathlib.Core.List.{List}
 use lib.ListN.{getD}
 use lib.IntN.{ℤ, pos}
 use Rattle.key.specs.Rank.{rank}
 use Rattle.key.specs.Range.{Kind}
-
--- p is the first of the n places whose range reaches the key k: the ranges before it are past, and it is not
-pub record Reached (kind : Kind) (n : ℕ) (ends : List ℤ) (k : ℤ) (p : ℕ) : Type 0 where
-  pub within : p ≤ n
-  pub below : (j : ℕ) → j < p → kind .past (getD ends j (pos 0)) ≤ rank k
-  pub at : p < n → rank k < kind .past (getD ends p (pos 0))
 
 -- q is the first of the n places from p on that does not begin before a range that ends with e is past
 pub record Walked (kind : Kind) (n : ℕ) (starts : List ℤ) (p : ℕ) (e : ℤ) (q : ℕ) : Type 0 where

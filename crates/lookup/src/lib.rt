@@ -1,11 +1,12 @@
 // Lookup in a map of either kind. These are the inner doors: they check nothing. From map.rs and inclusive_map.rs of rangemap.
-// The kinds differ in two places: whether an end is in its range (`first_reaching`), and whether a range from one key to another is empty
-// (`full`, of the check).
+// The kinds differ in two places: whether an end is in its range (`reaching`, of the search), and whether a range from one key to another is
+// empty (`full`, of the keys).
 use key::RangeKind;
 use key::full;
 use outcomes::Asked;
 use outcomes::Found;
 use outcomes::Part;
+use places::search::reaching;
 ghost use mathlib.Core.Path.{_≡_};
 ghost use Prim.Native.Nat.{_≤_};
 ghost use lib.ListN.{length};
@@ -14,8 +15,7 @@ ghost use Rattle.key.specs.Rank.{rank};
 ghost use Rattle.key.specs.Range.{kindOf};
 ghost use Rattle.outcomes.specs.Stored.{stored, ranges, Sound};
 ghost use Rattle.outcomes.specs.Outcomes.{placed, firstPlace, found, contained, met, metPart};
-ghost use Rattle.places.specs.Search.{Ascends};
-ghost use Rattle.lookup.specs.Walk.{Reached, Walked};
+ghost use Rattle.lookup.specs.Walk.{Walked};
 
 // The range and the value at a place. The kind of range is no matter here.
 pub fn range_at(count: usize, starts: &[i64], ends: &[i64], values: &[u8], place: usize) -> Found
@@ -26,17 +26,6 @@ pub fn range_at(count: usize, starts: &[i64], ends: &[i64], values: &[u8], place
         return Found::Refused(outcomes::NONE_THERE);
     }
     Found::Range(starts[place], ends[place], values[place])
-}
-
-// The first place whose range is not past at the key: `count` if there is none. A half-open range is past at its end, an inclusive one after it.
-fn first_reaching(kind: RangeKind, count: usize, ends: &[i64], key: i64) -> usize
-    requires { ⌜ (count ≤ length (now ends)) × Ascends count (now ends) ⌝ }
-    ensures { λ r. ⌜ Reached (kindOf kind) count (now (ends .entry)) key r ⌝ }
-{
-    match kind {
-        RangeKind::HalfOpen => places::search::ended(ends, count, key),
-        RangeKind::Inclusive => places::search::short_of(ends, count, key),
-    }
 }
 
 // The place of the range that holds the key: `count` if none does.
@@ -51,7 +40,7 @@ fn place_of(
     requires { ⌜ Sound (kindOf kind) (stored count (now starts) (now ends) (now values)) ⌝ }
     ensures { λ r. ⌜ r ≡ firstPlace (holds (rank key)) (ranges (kindOf kind) (stored count (now (starts .entry)) (now (ends .entry)) (now (values .entry)))) ⌝ }
 {
-    let place = first_reaching(kind, count, ends, key);
+    let place = reaching(kind, ends, count, key);
     if count <= place {
         return count;
     }
@@ -111,7 +100,7 @@ pub fn overlaps(
     if !full(kind, start, end) {
         return Asked::Refused(outcomes::EMPTY_RANGE);
     }
-    let place = first_reaching(kind, count, ends, start);
+    let place = reaching(kind, ends, count, start);
     if count <= place {
         return Asked::No;
     }
@@ -154,7 +143,7 @@ pub fn overlapping(
     if !full(kind, start, end) {
         return Part::Refused(outcomes::EMPTY_RANGE);
     }
-    let first = first_reaching(kind, count, ends, start);
+    let first = reaching(kind, ends, count, start);
     let next = walk(kind, count, starts, first, end);
     if next == first {
         return Part::Places(0, 0);

@@ -6,6 +6,7 @@ use lib.Dec.{leb}
 use lib.ListN.{getD}
 use lib.IntN.{ℤ, pos}
 use Rattle.key.specs.Rank.{rank}
+use Rattle.key.specs.Range.{Kind}
 
 -- the first n of a list ascend
 abbrev pub Ascends : ℕ → List ℤ → Type 0
@@ -21,3 +22,9 @@ pub record Before (ends : List ℤ) (count : ℕ) (key : ℤ) (n : ℕ) : Type 0
   pub within : n ≤ count
   pub less : (k : ℕ) → k < n → rank (getD ends k (pos 0)) < rank key
   pub more : (k : ℕ) → n ≤ k → k < count → rank key ≤ rank (getD ends k (pos 0))
+
+-- p is the first of the n places whose range reaches the key k: the ranges before it are past, and it is not
+pub record Reached (kind : Kind) (n : ℕ) (ends : List ℤ) (k : ℤ) (p : ℕ) : Type 0 where
+  pub within : p ≤ n
+  pub below : (j : ℕ) → j < p → kind .past (getD ends j (pos 0)) ≤ rank k
+  pub at : p < n → rank k < kind .past (getD ends p (pos 0))

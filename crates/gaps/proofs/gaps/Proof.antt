@@ -9,9 +9,10 @@ use Rattle.key.specs.Decides.{Decides}
 use Rattle.key.specs.Rank.{rank}
 use Rattle.key.specs.Range.{kindOf}
 use Rattle.key.proofs.Lawful.{lawful}
+use Rattle.places.specs.Search.{Reached}
+use Rattle.key.proofs.Answers.{not-full}
 use Rattle.places.proofs.Seeking.{ends-ascend}
-use Rattle.gaps.specs.Walk.{found, First}
-use Rattle.gaps.proofs.Steps.{not-full}
+use Rattle.gaps.specs.Walk.{found}
 use Rattle.gaps.proofs.Doors.{shape, well, places, answers-empty, answers-short, answers-done}
 use Rattle.gaps.proofs.gaps.Statement.{statement}
 use Rattle.gaps.proofs.gaps.Tie as tie
@@ -29,16 +30,16 @@ returns c = let a = c .before .before .before .args in answers-empty (kindOf (a 
 real : (c : tie.Else1) → let a = c .before .before .before .args in rank (a .start) < kindOf (a .kind) .past (a .end)
 real c = outer (c .before) .right (not-false _ (c .if1 .left))
 
-first-requires : tie.Need-first-requires
-first-requires c κs =
+reaching-requires : tie.Need-reaching-requires
+reaching-requires c κs =
     let s = c .before .before .before in
     let kind = kindOf (s .args .kind) in
     let w = well kind (s .pre) in
     (omega (arith, w .held), ends-ascend kind (lawful (s .args .kind)) (shape kind (s .pre)) w)
 
 -- the place that the search found
-first : (c : tie.After-first) → let a = c .before .before .before .before .args in First (kindOf (a .kind)) (a .ends .now) (a .count) (rank (a .start)) (c .first .result)
-first c = rw (toZ-ofZ (c .before .before .before .before .fits .start)) at (c .first .ensures)
+first : (c : tie.After-reaching) → let a = c .before .before .before .before .args in Reached (kindOf (a .kind)) (a .count) (a .ends .now) (a .start) (c .reaching .result)
+first c = rw (toZ-ofZ (c .before .before .before .before .fits .start)) at (c .reaching .ensures)
 
 shorter-requires : tie.Need-shorter-requires
 shorter-requires c κs = search needs
@@ -50,7 +51,7 @@ fits-requires c κs =
 
 -- whether the gaps fit
 fit : (c : tie.After-fits2) → let a = c .before .before .before .before .before .before .args in
-    Decides (c .fits2 .result) (length (found (kindOf (a .kind)) (a .starts .now) (a .ends .now) (a .count) (c .before .before .first .result) (a .start) (a .end)) ≤ c .before .shorter .result)
+    Decides (c .fits2 .result) (length (found (kindOf (a .kind)) (a .starts .now) (a .ends .now) (a .count) (c .before .before .reaching .result) (a .start) (a .end)) ≤ c .before .shorter .result)
 fit c = let s = c .before .before .before .before .before .before in rw (toZ-ofZ (s .fits .start), toZ-ofZ (s .fits .end)) at (c .fits2 .ensures)
 
 returns-2 : tie.Need-returns-2
@@ -62,7 +63,7 @@ returns-2 c =
     (m .shorter .ensures) (fit (c .before) .wrong (not-true _ (c .if2 .taken)))
 
 room : (c : tie.Else2) → let a = c .before .before .before .before .before .before .before .args in
-    length (found (kindOf (a .kind)) (a .starts .now) (a .ends .now) (a .count) (c .before .before .before .first .result) (a .start) (a .end)) ≤ c .before .before .shorter .result
+    length (found (kindOf (a .kind)) (a .starts .now) (a .ends .now) (a .count) (c .before .before .before .reaching .result) (a .start) (a .end)) ≤ c .before .before .shorter .result
 room c = fit (c .before) .right (not-false _ (c .if2 .left))
 
 write-requires : tie.Need-write-requires
@@ -92,7 +93,7 @@ gaps-spec =
     (tie.spec
     full-requires
     returns
-    first-requires
+    reaching-requires
     shorter-requires
     fits-requires
     returns-2

@@ -13,7 +13,8 @@ use Rattle.key.specs.Rank.{rank, bitRank}
 use Rattle.key.specs.Range.{kindOf}
 use Rattle.key.proofs.Laws.{tests, rank-back}
 use Rattle.key.proofs.Lawful.{lawful}
-use Rattle.gaps.proofs.Steps.{met-stop, not-full, reaches, falls-short, followed, set-key, set-end, Going, going-first, going-room, going-stop, going-last, going-on}
+use Rattle.key.proofs.Answers.{not-full}
+use Rattle.gaps.proofs.Steps.{met-stop, reaches, falls-short, followed, set-key, set-end, Going, going-first, going-room, going-stop, going-last, going-on}
 use Rattle.gaps.proofs.write.Statement.{statement}
 use Rattle.gaps.proofs.write.Tie as tie
 

@@ -8,8 +8,9 @@ use Rattle.key.specs.Decides.{Decides}
 use Rattle.key.specs.Rank.{rank}
 use Rattle.key.specs.Range.{kindOf}
 use Rattle.key.proofs.Lawful.{lawful}
-use Rattle.lookup.specs.Walk.{Reached, Walked}
+use Rattle.places.specs.Search.{Reached}
 use Rattle.key.proofs.Answers.{not-full}
+use Rattle.lookup.specs.Walk.{Walked}
 use Rattle.lookup.proofs.Returns.{searched, good, part-empty, part-none, part-some}
 use Rattle.lookup.proofs.overlapping.Statement.{statement}
 use Rattle.lookup.proofs.overlapping.Tie as tie
@@ -24,19 +25,19 @@ query c = let s = c .before .before in rw (toZ-ofZ (s .fits .start), toZ-ofZ (s 
 returns : tie.Need-returns
 returns c = let s = c .before .before .before in part-empty (s .pre) (s .args .start) (s .args .end) (not-full (query (c .before)) (not-true _ (c .if1 .taken)))
 
-first-reaching-requires : tie.Need-first-reaching-requires
-first-reaching-requires c κs = let s = c .before .before .before in searched (s .pre) (lawful (s .args .kind))
+reaching-requires : tie.Need-reaching-requires
+reaching-requires c κs = let s = c .before .before .before in searched (s .pre) (lawful (s .args .kind))
 
 real : (c : tie.Else1) → let a = c .before .before .before .args in rank (a .start) < kindOf (a .kind) .past (a .end)
 real c = query (c .before) .right (not-false _ (c .if1 .left))
 
-reach : (c : tie.After-first-reaching) → let a = c .before .before .before .before .args in Reached (kindOf (a .kind)) (a .count) (a .ends .now) (a .start) (c .first-reaching .result)
-reach c = rw (toZ-ofZ (c .before .before .before .before .fits .start)) at (c .first-reaching .ensures)
+reach : (c : tie.After-reaching) → let a = c .before .before .before .before .args in Reached (kindOf (a .kind)) (a .count) (a .ends .now) (a .start) (c .reaching .result)
+reach c = rw (toZ-ofZ (c .before .before .before .before .fits .start)) at (c .reaching .ensures)
 
 walk-requires : tie.Need-walk-requires
 walk-requires c κs = omega (arith, reach c .within, good (c .before .before .before .before .pre) .held)
 
-walked : (c : tie.After-walk) → let a = c .before .before .before .before .before .args in Walked (kindOf (a .kind)) (a .count) (a .starts .now) (c .before .first-reaching .result) (a .end) (c .walk .result)
+walked : (c : tie.After-walk) → let a = c .before .before .before .before .before .args in Walked (kindOf (a .kind)) (a .count) (a .starts .now) (c .before .reaching .result) (a .end) (c .walk .result)
 walked c = rw (toZ-ofZ (c .before .before .before .before .before .fits .end)) at (c .walk .ensures)
 
 returns-2 : tie.Need-returns-2
@@ -55,4 +56,4 @@ returns-3 c =
 pub overlapping-spec : {M : Type 1} → statement M
 overlapping-spec =
     tie.close
-    (tie.spec full-requires returns first-reaching-requires walk-requires returns-2 sub-many returns-3)
+    (tie.spec full-requires returns reaching-requires walk-requires returns-2 sub-many returns-3)

@@ -12,7 +12,7 @@ use Rattle.key.specs.Decides.{Decides}
 use Rattle.key.specs.Rank.{rank}
 use Rattle.key.specs.Range.{kindOf}
 use Rattle.key.proofs.Lawful.{lawful}
-use Rattle.lookup.specs.Walk.{Reached}
+use Rattle.places.specs.Search.{Reached}
 use Rattle.key.proofs.Answers.{not-full}
 use Rattle.lookup.proofs.Returns.{searched, good, met-empty, met-yes, met-no}
 use Rattle.lookup.proofs.overlaps.Statement.{statement}
@@ -28,14 +28,14 @@ query c = let s = c .before .before in rw (toZ-ofZ (s .fits .start), toZ-ofZ (s 
 returns : tie.Need-returns
 returns c = let s = c .before .before .before in met-empty (s .pre) (s .args .start) (s .args .end) (not-full (query (c .before)) (not-true _ (c .if1 .taken)))
 
-first-reaching-requires : tie.Need-first-reaching-requires
-first-reaching-requires c κs = let s = c .before .before .before in searched (s .pre) (lawful (s .args .kind))
+reaching-requires : tie.Need-reaching-requires
+reaching-requires c κs = let s = c .before .before .before in searched (s .pre) (lawful (s .args .kind))
 
 real : (c : tie.Else1) → let a = c .before .before .before .args in rank (a .start) < kindOf (a .kind) .past (a .end)
 real c = query (c .before) .right (not-false _ (c .if1 .left))
 
-reach : (c : tie.After-first-reaching) → let a = c .before .before .before .before .args in Reached (kindOf (a .kind)) (a .count) (a .ends .now) (a .start) (c .first-reaching .result)
-reach c = rw (toZ-ofZ (c .before .before .before .before .fits .start)) at (c .first-reaching .ensures)
+reach : (c : tie.After-reaching) → let a = c .before .before .before .before .args in Reached (kindOf (a .kind)) (a .count) (a .ends .now) (a .start) (c .reaching .result)
+reach c = rw (toZ-ofZ (c .before .before .before .before .fits .start)) at (c .reaching .ensures)
 
 returns-2 : tie.Need-returns-2
 returns-2 c =
@@ -52,10 +52,10 @@ full-requires-2 : tie.Need-full-requires-2
 full-requires-2 c κs = tt
 
 -- the range at the place begins before the query is past, or it does not
-begun : (c : tie.After-full2) → let a = c .before .before .before .before .before .before .before .args in Decides (c .full2 .result) (rank (getD (a .starts .now) (c .before .before .before .first-reaching .result) (pos 0)) < kindOf (a .kind) .past (a .end))
+begun : (c : tie.After-full2) → let a = c .before .before .before .before .before .before .before .args in Decides (c .full2 .result) (rank (getD (a .starts .now) (c .before .before .before .reaching .result) (pos 0)) < kindOf (a .kind) .past (a .end))
 begun c =
     let s = c .before .before .before .before .before .before .before in
-    let f : SFits w64 (getD (s .args .starts .now) (c .before .before .before .first-reaching .result) (pos 0)) = sfits-of (c .before .next .given) in
+    let f : SFits w64 (getD (s .args .starts .now) (c .before .before .before .reaching .result) (pos 0)) = sfits-of (c .before .next .given) in
     rw (toZ-ofZ f, toZ-ofZ (s .fits .end)) at (c .full2 .ensures)
 
 returns-3 : tie.Need-returns-3
@@ -74,7 +74,7 @@ overlaps-spec =
     (tie.spec
     full-requires
     returns
-    first-reaching-requires
+    reaching-requires
     returns-2
     mul-next
     shared-slice-copy-out-next

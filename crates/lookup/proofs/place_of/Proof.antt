@@ -4,16 +4,16 @@ use mir.Facts.{toZ-ofZ}
 use Rattle.key.specs.Range.{kindOf}
 use Rattle.key.proofs.Lawful.{lawful}
 use Rattle.key.proofs.Laws.{tests}
-use Rattle.lookup.specs.Walk.{Reached}
+use Rattle.places.specs.Search.{Reached}
 use Rattle.lookup.proofs.Returns.{searched, good, place-found, place-none}
 use Rattle.lookup.proofs.place_of.Statement.{statement}
 use Rattle.lookup.proofs.place_of.Tie as tie
 
-first-reaching-requires : tie.Need-first-reaching-requires
-first-reaching-requires c κs = searched (c .before .pre) (lawful (c .before .args .kind))
+reaching-requires : tie.Need-reaching-requires
+reaching-requires c κs = searched (c .before .pre) (lawful (c .before .args .kind))
 
-reach : (c : tie.After-first-reaching) → let a = c .before .before .args in Reached (kindOf (a .kind)) (a .count) (a .ends .now) (a .key) (c .first-reaching .result)
-reach c = rw (toZ-ofZ (c .before .before .fits .key)) at (c .first-reaching .ensures)
+reach : (c : tie.After-reaching) → let a = c .before .before .args in Reached (kindOf (a .kind)) (a .count) (a .ends .now) (a .key) (c .reaching .result)
+reach c = rw (toZ-ofZ (c .before .before .fits .key)) at (c .reaching .ensures)
 
 returns : tie.Need-returns
 returns c = place-none (c .before .before .before .pre) (reach (c .before)) (λ i. absurd (omega arith))
@@ -33,4 +33,4 @@ returns-3 c = place-found (c .before .before .before .before .before .pre) (reac
 pub place-of-spec : {M : Type 1} → statement M
 place-of-spec =
     tie.close
-    (tie.spec first-reaching-requires returns mul-if2 shared-slice-copy-out-if2 returns-2 returns-3)
+    (tie.spec reaching-requires returns mul-if2 shared-slice-copy-out-if2 returns-2 returns-3)

@@ -1,13 +1,12 @@
--- `lookup::first_reaching` meets its contract: a half-open range is past at its end, an inclusive one after it.
+-- `places::search::reaching` meets its contract: a half-open range is past at its end, an inclusive one after it.
 use native.Mathlib.Omega.{arith}
-use mir.Facts.{toZ-ofZ}
+use borrow.Author.Needs.{needs}
 use Rattle.key.specs.Range.{halfOpen, inclusive}
 use Rattle.key.proofs.Laws.{rank-back}
-use Rattle.lookup.specs.Walk.{Reached}
-use Rattle.lookup.proofs.Returns.{reached}
-use borrow.Author.Needs.{needs}
-use Rattle.lookup.proofs.first_reaching.Statement.{statement}
-use Rattle.lookup.proofs.first_reaching.Tie as tie
+use Rattle.places.specs.Search.{Reached}
+use Rattle.places.proofs.Seeking.{passed-facts}
+use Rattle.places.proofs.search.reaching.Statement.{statement}
+use Rattle.places.proofs.search.reaching.Tie as tie
 
 enum-told : tie.Need-enum-told
 enum-told c = search needs
@@ -24,8 +23,10 @@ short-of-requires c κs = search needs
 returns : tie.Need-returns
 returns c =
     let s = c .before .before .before in
-    rw (c .before .enum-told .given .1)
-    (reached {kind = halfOpen} (λ e h. h) (λ e h. h) (s .pre .0) (rw (toZ-ofZ (s .fits .key)) at (c .ended .ensures)))
+    let f = passed-facts {n = s .args .count} (s .args .ends .now) (s .pre .0) (simp rank-back at (c .ended .ensures)) in
+    let r : Reached halfOpen (s .args .count) (s .args .ends .now) (s .args .key) (c .ended .result)
+    = record { within = f .within; below = f .below; at = f .at } in
+    rw (c .before .enum-told .given .1) r
 
 returns-2 : tie.Need-returns-2
 returns-2 c =
@@ -37,6 +38,6 @@ returns-2 c =
     = record { within = b .within; below = λ j h. omega (arith, less j h); at = λ h. omega (arith, more (c .short-of .result) (omega arith) h) } in
     rw (c .before .enum-told2 .given .1) r
 
-pub first-reaching-spec : {M : Type 1} → statement M
-first-reaching-spec =
+pub reaching-spec : {M : Type 1} → statement M
+reaching-spec =
     tie.close (tie.spec enum-told ended-requires enum-told-2 short-of-requires returns returns-2)
