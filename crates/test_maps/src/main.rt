@@ -220,17 +220,21 @@ fn range_at(m: Map, place: usize) -> Range {
     numbers::range_at(m.kind, &m.count, &m.starts, &m.ends, &m.values, place)
 }
 
-// The range at a place, with a comma before it, if it is among the first so many.
-fn print_place(m: Map, place: usize, many: usize) {
-    let kind = m.kind;
-    if place >= many {
-        return;
-    }
+// The comma before all places but the first.
+fn print_comma(place: usize) {
     if place > 0 {
         print(b',');
         print(b' ');
     }
-    print_entry(kind, range_at(m, place));
+}
+
+// The range at a place, if it is among the first so many.
+fn print_place(m: Map, place: usize, many: usize) {
+    let kind = m.kind;
+    if place < many {
+        print_comma(place);
+        print_entry(kind, range_at(m, place));
+    }
 }
 
 // The first places, of which there are eight at most.
@@ -439,19 +443,6 @@ fn damage(m: Map) -> Map {
     }
 }
 
-fn edit(m: Map, s: Step) -> Map {
-    let what = s.what;
-    let kind = m.kind;
-    match what {
-        b'i' => show_insert(m, ends_of(s), digit(s.three)),
-        b'r' => show_remove(m, ends_of(s)),
-        b'c' => clear(m),
-        b'f' => fill(kind),
-        b'd' => damage(m),
-        _ => m,
-    }
-}
-
 // ---- questions
 
 fn ask_whole<'a>(
@@ -550,7 +541,6 @@ fn ask_overlapping<'a>(
     print_yes(numbers::overlaps(kind, count, starts, ends, values, start, end));
 }
 
-// The gaps into lists of which the first has so many places; all hold 0 before.
 fn ask_gaps<'a>(
     kind: RangeKind,
     count: &'a usize,
@@ -562,9 +552,6 @@ fn ask_gaps<'a>(
     out_starts: &mut [i64],
     out_ends: &mut [i64],
 ) {
-    print_asked(b"gaps", kind, start, end);
-    io::write_all(1, b" into ");
-    print_number(out_starts.len() as u64);
     print_count(numbers::gaps(
         kind,
         count,
@@ -579,7 +566,7 @@ fn ask_gaps<'a>(
     print_list(kind, out_starts, out_ends);
 }
 
-// Only one list is cut: the shorter decides.
+// The gaps into lists of so many places, which hold 0 before. Only one list is cut: the shorter decides.
 fn ask_some_gaps<'a>(
     kind: RangeKind,
     count: &'a usize,
@@ -590,6 +577,9 @@ fn ask_some_gaps<'a>(
     end: i64,
     many: usize,
 ) {
+    print_asked(b"gaps", kind, start, end);
+    io::write_all(1, b" into ");
+    print_number(many as u64);
     let mut out_starts = [0i64; LISTED];
     let mut out_ends = [0i64; LISTED];
     if many <= LISTED {
@@ -781,6 +771,25 @@ fn show_extend(m: Map, list: List) -> Map {
     left
 }
 
+// ---- steps
+
+// An edit, or else a question, which leaves the map as it is.
+fn edit(m: Map, s: Step) -> Map {
+    let what = s.what;
+    let kind = m.kind;
+    match what {
+        b'i' => show_insert(m, ends_of(s), digit(s.three)),
+        b'r' => show_remove(m, ends_of(s)),
+        b'c' => clear(m),
+        b'f' => fill(kind),
+        b'd' => damage(m),
+        _ => {
+            ask(m, s);
+            m
+        }
+    }
+}
+
 // What the steps work on.
 struct State {
     map: Map,
@@ -796,51 +805,72 @@ fn anew(kind: RangeKind) -> State {
     }
 }
 
-fn take(state: State, s: Step) -> State {
-    let what = s.what;
+fn half_open() -> State {
+    io::write_all(1, b"half-open maps\n");
+    anew(RangeKind::HalfOpen)
+}
+
+fn inclusive() -> State {
+    io::write_all(1, b"inclusive maps\n");
+    anew(RangeKind::Inclusive)
+}
+
+// The map is kept as the other.
+fn store(state: State) -> State {
+    let map = state.map;
+    let list = state.list;
+    io::write_all(1, b"stored\n");
+    State {
+        map: map,
+        other: map,
+        list: list,
+    }
+}
+
+fn compare_state(state: State) -> State {
+    compare(state.map, state.other);
+    state
+}
+
+fn add(state: State, s: Step) -> State {
     let map = state.map;
     let other = state.other;
+    State {
+        map: map,
+        other: other,
+        list: listed(state.list, ends_of(s), digit(s.three)),
+    }
+}
+
+fn extend_state(state: State) -> State {
+    let other = state.other;
+    State {
+        map: show_extend(state.map, state.list),
+        other: other,
+        list: no_list(),
+    }
+}
+
+fn edit_state(state: State, s: Step) -> State {
+    let other = state.other;
     let list = state.list;
+    State {
+        map: edit(state.map, s),
+        other: other,
+        list: list,
+    }
+}
+
+fn take(state: State, s: Step) -> State {
+    let what = s.what;
     match what {
-        b'H' => {
-            io::write_all(1, b"half-open maps\n");
-            anew(RangeKind::HalfOpen)
-        }
-        b'I' => {
-            io::write_all(1, b"inclusive maps\n");
-            anew(RangeKind::Inclusive)
-        }
-        b's' => {
-            io::write_all(1, b"stored\n");
-            State {
-                map: map,
-                other: map,
-                list: list,
-            }
-        }
-        b'q' => {
-            compare(map, other);
-            state
-        }
-        b'b' => State {
-            map: map,
-            other: other,
-            list: listed(list, ends_of(s), digit(s.three)),
-        },
-        b'x' => State {
-            map: show_extend(map, list),
-            other: other,
-            list: no_list(),
-        },
-        b'i' | b'r' | b'c' | b'f' | b'd' => State {
-            map: edit(map, s),
-            other: other,
-            list: list,
-        },
-        _ => {
-            ask(map, s);
-            state
-        }
+        b'H' => half_open(),
+        b'I' => inclusive(),
+        b's' => store(state),
+        b'q' => compare_state(state),
+        b'b' => add(state, s),
+        b'x' => extend_state(state),
+        _ => edit_state(state, s),
     }
 }
 

@@ -7,6 +7,13 @@ use test_text::print;
 use test_text::print_found;
 use test_text::print_number;
 
+struct Map {
+    count: usize,
+    starts: [i64; PLACES],
+    ends: [i64; PLACES],
+    values: [u8; PLACES],
+}
+
 // What the hours are, if it is one of these numbers, and else 99, which no day has.
 fn known(hours: f64) -> u64 {
     if hours == 0.0 {
@@ -43,9 +50,8 @@ fn print_report(r: DayReport) {
     print(b'\n');
 }
 
-// The report of a map of three places: status 1 over 2024-11-03, Eastern, and `status` on 1730628000..1730653200. A count of less is of no
-// well-formed map.
-fn ask(name: &[u8], count: usize, status: u8, zone: u8, year: u16, month: u8, day: u8) {
+// Status 1 over 2024-11-03, Eastern, then `status` on 1730628000..1730653200: three places. With a count of 2 it is not well formed.
+fn november(count: usize, status: u8) -> Map {
     let mut starts = [0; PLACES];
     let mut ends = [0; PLACES];
     let mut values = [0; PLACES];
@@ -58,18 +64,47 @@ fn ask(name: &[u8], count: usize, status: u8, zone: u8, year: u16, month: u8, da
     starts[2] = 1730653200;
     ends[2] = 1730696400;
     values[2] = 1;
+    Map {
+        count: count,
+        starts: starts,
+        ends: ends,
+        values: values,
+    }
+}
+
+fn report_of(m: Map, zone: u8, year: u16, month: u8, day: u8) -> DayReport {
+    report::day_report(
+        &m.count,
+        &m.starts,
+        &m.ends,
+        &m.values,
+        zone,
+        year,
+        month,
+        day,
+    )
+}
+
+fn ask(name: &[u8], m: Map, zone: u8, year: u16, month: u8, day: u8) {
     io::write_all(1, name);
-    print_report(report::day_report(&count, &starts, &ends, &values, zone, year, month, day));
+    print_report(report_of(m, zone, year, month, day));
 }
 
 fn main() {
-    ask(b"November ", 3, 3, 0, 2024, 11, 3);
-    ask(b"the day before ", 3, 3, 0, 2024, 11, 2);
-    ask(b"the day after ", 3, 3, 0, 2024, 11, 4);
-    ask(b"a short day ", 3, 3, 0, 2024, 3, 10);
-    ask(b"no such date ", 3, 3, 0, 2023, 2, 29);
-    ask(b"no such zone ", 3, 3, 7, 2024, 11, 3);
-    ask(b"status 0 ", 3, 0, 0, 2024, 11, 3);
-    ask(b"status 0 on another day ", 3, 0, 0, 2024, 11, 4);
-    ask(b"not well formed, and no such date ", 2, 3, 0, 2023, 2, 29);
+    ask(b"November ", november(3, 3), 0, 2024, 11, 3);
+    ask(b"the day before ", november(3, 3), 0, 2024, 11, 2);
+    ask(b"the day after ", november(3, 3), 0, 2024, 11, 4);
+    ask(b"a short day ", november(3, 3), 0, 2024, 3, 10);
+    ask(b"no such date ", november(3, 3), 0, 2023, 2, 29);
+    ask(b"no such zone ", november(3, 3), 7, 2024, 11, 3);
+    ask(b"status 0 ", november(3, 0), 0, 2024, 11, 3);
+    ask(b"status 0 on another day ", november(3, 0), 0, 2024, 11, 4);
+    ask(
+        b"not well formed, and no such date ",
+        november(2, 3),
+        0,
+        2023,
+        2,
+        29,
+    );
 }

@@ -265,12 +265,12 @@ fn ask_whole<'a>(
         set_numbers::range_at(kind, count, starts, ends, values, 1),
     );
     print_total(b't', set_numbers::total(kind, count, starts, ends, values));
+    print(b'\n');
 }
 
 fn print_whole(kind: RangeKind, m: Set) {
     print_set(kind, m);
     ask_whole(kind, &m.count, &m.starts, &m.ends, &m.values);
-    print(b'\n');
 }
 
 // Get and contains.
@@ -291,6 +291,7 @@ fn ask_at<'a>(
         b'c',
         set_numbers::contains(kind, count, starts, ends, values, key),
     );
+    print(b'\n');
 }
 
 fn print_at(kind: RangeKind, m: Set, key: i64) {
@@ -298,7 +299,6 @@ fn print_at(kind: RangeKind, m: Set, key: i64) {
     print(b' ');
     print_key(key);
     ask_at(kind, &m.count, &m.starts, &m.ends, &m.values, key);
-    print(b'\n');
 }
 
 // Overlapping, overlaps, and the gaps into three places, which hold 0 before.
@@ -336,15 +336,20 @@ fn ask_over<'a>(
         ),
     );
     print_list(kind, &gap_starts, &gap_ends);
+    print(b'\n');
 }
 
-// Insert and remove, and the questions.
-fn print_over(kind: RangeKind, m: Set, r: Ends) {
+// Insert and remove.
+fn print_edits(kind: RangeKind, m: Set, r: Ends) {
     print_set(kind, m);
     print(b' ');
     print_range(kind, r.start, r.end);
     print_edited(b'i', kind, edit(kind, m, r, true));
     print_edited(b'r', kind, edit(kind, m, r, false));
+}
+
+fn print_over(kind: RangeKind, m: Set, r: Ends) {
+    print_edits(kind, m, r);
     ask_over(
         kind,
         &m.count,
@@ -354,7 +359,6 @@ fn print_over(kind: RangeKind, m: Set, r: Ends) {
         r.start,
         r.end,
     );
-    print(b'\n');
 }
 
 // ---- two sets
@@ -487,12 +491,17 @@ fn ask_pair<'a, 'b>(
         ends2,
         values2,
     );
+    print(b'\n');
 }
 
-fn print_pair(kind: RangeKind, a: Set, b: Set) {
+fn print_sets(kind: RangeKind, a: Set, b: Set) {
     print_set(kind, a);
     print(b' ');
     print_set(kind, b);
+}
+
+fn print_pair(kind: RangeKind, a: Set, b: Set) {
+    print_sets(kind, a, b);
     ask_pair(
         kind,
         &a.count,
@@ -504,7 +513,6 @@ fn print_pair(kind: RangeKind, a: Set, b: Set) {
         &b.ends,
         &b.values,
     );
-    print(b'\n');
 }
 
 // ---- all of them
