@@ -2,13 +2,8 @@
 // program prints the reader's answer as a digit, the form of the map that is there then, which is the empty one where the reader refused, and a line's end.
 use outcomes::Counted;
 use outcomes::PLACES;
-
-fn print_digit(n: u8) {
-    if n < 10 {
-        let digit = [48 + n];
-        io::write_all(1, &digit);
-    }
-}
+use test_text::print;
+use test_text::print_number;
 
 fn print_first(out: &[u8], n: usize) {
     if n <= out.len() {
@@ -19,9 +14,9 @@ fn print_first(out: &[u8], n: usize) {
 fn print_written(out: &[u8], wrote: Counted) {
     match wrote {
         Counted::Count(n) => print_first(out, n),
-        Counted::Refused(n) => print_digit(n),
+        Counted::Refused(n) => print_number(n as u64),
     }
-    io::write_all(1, b"\n");
+    print(b'\n');
 }
 
 fn read_and_write(bytes: &[u8]) {
@@ -29,7 +24,7 @@ fn read_and_write(bytes: &[u8]) {
     let mut starts = [0i64; PLACES];
     let mut ends = [0i64; PLACES];
     let mut values = [0u8; PLACES];
-    print_digit(byte_read::read(&mut count, &mut starts, &mut ends, &mut values, bytes));
+    print_number(byte_read::read(&mut count, &mut starts, &mut ends, &mut values, bytes) as u64);
     let mut out = [0u8; 9000];
     let wrote = byte_write::write(&count, &starts, &ends, &values, &mut out);
     print_written(&out, wrote);

@@ -805,72 +805,47 @@ fn anew(kind: RangeKind) -> State {
     }
 }
 
-fn half_open() -> State {
-    io::write_all(1, b"half-open maps\n");
-    anew(RangeKind::HalfOpen)
-}
-
-fn inclusive() -> State {
-    io::write_all(1, b"inclusive maps\n");
-    anew(RangeKind::Inclusive)
-}
-
-// The map is kept as the other.
-fn store(state: State) -> State {
-    let map = state.map;
-    let list = state.list;
-    io::write_all(1, b"stored\n");
-    State {
-        map: map,
-        other: map,
-        list: list,
-    }
-}
-
-fn compare_state(state: State) -> State {
-    compare(state.map, state.other);
-    state
-}
-
-fn add(state: State, s: Step) -> State {
-    let map = state.map;
-    let other = state.other;
-    State {
-        map: map,
-        other: other,
-        list: listed(state.list, ends_of(s), digit(s.three)),
-    }
-}
-
-fn extend_state(state: State) -> State {
-    let other = state.other;
-    State {
-        map: show_extend(state.map, state.list),
-        other: other,
-        list: no_list(),
-    }
-}
-
-fn edit_state(state: State, s: Step) -> State {
-    let other = state.other;
-    let list = state.list;
-    State {
-        map: edit(state.map, s),
-        other: other,
-        list: list,
-    }
-}
-
 fn take(state: State, s: Step) -> State {
     let what = s.what;
+    let map = state.map;
+    let other = state.other;
+    let list = state.list;
     match what {
-        b'H' => half_open(),
-        b'I' => inclusive(),
-        b's' => store(state),
-        b'q' => compare_state(state),
-        b'b' => add(state, s),
-        b'x' => extend_state(state),
-        _ => edit_state(state, s),
+        b'H' => {
+            io::write_all(1, b"half-open maps\n");
+            anew(RangeKind::HalfOpen)
+        }
+        b'I' => {
+            io::write_all(1, b"inclusive maps\n");
+            anew(RangeKind::Inclusive)
+        }
+        b's' => {
+            io::write_all(1, b"stored\n");
+            State {
+                map: map,
+                other: map,
+                list: list,
+            }
+        }
+        b'q' => {
+            compare(map, other);
+            state
+        }
+        b'b' => State {
+            map: map,
+            other: other,
+            list: listed(list, ends_of(s), digit(s.three)),
+        },
+        b'x' => State {
+            map: show_extend(map, list),
+            other: other,
+            list: no_list(),
+        },
+        _ => State {
+            map: edit(map, s),
+            other: other,
+            list: list,
+        },
     }
 }
 

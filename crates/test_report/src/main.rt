@@ -85,26 +85,20 @@ fn report_of(m: Map, zone: u8, year: u16, month: u8, day: u8) -> DayReport {
     )
 }
 
-fn ask(name: &[u8], m: Map, zone: u8, year: u16, month: u8, day: u8) {
+// The report of a day, behind its name, by the count and the status of the map, the zone and the date.
+fn ask(name: &[u8], count: usize, status: u8, zone: u8, year: u16, month: u8, day: u8) {
     io::write_all(1, name);
-    print_report(report_of(m, zone, year, month, day));
+    print_report(report_of(november(count, status), zone, year, month, day));
 }
 
 fn main() {
-    ask(b"November ", november(3, 3), 0, 2024, 11, 3);
-    ask(b"the day before ", november(3, 3), 0, 2024, 11, 2);
-    ask(b"the day after ", november(3, 3), 0, 2024, 11, 4);
-    ask(b"a short day ", november(3, 3), 0, 2024, 3, 10);
-    ask(b"no such date ", november(3, 3), 0, 2023, 2, 29);
-    ask(b"no such zone ", november(3, 3), 7, 2024, 11, 3);
-    ask(b"status 0 ", november(3, 0), 0, 2024, 11, 3);
-    ask(b"status 0 on another day ", november(3, 0), 0, 2024, 11, 4);
-    ask(
-        b"not well formed, and no such date ",
-        november(2, 3),
-        0,
-        2023,
-        2,
-        29,
-    );
+    ask(b"November ", 3, 3, 0, 2024, 11, 3);
+    ask(b"the day before ", 3, 3, 0, 2024, 11, 2);
+    ask(b"the day after ", 3, 3, 0, 2024, 11, 4);
+    ask(b"a short day ", 3, 3, 0, 2024, 3, 10);
+    ask(b"no such date ", 3, 3, 0, 2023, 2, 29);
+    ask(b"no such zone ", 3, 3, 7, 2024, 11, 3);
+    ask(b"status 0 ", 3, 0, 0, 2024, 11, 3);
+    ask(b"status 0 on another day ", 3, 0, 0, 2024, 11, 4);
+    ask(b"not well formed, and no such date ", 2, 3, 0, 2023, 2, 29);
 }
