@@ -1,4 +1,6 @@
 // What an edit of a half-open map that is well formed meets or touches, and the plan over that.
+use key::RangeKind;
+use places::walk::begun;
 use plan::Replacement;
 use plan::met::Met;
 use splice::Entry;
@@ -9,7 +11,7 @@ ghost use Rattle.key.specs.Range.{halfOpen};
 ghost use Rattle.outcomes.specs.Stored.{stored, ranges, Sound};
 ghost use Rattle.plan.specs.Plan.{Touching, Planned};
 
-// The places that start..end meets or touches.
+// The places that start..end meets or touches: a range that begins at the end touches it, so the walk takes the end in.
 pub fn touched(
     count: usize,
     starts: &[i64],
@@ -24,7 +26,7 @@ pub fn touched(
     let from = places::search::short_of(ends, count, start);
     Met {
         from: from,
-        to: plan::met::begun(starts, from, count, end),
+        to: begun(RangeKind::Inclusive, starts, from, count, end),
     }
 }
 

@@ -1,4 +1,6 @@
 // What an edit of a map of inclusive ranges that is well formed meets or touches, and the plan over that.
+use key::RangeKind;
+use places::walk::begun;
 use plan::Replacement;
 use plan::met::Met;
 use splice::Entry;
@@ -60,7 +62,7 @@ fn after_end(kept: bool, end: i64) -> i64
     end
 }
 
-// The places that start..=end meets or touches.
+// The places that start..=end meets or touches: a range that begins with the key after the end touches it.
 pub fn touched(
     count: usize,
     starts: &[i64],
@@ -76,7 +78,7 @@ pub fn touched(
     let limit = limit_of(end);
     Met {
         from: from,
-        to: plan::met::begun(starts, from, count, limit),
+        to: begun(RangeKind::Inclusive, starts, from, count, limit),
     }
 }
 

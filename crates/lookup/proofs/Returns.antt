@@ -20,10 +20,9 @@ use Rattle.outcomes.specs.declared.Found.the-variants as Found
 use Rattle.outcomes.specs.declared.Part.the-variants as Part
 use Rattle.outcomes.proofs.Formed.{Formed, Shaped, formed, length-ranges, getD-ranges}
 use Rattle.places.specs.Check.{place}
-use Rattle.places.specs.Search.{Ascends, Reached}
+use Rattle.places.specs.Search.{Ascends, Reached, Begun}
 use Rattle.places.proofs.Checked.{formed-steps}
 use Rattle.places.proofs.Seeking.{ends-ascend}
-use Rattle.lookup.specs.Walk.{Walked}
 use Rattle.lookup.proofs.Places.{nth, First, Exactly, exactly-first, first-as, exactly-as, is-first, the-first, any-first, how-many, Rising, holds-meets, meets-at, meets-none, meets-part}
 
 -- a place of a map
@@ -126,7 +125,7 @@ module _ {kind : Kind} {m : Stored} (sound : Sound kind m) where
       unfolding met
       met-no b = rw (lt-leb (q .hi) (q .lo) h, any-none (overlaps q) (first-range (meets-none rising q (r .below) (r .at) b)) (omega arith))
 
-      module _ {n : ℕ} (w : Walked kind (m .count) (m .starts) p e n) where
+      module _ {n : ℕ} (w : Begun kind (m .count) (m .starts) p e n) where
         pub exactly-met : Exactly (overlaps q) (place kind m) (m .count) p n
         exactly-met = meets-part rising q (r .below) (r .at) (w .from) (w .within) (w .before) (w .at)
 

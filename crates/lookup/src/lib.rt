@@ -7,6 +7,7 @@ use outcomes::Asked;
 use outcomes::Found;
 use outcomes::Part;
 use places::search::reaching;
+use places::walk::begun;
 ghost use mathlib.Core.Path.{_≡_};
 ghost use Prim.Native.Nat.{_≤_};
 ghost use lib.ListN.{length};
@@ -15,7 +16,6 @@ ghost use Rattle.key.specs.Rank.{rank};
 ghost use Rattle.key.specs.Range.{kindOf};
 ghost use Rattle.outcomes.specs.Stored.{stored, ranges, Sound};
 ghost use Rattle.outcomes.specs.Outcomes.{placed, firstPlace, found, contained, met, metPart};
-ghost use Rattle.lookup.specs.Walk.{Walked};
 
 // The range and the value at a place. The kind of range is no matter here.
 pub fn range_at(count: usize, starts: &[i64], ends: &[i64], values: &[u8], place: usize) -> Found
@@ -111,22 +111,6 @@ pub fn overlaps(
     Asked::Yes
 }
 
-// The first place from `from` on that begins too late for a range up to `end`.
-fn walk(kind: RangeKind, count: usize, starts: &[i64], from: usize, end: i64) -> usize
-    requires { ⌜ (from ≤ count) × (count ≤ length (now starts)) ⌝ }
-    ensures { λ r. ⌜ Walked (kindOf kind) count (now (starts .entry)) from end r ⌝ }
-{
-    let mut k = from;
-    while k < count {
-        let first = starts[k];
-        if !full(kind, first, end) {
-            return k;
-        }
-        k += 1;
-    }
-    k
-}
-
 // Which consecutive part of the places has keys of the query: place 0 and count 0 if none has.
 pub fn overlapping(
     kind: RangeKind,
@@ -144,7 +128,7 @@ pub fn overlapping(
         return Part::Refused(outcomes::EMPTY_RANGE);
     }
     let first = reaching(kind, ends, count, start);
-    let next = walk(kind, count, starts, first, end);
+    let next = begun(kind, starts, first, count, end);
     if next == first {
         return Part::Places(0, 0);
     }

@@ -1,4 +1,4 @@
--- What the search finds among the ends of a map.
+-- What the search finds among the ends of a map, and the walk among its starts.
 use Prim.Native.Nat.{ℕ, suc, _≤_, _<_}
 use mathlib.Core.Bool.{cond}
 use mathlib.Core.List.{List, [], _∷_}
@@ -28,3 +28,10 @@ pub record Reached (kind : Kind) (n : ℕ) (ends : List ℤ) (k : ℤ) (p : ℕ)
   pub within : p ≤ n
   pub below : (j : ℕ) → j < p → kind .past (getD ends j (pos 0)) ≤ rank k
   pub at : p < n → rank k < kind .past (getD ends p (pos 0))
+
+-- q is the first of the n places from p on that does not begin before a range that ends with e is past
+pub record Begun (kind : Kind) (n : ℕ) (starts : List ℤ) (p : ℕ) (e : ℤ) (q : ℕ) : Type 0 where
+  pub from : p ≤ q
+  pub within : q ≤ n
+  pub before : (j : ℕ) → j < q → p ≤ j → rank (getD starts j (pos 0)) < kind .past e
+  pub at : q < n → kind .past e ≤ rank (getD starts q (pos 0))

@@ -80,13 +80,6 @@ pub record Parted (ends : List ℤ) (count : ℕ) (key : ℤ) (n : ℕ) : Type 0
   pub less : (k : ℕ) → k < n → suc (rank (getD ends k (pos 0))) < rank key
   pub more : (k : ℕ) → n ≤ k → k < count → rank key ≤ suc (rank (getD ends k (pos 0)))
 
--- the starts from place `from` up to n are at most a key, and the next is not
-pub record Begun (starts : List ℤ) (from count : ℕ) (key : ℤ) (n : ℕ) : Type 0 where
-  pub ascending : from ≤ n
-  pub within : n ≤ count
-  pub most : (k : ℕ) → from ≤ k → k < n → rank (getD starts k (pos 0)) ≤ rank key
-  pub next : n < count → rank key < rank (getD starts n (pos 0))
-
 -- what a new range does to the first range that it meets or touches, which starts at `first` with the value p: is a part of it kept, and where does the new one start
 pub data LeftSide (first start : ℤ) (p v : ℕ) : Bool → ℤ → Type 0 where
   l-clear : rank start ≤ rank first → LeftSide first start p v false start

@@ -31,8 +31,8 @@ returns c =
     let m : Stored = stored (g .count) (g .starts .now) (g .ends .now) (g .values .now) in
     let from = c .before .short-of .ensures in
     let to = c .begun .ensures in
-    touching halfOpen half-open m (s .pre .0) (rank (g .start)) (rank (g .end)) _ _ (omega arith) (to .ascending) (to .within)
-    (simp rank-back at (from .less)) (simp rank-back at (from .more)) (simp rank-back at (to .most)) (simp rank-back at (to .next))
+    touching halfOpen half-open m (s .pre .0) (rank (g .start)) (rank (g .end)) _ _ (omega arith) (to .from) (to .within)
+    (simp rank-back at (from .less)) (simp rank-back at (from .more)) (λ k h b. omega (arith, simp rank-back at (to .before k b h))) (λ h. omega (arith, simp rank-back at (to .at h)))
 
 pub touched-spec : {M : Type 1} → statement M
 touched-spec = tie.close (tie.spec short-of-requires begun-requires returns)

@@ -41,8 +41,8 @@ returns c =
     let from = c .before .before .parted .ensures in
     let limit = simp rank-back at (c .before .limit-of .ensures) in
     let to = c .begun .ensures in
-    touching inclusive inclusive-too m (s .pre .0) (rank (g .start)) (suc (rank (g .end))) _ _ (omega arith) (to .ascending) (to .within)
-    (simp rank-back at (from .less)) (simp rank-back at (from .more)) (λ k h b. omega (arith, simp rank-back at (to .most k h b))) (λ h. omega (arith, simp rank-back at (to .next h), rank-below (ofZ w64 (getD (g .starts .now) (c .begun .result) (pos 0)))))
+    touching inclusive inclusive-too m (s .pre .0) (rank (g .start)) (suc (rank (g .end))) _ _ (omega arith) (to .from) (to .within)
+    (simp rank-back at (from .less)) (simp rank-back at (from .more)) (λ k h b. omega (arith, simp rank-back at (to .before k b h))) (λ h. omega (arith, simp rank-back at (to .at h), rank-below (ofZ w64 (getD (g .starts .now) (c .begun .result) (pos 0)))))
 
 pub touched-spec : {M : Type 1} → statement M
 touched-spec = tie.close (tie.spec parted-requires limit-of-requires begun-requires returns)

@@ -8,9 +8,8 @@ use Rattle.key.specs.Decides.{Decides}
 use Rattle.key.specs.Rank.{rank}
 use Rattle.key.specs.Range.{kindOf}
 use Rattle.key.proofs.Lawful.{lawful}
-use Rattle.places.specs.Search.{Reached}
+use Rattle.places.specs.Search.{Reached, Begun}
 use Rattle.key.proofs.Answers.{not-full}
-use Rattle.lookup.specs.Walk.{Walked}
 use Rattle.lookup.proofs.Returns.{searched, good, part-empty, part-none, part-some}
 use Rattle.lookup.proofs.overlapping.Statement.{statement}
 use Rattle.lookup.proofs.overlapping.Tie as tie
@@ -34,11 +33,11 @@ real c = query (c .before) .right (not-false _ (c .if1 .left))
 reach : (c : tie.After-reaching) → let a = c .before .before .before .before .args in Reached (kindOf (a .kind)) (a .count) (a .ends .now) (a .start) (c .reaching .result)
 reach c = rw (toZ-ofZ (c .before .before .before .before .fits .start)) at (c .reaching .ensures)
 
-walk-requires : tie.Need-walk-requires
-walk-requires c κs = omega (arith, reach c .within, good (c .before .before .before .before .pre) .held)
+begun-requires : tie.Need-begun-requires
+begun-requires c κs = omega (arith, reach c .within, good (c .before .before .before .before .pre) .held)
 
-walked : (c : tie.After-walk) → let a = c .before .before .before .before .before .args in Walked (kindOf (a .kind)) (a .count) (a .starts .now) (c .before .reaching .result) (a .end) (c .walk .result)
-walked c = rw (toZ-ofZ (c .before .before .before .before .before .fits .end)) at (c .walk .ensures)
+walked : (c : tie.After-begun) → let a = c .before .before .before .before .before .args in Begun (kindOf (a .kind)) (a .count) (a .starts .now) (c .before .reaching .result) (a .end) (c .begun .result)
+walked c = rw (toZ-ofZ (c .before .before .before .before .before .fits .end)) at (c .begun .ensures)
 
 returns-2 : tie.Need-returns-2
 returns-2 c =
@@ -56,4 +55,4 @@ returns-3 c =
 pub overlapping-spec : {M : Type 1} → statement M
 overlapping-spec =
     tie.close
-    (tie.spec full-requires returns reaching-requires walk-requires returns-2 sub-many returns-3)
+    (tie.spec full-requires returns reaching-requires begun-requires returns-2 sub-many returns-3)
