@@ -153,10 +153,10 @@ fn print_answer(answer: u8) {
 }
 
 // What was asked, and over which range.
-fn print_asked(name: &[u8], kind: RangeKind, start: i64, end: i64) {
+fn print_asked(name: &[u8], kind: RangeKind, r: Ends) {
     io::write_all(1, name);
     print(b' ');
-    print_range(kind, start, end);
+    print_range(kind, r.start, r.end);
 }
 
 fn print_value(value: u8) {
@@ -338,7 +338,7 @@ fn insert(m: Map, r: Ends, value: u8) -> Edited {
 
 fn show_insert(m: Map, r: Ends, value: u8) -> Map {
     let kind = m.kind;
-    print_asked(b"insert", kind, r.start, r.end);
+    print_asked(b"insert", kind, r);
     print_value(value);
     shown(insert(m, r, value))
 }
@@ -372,7 +372,7 @@ fn remove(m: Map, r: Ends) -> Edited {
 
 fn show_remove(m: Map, r: Ends) -> Map {
     let kind = m.kind;
-    print_asked(b"remove", kind, r.start, r.end);
+    print_asked(b"remove", kind, r);
     shown(remove(m, r))
 }
 
@@ -445,110 +445,68 @@ fn damage(m: Map) -> Map {
 
 // ---- questions
 
-fn ask_whole<'a>(
-    kind: RangeKind,
-    count: &'a usize,
-    starts: &'a [i64; PLACES],
-    ends: &'a [i64; PLACES],
-    values: &'a [u8; PLACES],
-    what: u8,
-) {
+fn print_asked_gaps(kind: RangeKind, r: Ends, many: u8) {
+    print_asked(b"gaps", kind, r);
+    io::write_all(1, b" into ");
+    print_number(many as u64);
+}
+
+// What a step asks.
+fn print_question(kind: RangeKind, s: Step) {
+    let what = s.what;
     match what {
         b'e' => {
             io::write_all(1, b"is_empty");
-            print_yes(numbers::is_empty(kind, count, starts, ends, values));
         }
         b'n' => {
             io::write_all(1, b"len");
-            print_count(numbers::len(kind, count, starts, ends, values));
         }
         b'h' => {
             io::write_all(1, b"first");
-            print_found(
-                kind,
-                numbers::first_range_value(kind, count, starts, ends, values),
-            );
         }
         b'l' => {
             io::write_all(1, b"last");
-            print_found(
-                kind,
-                numbers::last_range_value(kind, count, starts, ends, values),
-            );
         }
+        b'p' => {
+            io::write_all(1, b"range_at ");
+            print_number(digit(s.one) as u64);
+        }
+        b'g' => {
+            io::write_all(1, b"get ");
+            print_key(key_of(s.one));
+        }
+        b'k' => {
+            io::write_all(1, b"contains ");
+            print_key(key_of(s.one));
+        }
+        b'o' => print_asked(b"overlapping", kind, ends_of(s)),
+        b'w' => print_asked_gaps(kind, ends_of(s), digit(s.three)),
         _ => {}
     }
 }
 
-fn ask_place<'a>(
+// Overlaps is asked with overlapping, on a line of its own.
+fn answer_overlapping<'a>(
     kind: RangeKind,
     count: &'a usize,
     starts: &'a [i64; PLACES],
     ends: &'a [i64; PLACES],
     values: &'a [u8; PLACES],
-    place: u8,
+    r: Ends,
 ) {
-    io::write_all(1, b"range_at ");
-    print_number(place as u64);
-    print_found(
-        kind,
-        numbers::range_at(kind, count, starts, ends, values, place as usize),
-    );
-}
-
-fn ask_get<'a>(
-    kind: RangeKind,
-    count: &'a usize,
-    starts: &'a [i64; PLACES],
-    ends: &'a [i64; PLACES],
-    values: &'a [u8; PLACES],
-    key: i64,
-) {
-    io::write_all(1, b"get ");
-    print_key(key);
-    print_found(
-        kind,
-        numbers::get_key_value(kind, count, starts, ends, values, key),
-    );
-}
-
-fn ask_contains<'a>(
-    kind: RangeKind,
-    count: &'a usize,
-    starts: &'a [i64; PLACES],
-    ends: &'a [i64; PLACES],
-    values: &'a [u8; PLACES],
-    key: i64,
-) {
-    io::write_all(1, b"contains ");
-    print_key(key);
-    print_yes(numbers::contains_key(kind, count, starts, ends, values, key));
-}
-
-fn ask_overlapping<'a>(
-    kind: RangeKind,
-    count: &'a usize,
-    starts: &'a [i64; PLACES],
-    ends: &'a [i64; PLACES],
-    values: &'a [u8; PLACES],
-    start: i64,
-    end: i64,
-) {
-    print_asked(b"overlapping", kind, start, end);
-    print_stretch(numbers::overlapping(kind, count, starts, ends, values, start, end));
+    print_stretch(numbers::overlapping(kind, count, starts, ends, values, r.start, r.end));
     print(b'\n');
-    print_asked(b"overlaps", kind, start, end);
-    print_yes(numbers::overlaps(kind, count, starts, ends, values, start, end));
+    print_asked(b"overlaps", kind, r);
+    print_yes(numbers::overlaps(kind, count, starts, ends, values, r.start, r.end));
 }
 
-fn ask_gaps<'a>(
+fn answer_gaps_into<'a>(
     kind: RangeKind,
     count: &'a usize,
     starts: &'a [i64; PLACES],
     ends: &'a [i64; PLACES],
     values: &'a [u8; PLACES],
-    start: i64,
-    end: i64,
+    r: Ends,
     out_starts: &mut [i64],
     out_ends: &mut [i64],
 ) {
@@ -558,8 +516,8 @@ fn ask_gaps<'a>(
         starts,
         ends,
         values,
-        start,
-        end,
+        r.start,
+        r.end,
         out_starts,
         out_ends,
     ));
@@ -567,37 +525,32 @@ fn ask_gaps<'a>(
 }
 
 // The gaps into lists of so many places, which hold 0 before. Only one list is cut: the shorter decides.
-fn ask_some_gaps<'a>(
+fn answer_gaps<'a>(
     kind: RangeKind,
     count: &'a usize,
     starts: &'a [i64; PLACES],
     ends: &'a [i64; PLACES],
     values: &'a [u8; PLACES],
-    start: i64,
-    end: i64,
+    r: Ends,
     many: usize,
 ) {
-    print_asked(b"gaps", kind, start, end);
-    io::write_all(1, b" into ");
-    print_number(many as u64);
     let mut out_starts = [0i64; LISTED];
     let mut out_ends = [0i64; LISTED];
     if many <= LISTED {
-        ask_gaps(
+        answer_gaps_into(
             kind,
             count,
             starts,
             ends,
             values,
-            start,
-            end,
+            r,
             &mut out_starts[0..many],
             &mut out_ends,
         );
     }
 }
 
-fn ask_by<'a>(
+fn answer<'a>(
     kind: RangeKind,
     count: &'a usize,
     starts: &'a [i64; PLACES],
@@ -607,34 +560,42 @@ fn ask_by<'a>(
 ) {
     let what = s.what;
     match what {
-        b'p' => ask_place(kind, count, starts, ends, values, digit(s.one)),
-        b'g' => ask_get(kind, count, starts, ends, values, key_of(s.one)),
-        b'k' => ask_contains(kind, count, starts, ends, values, key_of(s.one)),
-        b'o' => ask_overlapping(
+        b'e' => print_yes(numbers::is_empty(kind, count, starts, ends, values)),
+        b'n' => print_count(numbers::len(kind, count, starts, ends, values)),
+        b'h' => print_found(
             kind,
-            count,
-            starts,
-            ends,
-            values,
-            key_of(s.one),
-            key_of(s.two),
+            numbers::first_range_value(kind, count, starts, ends, values),
         ),
-        b'w' => ask_some_gaps(
+        b'l' => print_found(
+            kind,
+            numbers::last_range_value(kind, count, starts, ends, values),
+        ),
+        b'p' => print_found(
+            kind,
+            numbers::range_at(kind, count, starts, ends, values, digit(s.one) as usize),
+        ),
+        b'g' => print_found(
+            kind,
+            numbers::get_key_value(kind, count, starts, ends, values, key_of(s.one)),
+        ),
+        b'k' => print_yes(numbers::contains_key(kind, count, starts, ends, values, key_of(s.one))),
+        b'o' => answer_overlapping(kind, count, starts, ends, values, ends_of(s)),
+        b'w' => answer_gaps(
             kind,
             count,
             starts,
             ends,
             values,
-            key_of(s.one),
-            key_of(s.two),
+            ends_of(s),
             digit(s.three) as usize,
         ),
-        _ => ask_whole(kind, count, starts, ends, values, what),
+        _ => {}
     }
 }
 
 fn ask(m: Map, s: Step) {
-    ask_by(m.kind, &m.count, &m.starts, &m.ends, &m.values, s);
+    print_question(m.kind, s);
+    answer(m.kind, &m.count, &m.starts, &m.ends, &m.values, s);
     print(b'\n');
 }
 
