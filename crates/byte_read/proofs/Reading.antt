@@ -6,13 +6,12 @@ use mathlib.Core.Path.{_≡_, refl, sym, ap, _∙_}
 use mathlib.Core.Bool.{Bool, true, false, _&&_}
 use mathlib.Core.List.{List, [], _∷_, _++_, map, append-nil, map-append}
 use lib.ListN.{length, getD, set, take, drop, replicate, length-append, length-map, length-replicate, List·getD-append, List·getD-map, drop-of-length-le}
-use lib.Seq.{sets, sets-eq, drop-drop, getD-drop, getD-take, ext-getD, length-take-le, getD-append-add}
+use lib.Seq.{sets, sets-eq, drop-drop, getD-drop, getD-take, ext-getD, length-take-le}
 use lib.IntN.{ℤ, pos}
 use Rattle.key.specs.Decides.{Decides}
 use Rattle.key.specs.Range.{halfOpen}
 use Rattle.outcomes.specs.Stored.{places, Stored, stored, filled}
 use Rattle.outcomes.specs.Outcomes.{Entry, formed, leaving}
-use Rattle.outcomes.proofs.Formed.{Spare}
 use Rattle.outcomes.proofs.Formed as Formed
 use Rattle.outcomes.proofs.Storing.{spare-filled}
 use Rattle.places.specs.Check.{Steps, Unused}

@@ -8,8 +8,6 @@ use lib.Dec.{ltb}
 use lib.ListN.{length, getD, take}
 use lib.Seq.{ext-getD}
 use lib.IntN.{ℤ, pos}
-use mir.Syntax.{w64}
-use mir.Val.{SFits}
 use Rattle.span.specs.Span.{Span, span}
 use Rattle.span.specs.Operations.{flat, lex, order, flipped}
 use Rattle.span.proofs.Order.{order-refl, order-same, order-flip, order-trans}

@@ -7,14 +7,13 @@ use mathlib.Core.List.{List, [], _∷_}
 use mathlib.Core.Option.{Option, some, none}
 use borrow.Author.Tests.{leb-true, eqb-false, lt-ltb}
 use lib.Dec.{eqb, ltb, leb}
-use Rattle.span.specs.Span.{Span, span, inside, at, Ordered, Upto}
+use Rattle.span.specs.Span.{Span, inside, at, Ordered}
 use Rattle.span.specs.Operations.{within, total, any, unless}
-use Rattle.span.proofs.Tests.{Within, cases, below, among, beyond, place, in-yes, in-no}
-use Rattle.span.proofs.Holding.{at-in, at-below}
+use Rattle.span.proofs.Tests.{cases, below, among, beyond, place, in-yes, in-no}
+use Rattle.span.proofs.Holding.{at-in}
 use Rattle.span.proofs.Laws.{never}
 use Rattle.span.proofs.Sets.{ordered-within, at-within}
 use Rattle.duty.specs.Duty.{dutyOf, counts, those, secondsOf, unrecordedOf, strange, totalsOf}
-use Rattle.duty.specs.declared.Totals.{Totals}
 use Rattle.duty.proofs.Laws.{total-those}
 use Rattle.duty.proofs.Instants.{passes, count-same, within-sum, seconds-instants, unrecorded-instants}
 

@@ -2,11 +2,11 @@
 -- In units of the smallest double the fraction is n / c, and `round` gives q * 2 ^ k units, q the whole number nearest n / (c * 2 ^ k). A double is either a
 -- multiple of 2 ^ k units, or so small that 2 ^ (prec - 1 + k) units lie between it and the fraction. Assumes nothing.
 use mathlib.Core.Path.{_≡_, refl, sym, _∙_, ap, subst}
-use mathlib.Core.Logic.{_⊎_, inl, inr, ⊎-elim}
+use mathlib.Core.Logic.{_⊎_, inl, inr}
 use Prim.Native.Nat.{ℕ, zero, suc, _+_, _-_, _*_, _/_, _%_, _^_, _≤_, _<_, zero-le, compare, Ordering, Ordering·lt, Ordering·eq, Ordering·gt}
-use native.Mathlib.Nat.{le-refl, le-trans, le-of-eq, le-of-lt, lt-of-lt-of-le, lt-of-le-of-lt, lt-trans, zero-lt-suc, eq-zero-or-pos, mul-one, mul-comm, mul-assoc, mul-left-comm, mul-right-comm, mul-le-mul-right, mul-lt-mul-of-pos-right, lt-of-mul-lt-mul-right, eq-of-mul-eq-mul-right, mul-pos, mul-sub, div-add-mod', mod-lt, le-div-iff-mul-le, div-le-self, div-div-eq-div-mul, suc-mul, zero-mul, one-mul, add-mul, mul-add, lt-of-not-le, le-of-suc-le-suc, lt-irrefl}
+use native.Mathlib.Nat.{le-trans, le-of-eq, le-of-lt, lt-of-lt-of-le, lt-of-le-of-lt, lt-trans, eq-zero-or-pos, mul-one, mul-comm, mul-assoc, mul-right-comm, mul-le-mul-right, mul-lt-mul-of-pos-right, lt-of-mul-lt-mul-right, eq-of-mul-eq-mul-right, mul-pos, mul-sub, div-add-mod', mod-lt, le-div-iff-mul-le, div-le-self, div-div-eq-div-mul, suc-mul, zero-mul, one-mul, add-mul, mul-add, lt-of-not-le, le-of-suc-le-suc, lt-irrefl}
 use native.Mathlib.Omega.{arith}
-use mathlib.Core.Bool.{Bool, true, false, not, _&&_, _||_, true≢false}
+use mathlib.Core.Bool.{Bool, true, false, not, _&&_, true≢false}
 use native.Mathlib.Decide.{decLt}
 use lib.IntN.{ℤ, pos, negsuc}
 use lib.Dec.{T, isLe, isEq, ltb, leb, eqb, ltb→lt, leb→le, nleb→lt, eqb→eq, eqb-refl, lit≤, lit<}

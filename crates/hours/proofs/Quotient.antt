@@ -1,12 +1,11 @@
 -- Seconds as a double, divided by 3600 as a double, are the hours: the two are exact, so only the quotient rounds. Assumes nothing.
-use mathlib.Core.Path.{_≡_, refl, sym, _∙_, ap, subst}
+use mathlib.Core.Path.{_≡_, refl, _∙_, ap}
 use Prim.Native.Nat.{ℕ, _*_, _^_, _≤_, _<_}
-use native.Mathlib.Nat.{le-of-lt, lt-of-lt-of-le, mul-one, mul-comm, mul-assoc, mul-pos}
-use native.Mathlib.Omega.{arith}
-use mathlib.Core.Bool.{Bool, true, false, true≢false}
+use native.Mathlib.Nat.{le-of-lt, lt-of-lt-of-le, mul-comm, mul-assoc, mul-pos}
+use mathlib.Core.Bool.{true, false, true≢false}
 use lib.IntN.{pos}
 use lib.Dec.{lit≤, lit<}
-use lib.Ieee.{Float, nan, inf, fin, binary64, prec, up, down, round, ofInt, ofBits, div}
+use lib.Ieee.{Float, nan, inf, fin, binary64, up, down, round, ofInt, ofBits, div}
 use lib.Ieee.Exact.{HasValue}
 use lib.Ieee.Fits.{down-pos}
 use lib.Ieee.Back.{round-whole}

@@ -1,6 +1,6 @@
 -- Document 01, "Log days": seconds as hours, each the double nearest seconds / 3600, ties to even. A float is what the logic's account of IEEE 754 says it is.
 use Prim.Native.Nat.{ℕ, _+_, _-_, _*_, _<_}
-use mathlib.Core.Bool.{Bool, true, false}
+use mathlib.Core.Bool.{true, false}
 use mathlib.Core.Logic.{_⊎_}
 use lib.Dec.{T}
 use lib.Ieee.{Float, nan, inf, fin, binary64, round, fits, eq, up, down}

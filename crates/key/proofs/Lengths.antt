@@ -1,7 +1,7 @@
 -- A range's length: the answer of a number of keys, and which lengths a u64 does not hold.
-use Prim.Native.Nat.{ℕ, suc, _-_, _≤_, _<_, _^_}
+use Prim.Native.Nat.{ℕ, suc, _-_, _≤_, _<_}
 use native.Mathlib.Omega.{arith}
-use mathlib.Core.Path.{_≡_, ap, sym, _∙_}
+use mathlib.Core.Path.{_≡_}
 use borrow.Author.Tests.{lt-ltb, le-ltb}
 use lib.IntN.{ℤ}
 use mir.Syntax.{w64}

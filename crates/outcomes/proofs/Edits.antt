@@ -5,7 +5,7 @@ use native.Mathlib.Decide.{decLt}
 use mathlib.Core.Path.{_≡_, refl, sym, ap, _∙_}
 use mathlib.Core.Bool.{Bool, true, false, cond}
 use mathlib.Core.List.{List, [], _∷_}
-use mathlib.Core.Option.{Option, some, none}
+use mathlib.Core.Option.{Option, none}
 use borrow.Author.Tests.{leb-false, ltb-false, eqb-true, eqb-false, eq-eqb}
 use lib.Dec.{leb, ltb, eqb}
 use lib.ListN.{length}

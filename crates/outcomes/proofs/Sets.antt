@@ -20,7 +20,7 @@ use Rattle.key.specs.Range.{Kind}
 use Rattle.key.proofs.Answers.{one-answer}
 use Rattle.outcomes.specs.Stored.{Stored, spans, ranges, noughts}
 use Rattle.outcomes.specs.Outcomes.{Written}
-use Rattle.outcomes.specs.Sets.{plain, SoundSet, unionOf, intersecting, uniting, intersected, joining}
+use Rattle.outcomes.specs.Sets.{plain, SoundSet, unionOf, intersected}
 use Rattle.outcomes.specs.declared.Counted.{Counted}
 use Rattle.outcomes.proofs.Formed.{Formed, formed, length-ranges}
 

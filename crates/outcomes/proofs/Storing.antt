@@ -1,14 +1,11 @@
 -- A list of ranges and the map that stores it: there and back, for both kinds. What is stored is sound.
-use Prim.Native.Nat.{ℕ, zero, suc, _+_, _-_, _≤_, _<_}
+use Prim.Native.Nat.{ℕ, zero, suc, _+_, _-_, _≤_}
 use native.Mathlib.Omega.{arith}
-use native.Mathlib.Decide.{decLt}
 use mathlib.Core.Path.{_≡_, refl, sym, ap, _∙_}
 use mathlib.Core.List.{List, [], _∷_, _++_, map}
-use lib.ListN.{length, getD, take, drop, replicate, length-append, length-replicate, length-map, getD-replicate}
+use lib.ListN.{length, getD, take, drop, replicate, length-append, length-replicate, length-map}
 use lib.Seq.{getD-append-add, take-nil, drop-nil}
 use lib.IntN.{ℤ, pos}
-use mir.Syntax.{w64}
-use mir.Val.{SFits}
 use mir.Facts.{sfits-lit}
 use Rattle.span.specs.Span.{Span, Ordered, Upto, Tidy}
 use Rattle.key.specs.Rank.{rank, keyAt}

@@ -1,6 +1,6 @@
 -- ONE OUTCOME: two outcomes that meet a promise are equal, the answer and all lent memory. Answers alone have `one-answer`, of the crate `key`.
 use Prim.Native.Nat.{ℕ}
-use mathlib.Core.Path.{_≡_, sym, ap, _∙_}
+use mathlib.Core.Path.{_≡_, ap}
 use mathlib.Core.List.{List}
 use lib.IntN.{ℤ}
 use Rattle.key.proofs.Answers.{one-answer}

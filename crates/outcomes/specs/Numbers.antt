@@ -1,7 +1,6 @@
 -- Each answer as C and Rust see it: its number, and its values, 0 where document 01 says 0.
-use Prim.Native.Nat.{ℕ}
 use mathlib.Core.Bool.{true, false}
-use lib.IntN.{ℤ, pos, negsuc}
+use lib.IntN.{pos, negsuc}
 use Rattle.outcomes.specs.declared.Asked.{Asked}
 use Rattle.outcomes.specs.declared.Asked.the-variants as Asked
 use Rattle.outcomes.specs.declared.Told.{Told}

@@ -2,11 +2,11 @@
 use Prim.Native.Nat.{ℕ, zero, suc, _+_, _≤_, _<_}
 use native.Mathlib.Omega.{arith}
 use native.Mathlib.Numerals.{add-one}
-use mathlib.Core.Path.{_≡_, refl, sym, ap, _∙_}
+use mathlib.Core.Path.{_≡_, refl, _∙_}
 use mathlib.Core.Bool.{Bool, true, false, not}
 use mathlib.Core.List.{List, [], _∷_}
-use lib.ListN.{length, getD, take, drop, replicate, length-replicate, length-drop, drop-of-length-le}
-use lib.Seq.{drop-cons, drop-nil, getD-take, length-take-le}
+use lib.ListN.{length, getD, take, drop, replicate, length-replicate, drop-of-length-le}
+use lib.Seq.{drop-cons, getD-take, length-take-le}
 use lib.IntN.{ℤ, pos}
 use mir.Val.{boolByte}
 use Rattle.span.specs.Span.{Span, span}

@@ -1,14 +1,14 @@
 -- The sets that the doors are lent: the ranges of a set are those of its starts and ends.
 use Prim.Native.Nat.{ℕ}
-use mathlib.Core.Path.{_≡_, refl, sym, ap, _∙_}
+use mathlib.Core.Path.{_≡_, refl, ap, _∙_}
 use mathlib.Core.Bool.{true}
 use mathlib.Core.List.{List, [], _∷_}
 use borrow.Author.Tests.{eqb-true}
 use lib.Dec.{eqb}
-use lib.ListN.{length, take, replicate}
+use lib.ListN.{length, replicate}
 use Rattle.span.proofs.Tests.{both}
 use Rattle.key.specs.Range.{Kind}
-use Rattle.outcomes.specs.Stored.{Stored, spans, ranges, noughts}
+use Rattle.outcomes.specs.Stored.{Stored, ranges, noughts}
 use Rattle.outcomes.specs.Sets.{plain, SoundSet}
 use Rattle.outcomes.proofs.Formed.{Formed, formed}
 use Rattle.pairs.specs.Sides.{rows, Side}

@@ -10,8 +10,7 @@ use lib.ListN.{set}
 use lib.IntN.{ℤ}
 use lib.Signed.{ltZ}
 use mir.Syntax.{w64}
-use mir.Val.{SFits, toZ, ofZ}
-use mir.Facts.{toZ-ofZ}
+use mir.Val.{toZ, ofZ}
 use Rattle.key.specs.Rank.{rank, bitRank, keyAt, lesser, greater}
 use Rattle.key.specs.Range.{kindOf}
 use Rattle.key.specs.Decides.{Decides}

@@ -1,19 +1,19 @@
 -- The two lent lists, while ranges are written into them one by one: what is still to be written.
-use Prim.Native.Nat.{ℕ, suc, _+_, _≤_, _<_}
+use Prim.Native.Nat.{ℕ, suc, _+_, _<_}
 use native.Mathlib.Omega.{arith}
 use native.Mathlib.Numerals.{add-one}
 use mathlib.Core.Path.{_≡_, refl, sym, ap, _∙_}
 use mathlib.Core.Bool.{Bool, true, false, cond}
 use mathlib.Core.List.{List, [], _∷_, map}
 use lib.ListN.{length, set}
-use lib.Seq.{sets, set-set, length-sets}
+use lib.Seq.{sets, set-set}
 use lib.IntN.{ℤ}
 use mir.Val.{boolByte}
 use lib.ListN.{length-set}
 use Rattle.span.specs.Span.{Span}
 use Rattle.key.specs.Rank.{keyAt}
 use Rattle.key.specs.Range.{Kind}
-use Rattle.lists.specs.Lists.{startsOf, endsOf, Room, Puts}
+use Rattle.lists.specs.Lists.{Room, Puts}
 use Rattle.pairs.specs.Lists.{Counting, Going}
 
 -- one range more is counted, or none

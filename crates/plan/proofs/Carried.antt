@@ -1,13 +1,13 @@
 -- A plan that is right, carried out, leaves what the edit promises: the stored map with its unused places, for both kinds.
 use Prim.Native.Nat.{ℕ, _+_, _-_, _≤_, _<_}
 use native.Mathlib.Omega.{arith}
-use mathlib.Core.Path.{_≡_, refl, sym, ap, _∙_}
+use mathlib.Core.Path.{_≡_, sym, ap, _∙_}
 use mathlib.Core.Bool.{cond}
-use mathlib.Core.List.{List, [], _∷_, _++_, map, append-assoc, map-append}
+use mathlib.Core.List.{List, _++_, map, append-assoc, map-append}
 use mathlib.Core.Option.{Option}
 use borrow.Author.Tests.{le-leb, lt-leb}
 use lib.Dec.{ltb}
-use lib.ListN.{length, getD, take, drop, replicate, length-append, length-drop, length-map}
+use lib.ListN.{length, take, drop, length-append, length-drop}
 use lib.Seq.{take-take, length-take-le}
 use lib.IntN.{ℤ, pos}
 use Rattle.span.specs.Span.{Span, given}
@@ -16,7 +16,7 @@ use Rattle.key.specs.Range.{Kind}
 use Rattle.key.proofs.Lawful.{Lawful}
 use Rattle.splice.specs.Splice.{spliced}
 use Rattle.outcomes.specs.Stored.{Stored, stored, spans, ranges, filled, storing, AllFit, Sound}
-use Rattle.outcomes.specs.Outcomes.{Edited, leaving, editing}
+use Rattle.outcomes.specs.Outcomes.{leaving, editing}
 use Rattle.outcomes.proofs.Formed.{length-spans}
 use Rattle.outcomes.proofs.Storing.{map-take, map-drop, drop-take, starts-back, ends-back, values-back}
 use Rattle.plan.specs.Plan.{newStarts, newEnds, newValues, newCount, carried, Columns, Planned}

@@ -3,7 +3,7 @@ use Prim.Native.Nat.{ℕ, zero, suc, _+_, _-_, _≤_, _<_}
 use native.Mathlib.Omega.{arith}
 use native.Mathlib.Decide.{decLt}
 use mathlib.Core.Path.{_≡_, refl, sym, ap, subst, _∙_}
-use mathlib.Core.Bool.{Bool, true, false, cond}
+use mathlib.Core.Bool.{Bool, true, false}
 use mathlib.Core.List.{List, [], _∷_, _++_, map}
 use mathlib.Core.Option.{Option, some, none}
 use lib.ListN.{length, getD, take, drop, length-drop}
@@ -25,7 +25,7 @@ use Rattle.key.proofs.Lawful.{Lawful}
 use Rattle.splice.specs.declared.Entry.{Entry}
 use Rattle.outcomes.specs.Stored.{Stored, spans, ranges, AllFit, Sound}
 use Rattle.plan.specs.declared.Replacement.{Replacement}
-use Rattle.plan.specs.Plan.{nowhere, Touching, newStarts, newEnds, newValues, coming, kept, Brings, Planned, LeftSide, l-clear, l-joined, l-kept, RightSide, r-clear, r-joined, r-kept}
+use Rattle.plan.specs.Plan.{nowhere, Touching, newStarts, newEnds, newValues, kept, Brings, Planned, LeftSide, l-clear, l-joined, l-kept, RightSide, r-clear, r-joined, r-kept}
 use Rattle.plan.proofs.Places.{form, len, at-place}
 
 -- a list, cut at two places

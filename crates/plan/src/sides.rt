@@ -1,7 +1,6 @@
 // What an edit leaves of the first and the last range that it meets or touches.
 use crate::Replacement;
 use splice::Entry;
-ghost use mathlib.Core.Path.{_≡_};
 ghost use mathlib.Core.List.{[], _∷_};
 ghost use Prim.Native.Nat.{_<_};
 ghost use Rattle.key.specs.Decides.{Decides};

@@ -1,7 +1,7 @@
 -- Document 01's cases of intersect, by computation; and what the relations say at the two ends of the keys.
 use Prim.Native.Nat.{_-_, _^_}
 use mathlib.Core.Path.{_≡_, refl}
-use lib.IntN.{ℤ, pos, negsuc}
+use lib.IntN.{pos, negsuc}
 use Rattle.span.specs.Span.{inside}
 use Rattle.span.specs.Operations.{overlaps}
 use Rattle.key.specs.Rank.{place, bitRank, lesser, greater}

@@ -1,5 +1,5 @@
 -- What the relations mean, for both kinds at once; and that each promise has one answer.
-use Prim.Native.Nat.{ℕ, suc, _≤_, _<_, min, max}
+use Prim.Native.Nat.{ℕ, _≤_, _<_, min, max}
 use native.Mathlib.Omega.{arith}
 use native.Mathlib.Decide.{decLt}
 use mathlib.Core.Path.{_≡_, refl, sym}

@@ -3,11 +3,10 @@ use Prim.Native.Nat.{ℕ, _≤_, _<_}
 use native.Mathlib.Omega.{arith}
 use native.Mathlib.Decide.{decLt}
 use mathlib.Core.Path.{_≡_, refl}
-use mathlib.Core.Logic.{_⊎_, ⊎-elim}
 use mathlib.Core.Bool.{Bool, true, false, _||_, _&&_}
 use borrow.Author.Tests.{le-leb, lt-leb, lt-ltb, le-ltb}
 use lib.IntN.{ℤ}
-use Rattle.span.specs.Span.{Span, inside}
+use Rattle.span.specs.Span.{Span}
 use Rattle.span.specs.Operations.{overlaps}
 use Rattle.span.proofs.Tests.{Within, in-yes, in-no}
 use Rattle.key.specs.Rank.{rank, lesser, greater}

@@ -1,9 +1,6 @@
 -- Document 01's November report, and three refusals, as theorems about the definitions that the contracts cite: by computation.
-use Prim.Native.Nat.{ℕ}
 use mathlib.Core.Path.{_≡_, refl}
 use mathlib.Core.Bool.{false}
-use mathlib.Core.List.{[], _∷_}
-use mathlib.Core.Option.{some}
 use lib.IntN.{ℤ, pos}
 use lib.Ieee.{fin}
 use Rattle.span.specs.Span.{inside, keep, before, after, joins, tidy, push, joined, given, history}

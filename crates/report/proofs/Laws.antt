@@ -1,12 +1,12 @@
 -- WHAT A REPORT SAYS: each duty's seconds are the number of instants of the day at which the map holds it, the four duties and unrecorded time sum to the day's length,
 -- the whole day is unrecorded exactly where the map holds nothing in it, and each hour is the double nearest its seconds / 3600.
-use Prim.Native.Nat.{ℕ, _+_, _-_, _^_, _≤_, _<_}
+use Prim.Native.Nat.{ℕ, _+_, _-_, _≤_, _<_}
 use native.Mathlib.Omega.{arith}
 use mathlib.Core.Path.{_≡_, refl, sym, ap, _∙_}
 use mathlib.Core.Bool.{Bool, true, false, cond}
 use mathlib.Core.List.{List}
-use mathlib.Core.Option.{Option, some, none}
-use lib.IntN.{ℤ, pos}
+use mathlib.Core.Option.{some, none}
+use lib.IntN.{ℤ}
 use Rattle.span.specs.Span.{Span, inside, at, Ordered}
 use Rattle.span.specs.Operations.{count, unless}
 use Rattle.key.specs.Rank.{rank}

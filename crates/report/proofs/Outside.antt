@@ -16,17 +16,16 @@ use Rattle.key.specs.Rank.{rank}
 use Rattle.key.specs.Range.{halfOpen}
 use Rattle.key.proofs.Lawful.{half-open}
 use Rattle.outcomes.specs.Stored.{places, Stored, ranges, storing, wellFormed}
-use Rattle.outcomes.specs.Outcomes.{Edited, leaving, editing, edited, formed}
+use Rattle.outcomes.specs.Outcomes.{leaving, editing, edited, formed}
 use Rattle.outcomes.proofs.Formed as Formed
-use Rattle.outcomes.proofs.Edits.{Done, done, edit-ranges, edit-sound, edit-length}
-use Rattle.duty.specs.Duty.{strange, totalsOf, tallying}
+use Rattle.outcomes.proofs.Edits.{done, edit-ranges, edit-sound, edit-length}
+use Rattle.duty.specs.Duty.{strange, tallying}
 use Rattle.duty.proofs.Sums.{same-totals, same-strange}
 use Rattle.log_day.specs.Days.{dayOf}
 use Rattle.log_day.specs.declared.Day.{Day}
 use Rattle.log_day.specs.declared.Day.the-variants as Day
-use Rattle.report.specs.Report.{between, inDay, reporting}
-use Rattle.report.specs.declared.Reported.{Reported}
-use Rattle.report.proofs.Returns.{Window, day-window}
+use Rattle.report.specs.Report.{between, reporting}
+use Rattle.report.proofs.Returns.{day-window}
 
 -- the range a..b has no instant of the day
 pub data Off (a b s e : ℤ) : Type 0 where

@@ -1,17 +1,16 @@
 -- What serves the functions' proofs: 0.0, and a day as a window of ranks.
 use Prim.Native.Nat.{ℕ, _+_, _-_, _^_, _≤_, _<_}
 use native.Mathlib.Omega.{arith}
-use mathlib.Core.Path.{_≡_, refl, sym, ap, _∙_}
+use mathlib.Core.Path.{_≡_, refl, ap, _∙_}
 use lib.IntN.{ℤ, pos}
 use lib.Dec.{lt→ltb}
 use lib.Ieee.{binary64, ofBits}
 use Rattle.key.specs.Rank.{rank}
 use Rattle.key.proofs.Laws.{rank-pos}
 use Rattle.duty.specs.Walk.{limit}
-use Rattle.calendar.specs.Calendar.{date}
 use Rattle.log_day.specs.Days.{dayOf}
 use Rattle.log_day.specs.declared.Day.the-variants as Day
-use Rattle.log_day.proofs.Spans.{Held, held, Length, short, long, plain}
+use Rattle.log_day.proofs.Spans.{held, short, long, plain}
 use Rattle.report.specs.Report.{noHours}
 
 pub no-hours : ofBits binary64 0 ≡ noHours

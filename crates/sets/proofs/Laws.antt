@@ -7,7 +7,7 @@ use mathlib.Core.List.{List, [], _∷_, _++_, map}
 use mathlib.Core.Option.{Option, some, none}
 use lib.ListN.{length, replicate}
 use lib.IntN.{ℤ}
-use Rattle.span.specs.Span.{Span, Ordered, Tidy, at, inside, given}
+use Rattle.span.specs.Span.{Span, Ordered, at, inside, given}
 use Rattle.span.specs.Operations.{Plain}
 use Rattle.span.proofs.Laws.{at-given, tidy-given, never}
 use Rattle.span.proofs.Sets.{plain-at, at-zero}

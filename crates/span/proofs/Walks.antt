@@ -9,10 +9,10 @@ use mathlib.Core.Option.{Option, some, none}
 use lib.Dec.{ltb}
 use borrow.Author.Tests.{lt-ltb, le-ltb}
 use lib.ListN.{length, length-append}
-use Rattle.span.specs.Span.{Span, span, inside, at, or-else, Ordered, Apart, Separate, Tidy, keep, joined}
+use Rattle.span.specs.Span.{Span, span, at, or-else, Ordered, Apart, Separate, Tidy, keep, joined}
 use Rattle.span.specs.Operations.{Plain, parts, common, when, overlaps, merged, absorb, united, any, holds, links}
-use Rattle.span.proofs.Tests.{below, among, beyond, place, in-yes, in-no, in-same, lt-cases}
-use Rattle.span.proofs.Holding.{at-in, at-out, at-below, at-keep, at-app, or-none, ordered-from}
+use Rattle.span.proofs.Tests.{below, among, beyond, place, in-yes, in-no, lt-cases}
+use Rattle.span.proofs.Holding.{at-in, at-below, at-keep, at-app, ordered-from}
 use Rattle.span.proofs.Laws.{the-only-one, never}
 use Rattle.span.proofs.Sets.{common-means}
 use Rattle.span.proofs.Union.{ordered-absorb, plain-absorb, or-assoc, holds-joint, links-joint, holds-absorb, links-absorb, holds-united, links-united, ordered-united, plain-united, the-only-links, at-plain}

@@ -1,5 +1,5 @@
 -- The walk, one step at a time: the range that starts first is taken. It makes the open range longer, or becomes the open one.
-use Prim.Native.Nat.{ℕ, zero, suc, _+_, _≤_, _<_, max}
+use Prim.Native.Nat.{ℕ, suc, _+_, _≤_, _<_, max}
 use native.Mathlib.Omega.{arith}
 use native.Mathlib.Decide.{decLt}
 use mathlib.Core.Path.{_≡_, refl, sym, ap, _∙_}
@@ -14,7 +14,7 @@ use Rattle.span.specs.Span.{Span, span, Ordered}
 use Rattle.span.specs.Operations.{Plain, absorb, united}
 use Rattle.span.proofs.Holding.{ordered-from}
 use Rattle.span.proofs.Union.{plain-united}
-use Rattle.span.proofs.Walks.{Spaced, spaced-from, spaced-ordered, spaced-plain, united-left, united-right, united-none, united-from, absorb-step, absorb-some, absorb-apart, grown, length-united}
+use Rattle.span.proofs.Walks.{Spaced, spaced-ordered, spaced-plain, united-left, united-right, united-none, united-from, absorb-step, absorb-some, absorb-apart, grown, length-united}
 use Rattle.key.specs.Rank.{rank, keyAt}
 use Rattle.key.proofs.Answers.{never}
 use Rattle.key.specs.Range.{kindOf}

@@ -1,7 +1,7 @@
 -- `duty::between` meets its contract.
 use borrow.Author.Needs.{needs}
 use native.Mathlib.Omega.{arith}
-use mathlib.Core.Path.{_≡_, sym, ap, _∙_}
+use mathlib.Core.Path.{sym, ap, _∙_}
 use Rattle.key.specs.Range.{halfOpen}
 use Rattle.key.proofs.Laws.{rank-back}
 use Rattle.key.proofs.Lawful.{half-open}

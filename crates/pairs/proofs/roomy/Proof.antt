@@ -1,7 +1,6 @@
 -- `pairs::roomy` meets its contract.
 use Prim.Native.Nat.{_-_}
 use native.Mathlib.Omega.{arith}
-use borrow.Author.Needs.{needs}
 use borrow.Author.Tests.{leb-true}
 use Rattle.key.proofs.Answers.{never}
 use Rattle.pairs.proofs.roomy.Statement.{statement}

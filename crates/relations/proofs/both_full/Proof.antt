@@ -1,7 +1,6 @@
 -- `relations::both_full` meets its contract.
 use mir.Facts.{toZ-ofZ}
 use borrow.Author.Tests.{not-true, not-false}
-use Rattle.key.specs.Decides.{Decides}
 use Rattle.key.proofs.Answers.{fails}
 use Rattle.relations.proofs.both_full.Statement.{statement}
 use Rattle.relations.proofs.both_full.Tie as tie

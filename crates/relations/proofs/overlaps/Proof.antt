@@ -1,6 +1,5 @@
 -- `relations::overlaps` meets its contract.
 use Prim.Native.Nat.{_<_}
-use native.Mathlib.Omega.{arith}
 use mir.Facts.{toZ-ofZ}
 use borrow.Author.Tests.{not-true, not-false}
 use Rattle.key.specs.Decides.{Decides}

@@ -1,10 +1,10 @@
 use lib.IntN.{pos}
-use Prim.Native.Nat.{_+_, _-_, _≤_, max}
+use Prim.Native.Nat.{_-_, _≤_, max}
 use mathlib.Core.Path.{_≡_, refl}
 use native.Mathlib.Omega.{arith}
-use lib.ListN.{length, length-set, take, drop, replicate}
-use lib.Seq.{sets, length-sets}
-use Rattle.splice.proofs.Sets.{left-more, right-more, clear-more, none-cleared}
+use lib.ListN.{length, length-set, replicate}
+use lib.Seq.{sets}
+use Rattle.splice.proofs.Sets.{clear-more, none-cleared}
 use Rattle.splice.proofs.clear_i64.Statement.{statement}
 use Rattle.splice.proofs.clear_i64.Tie as tie
 use Rattle.splice.proofs.clear_i64.Reads as reads

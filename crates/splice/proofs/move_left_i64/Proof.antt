@@ -1,12 +1,12 @@
 use lib.IntN.{pos}
 use mir.Facts.{toZ-ofZ}
 use borrow.Author.Needs.{sfits-of}
-use Prim.Native.Nat.{_+_, _-_, _≤_, max}
+use Prim.Native.Nat.{_-_, _≤_}
 use mathlib.Core.Path.{_≡_, refl}
 use native.Mathlib.Omega.{arith}
-use lib.ListN.{length, length-set, take, drop, replicate}
-use lib.Seq.{sets, length-sets}
-use Rattle.splice.proofs.Sets.{left-more, right-more, clear-more}
+use lib.ListN.{length, length-set, take, drop}
+use lib.Seq.{sets}
+use Rattle.splice.proofs.Sets.{left-more}
 use Rattle.splice.proofs.move_left_i64.Statement.{statement}
 use Rattle.splice.proofs.move_left_i64.Tie as tie
 use Rattle.splice.proofs.move_left_i64.Reads as reads

@@ -1,10 +1,9 @@
-use Prim.Native.Nat.{_+_, _-_, _≤_, max}
+use Prim.Native.Nat.{_-_, _≤_}
 use mathlib.Core.Path.{_≡_, refl}
 use native.Mathlib.Omega.{arith}
-use native.Mathlib.Nat.{add-zero}
-use lib.ListN.{length, length-set, take, drop, replicate}
+use lib.ListN.{length, length-set, take, drop}
 use lib.Seq.{sets}
-use Rattle.splice.proofs.Sets.{left-more, right-more, none-moved, clear-more, none-cleared}
+use Rattle.splice.proofs.Sets.{left-more}
 use Rattle.splice.proofs.move_left_u8.Statement.{statement}
 use Rattle.splice.proofs.move_left_u8.Tie as tie
 use Rattle.splice.proofs.move_left_u8.Reads as reads

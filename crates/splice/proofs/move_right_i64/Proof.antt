@@ -2,12 +2,12 @@ use native.Mathlib.Nat.{add-zero}
 use lib.IntN.{pos}
 use mir.Facts.{toZ-ofZ}
 use borrow.Author.Needs.{sfits-of}
-use Prim.Native.Nat.{_+_, _-_, _≤_, max}
+use Prim.Native.Nat.{_+_, _-_, _≤_}
 use mathlib.Core.Path.{_≡_, refl}
 use native.Mathlib.Omega.{arith}
-use lib.ListN.{length, length-set, take, drop, replicate}
-use lib.Seq.{sets, length-sets}
-use Rattle.splice.proofs.Sets.{left-more, right-more, none-moved, clear-more}
+use lib.ListN.{length, length-set, take, drop}
+use lib.Seq.{sets}
+use Rattle.splice.proofs.Sets.{right-more, none-moved}
 use Rattle.splice.proofs.move_right_i64.Statement.{statement}
 use Rattle.splice.proofs.move_right_i64.Tie as tie
 use Rattle.splice.proofs.move_right_i64.Reads as reads

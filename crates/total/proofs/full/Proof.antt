@@ -1,5 +1,4 @@
 -- `total::full` meets its contract.
-use Prim.Native.Nat.{_<_}
 use native.Mathlib.Omega.{arith}
 use mathlib.Core.Path.{_≡_, refl, sym, _∙_}
 use Rattle.key.proofs.Answers.{holds, fails}

@@ -1,6 +1,5 @@
 -- `total::total_unchecked` meets its contract.
 use Prim.Native.Nat.{_<_}
-use native.Mathlib.Omega.{arith}
 use Rattle.key.specs.Rank.{keys}
 use Rattle.key.specs.Range.{kindOf}
 use Rattle.pairs.proofs.Doors.{side}

@@ -1,8 +1,6 @@
 -- `union_walk::next` meets its contract.
 use native.Mathlib.Omega.{arith}
 use mathlib.Core.Path.{refl}
-use mir.Syntax.{w64}
-use mir.Val.{ofZ}
 use Rattle.key.proofs.Laws.{rank-back}
 use Rattle.pairs.proofs.Kinded.{lt-test}
 use Rattle.union_walk.proofs.Steps.{next-left, next-right, next-both}

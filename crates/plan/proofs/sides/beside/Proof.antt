@@ -1,7 +1,6 @@
 -- `plan::sides::beside` meets its contract.
 use native.Mathlib.Omega.{arith}
 use mathlib.Core.Path.{refl}
-use borrow.Author.Needs.{needs}
 use Rattle.plan.proofs.sides.beside.Statement.{statement}
 use Rattle.plan.proofs.sides.beside.Tie as tie
 
