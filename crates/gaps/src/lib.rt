@@ -1,7 +1,8 @@
-// GAPS, for either kind of range: the maximal uncovered ranges inside an outer range. It is one walk over the places, with a cursor: the first key that may be free.
-// Nothing is written before it is known that the lent lists are long enough; the gaps are counted for that only where there may be too many.
-// The kinds differ in four places: where a walk begins (`reaching`, of the search), whether a range from one key to another is empty (`full`, of the keys), which end is written for
-// a range up to a key (`end_before`), and which key follows a range (`after`).
+// GAPS, for either kind of range: the maximal uncovered ranges inside an outer range. It is one walk over the places, with a cursor: the first
+// key that may be free. Nothing is written before it is known that the lent lists are long enough; the gaps are counted for that only where
+// there may be too many.
+// The kinds differ in four places: where the walk begins (`reaching`, of the search), whether a range from one key to another is empty (`full`,
+// of the keys), which end is written for a range up to a key (`end_before`), and which key follows a range (`after`).
 use key::RangeKind;
 use key::full;
 use lists::put;

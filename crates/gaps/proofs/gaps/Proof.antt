@@ -3,7 +3,6 @@ use Prim.Native.Nat.{_≤_, _<_}
 use native.Mathlib.Omega.{arith}
 use lib.ListN.{length}
 use mir.Facts.{toZ-ofZ}
-use borrow.Author.Needs.{needs}
 use borrow.Author.Tests.{not-true, not-false}
 use Rattle.key.specs.Decides.{Decides}
 use Rattle.key.specs.Rank.{rank}
@@ -42,7 +41,7 @@ first : (c : tie.After-reaching) → let a = c .before .before .before .before .
 first c = rw (toZ-ofZ (c .before .before .before .before .fits .start)) at (c .reaching .ensures)
 
 shorter-requires : tie.Need-shorter-requires
-shorter-requires c κs = search needs
+shorter-requires c κs = tt
 
 fits-requires : tie.Need-fits-requires
 fits-requires c κs =
@@ -74,10 +73,10 @@ write-requires c κs =
     rw (toZ-ofZ (s .fits .start), toZ-ofZ (s .fits .end)) (places (kindOf (s .args .kind)) (s .pre) (first (m .before)), real (m .before .before), omega arith)
 
 same-length : tie.Need-same-length
-same-length c = search needs
+same-length c = omega arith
 
 same-length-2 : tie.Need-same-length-2
-same-length-2 c = search needs
+same-length-2 c = omega arith
 
 returns-3 : tie.Need-returns-3
 returns-3 c =
