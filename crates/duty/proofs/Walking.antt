@@ -18,7 +18,7 @@ use Rattle.key.specs.Rank.{rank}
 use Rattle.key.specs.Range.{halfOpen}
 use Rattle.key.proofs.Lawful.{half-open}
 use Rattle.outcomes.specs.Stored.{Stored, spans, ranges, Sound}
-use Rattle.outcomes.proofs.Formed.{Formed, Shaped, formed, length-spans, getD-spans, length-ranges, getD-ranges}
+use Rattle.outcomes.proofs.Formed.{shape, good, length-spans, getD-spans, length-ranges, getD-ranges}
 use Rattle.places.specs.Check.{Steps}
 use Rattle.places.specs.Search.{Ascends, passed}
 use Rattle.places.proofs.Checked.{formed-steps}
@@ -83,13 +83,6 @@ upto-take : (c p : ℕ) (d : Span) (xs : List Span) → ((j : ℕ) → j < p →
 upto-take c zero d xs f = tt
 upto-take c (suc p) d [] f = tt
 upto-take c (suc p) d (x ∷ xs) f = (f 0 (omega arith) (omega arith), upto-take c p d xs (λ j i b. f (suc j) (omega arith) (omega arith)))
-
-module _ {m : Stored} (sound : Sound halfOpen m) where
-  pub shape : Shaped (length (m .starts)) m
-  shape = record { starts = refl; ends = sound .ends-as; values = sound .values-as }
-
-  pub well : Formed halfOpen (length (m .starts)) m
-  well = formed halfOpen (length (m .starts)) m (sound .well)
 
 -- A TABLE: of no seconds
 nothing : (n d : ℕ) → _≡_ {A = ℕ} (getD (replicate n 0) d 0) 0
@@ -259,13 +252,13 @@ module _ {m : Stored} (sound : Sound halfOpen m) {from lo hi : ℕ} (is-from : f
   xs = ranges halfOpen m
 
   first : Passed lo (m .ends) (m .count) from
-  first = passed-facts (m .ends) (omega (arith, well sound .held, sound .ends-as)) is-from
+  first = passed-facts (m .ends) (omega (arith, good sound .held, sound .ends-as)) is-from
 
   pub from-held : from ≤ m .count
   from-held = first .within
 
   steps : Steps halfOpen m
-  steps = formed-steps halfOpen (shape sound) (well sound)
+  steps = formed-steps halfOpen (shape sound) (good sound)
 
   next-start : (k : ℕ) → suc k < m .count → rank (getD (m .starts) k (pos 0)) < rank (getD (m .starts) (suc k) (pos 0))
   next-start k b = let p = rw (add-one k) at (steps k (omega arith) .past) in omega (arith, p (omega arith), steps k (omega arith) .full)
@@ -280,12 +273,12 @@ module _ {m : Stored} (sound : Sound halfOpen m) {from lo hi : ℕ} (is-from : f
     pub met : Met (m .starts) (m .ends) (m .values) lo hi from to
     met = record {
       order = begun .past;
-      starts-hold = omega (arith, begun .within, well sound .held);
+      starts-hold = omega (arith, begun .within, good sound .held);
       ends-as = sound .ends-as;
       values-as = sound .values-as;
       short = short;
       meet = λ k h i.
-          let e = passed-after (m .ends) (ends-ascend halfOpen half-open (shape sound) (well sound)) first k h (omega (arith, begun .within)) in
+          let e = passed-after (m .ends) (ends-ascend halfOpen half-open (shape sound) (good sound)) first k h (omega (arith, begun .within)) in
           omega (arith, e, begun .sooner k h i, steps k (omega (arith, begun .within)) .full);
     }
 
@@ -296,22 +289,22 @@ module _ {m : Stored} (sound : Sound halfOpen m) {from lo hi : ℕ} (is-from : f
     met-part = part (m .starts) (m .ends) (m .values) from to
 
     long : length xs ≡ m .count
-    long = length-ranges halfOpen (length (m .starts)) m (shape sound) (well sound .held)
+    long = length-ranges halfOpen (length (m .starts)) m (shape sound) (good sound .held)
 
     -- what stands before the part ends before the window, and what stands after it begins past the window
     ended : Upto lo (take from xs)
     ended = upto-take lo from (span 0 0 0) xs (λ j i b.
-        let e = ap (λ (x : Span). x .hi) (getD-ranges halfOpen (length (m .starts)) m (shape sound) (well sound .held) j (span 0 0 0) (omega (arith, long))) in
+        let e = ap (λ (x : Span). x .hi) (getD-ranges halfOpen (length (m .starts)) m (shape sound) (good sound .held) j (span 0 0 0) (omega (arith, long))) in
         omega (arith, e, first .below j i))
 
     ordered-drop : Ordered 0 (drop to xs)
-    ordered-drop = ordered-right 0 (take to xs) (drop to xs) (rw (take-append-drop to xs) (well sound .tidy .ordered))
+    ordered-drop = ordered-right 0 (take to xs) (drop to xs) (rw (take-append-drop to xs) (good sound .tidy .ordered))
 
     past : within lo hi (drop to xs) ≡ []
     past = elim (decLt to (m .count)) [
       | yes i ↦
           let next : drop to xs ≡ getD xs to (span 0 0 0) ∷ drop (suc to) xs = drop-cons xs to (span 0 0 0) (omega (arith, long)) in
-          let e = ap (λ (x : Span). x .lo) (getD-ranges halfOpen (length (m .starts)) m (shape sound) (well sound .held) to (span 0 0 0) i) in
+          let e = ap (λ (x : Span). x .lo) (getD-ranges halfOpen (length (m .starts)) m (shape sound) (good sound .held) to (span 0 0 0) i) in
           let o = rw next at ordered-drop in
           rw next (within-past lo hi hi _ (omega arith) (omega (arith, e, begun .later to (omega arith) i), o .1, o .2))
       | no i ↦ rw (drop-of-length-le xs {i = to} (omega (arith, long))) (within-past lo hi hi [] (omega arith) tt)
@@ -331,7 +324,7 @@ module _ {m : Stored} (sound : Sound halfOpen m) {from lo hi : ℕ} (is-from : f
         ∙ ap (λ (n : List Span). within lo hi (drop from n)) back
 
     pub table-room : Room lo hi met-part empty
-    table-room d = omega (arith, empty-has d, seconds-alike d lo hi xs met-part alike, seconds-most d lo hi xs real (well sound .tidy .ordered))
+    table-room d = omega (arith, empty-has d, seconds-alike d lo hi xs met-part alike, seconds-most d lo hi xs real (good sound .tidy .ordered))
 
     pub table-is : (t : List ℕ) → Statuses (m .values) from to → Added lo hi met-part empty t → Walked.Counted (gathering t) ≡ walked lo hi xs
     unfolding walked tallyOf gathering
@@ -374,11 +367,11 @@ module _ (m : Stored) (s e : ℤ) where
   module _ (sound : Sound halfOpen m) (real : rank s < rank e) {t : Tally} (f : Found t) where
     pub counted-room : sumOf t ≤ rank e - rank s
     unfolding tallyOf
-    counted-room = rw (f .tally-is) (omega (arith, duties-sum (rank s) (rank e) all real (well sound .tidy .ordered) (f .calm)))
+    counted-room = rw (f .tally-is) (omega (arith, duties-sum (rank s) (rank e) all real (good sound .tidy .ordered) (f .calm)))
 
     pub counted-is : Tallied.Seconds (completing t (rank e - rank s)) ≡ tallying m s e
     unfolding tallying completing totalsOf tallyOf
     counted-is =
         let left : rank e - rank s - (secondsOf 1 (rank s) (rank e) all + secondsOf 2 (rank s) (rank e) all + secondsOf 3 (rank s) (rank e) all + secondsOf 4 (rank s) (rank e) all) ≡ unrecordedOf (rank s) (rank e) all =
-        omega (arith, duties-sum (rank s) (rank e) all real (well sound .tidy .ordered) (f .calm)) in
+        omega (arith, duties-sum (rank s) (rank e) all real (good sound .tidy .ordered) (f .calm)) in
         rw (f .calm, f .tally-is, left)

@@ -16,7 +16,7 @@ use Rattle.outcomes.specs.Stored.{Stored, spans, ranges, Sound}
 use Rattle.outcomes.specs.Outcomes.{writing, uncovered}
 use Rattle.outcomes.specs.declared.Counted.the-variants as Counted
 use Rattle.outcomes.proofs.Storing.{map-take, map-drop}
-use Rattle.outcomes.proofs.Formed.{Formed, Shaped, formed, length-ranges, getD-ranges}
+use Rattle.outcomes.proofs.Formed.{shape, good, length-ranges, getD-ranges}
 use Rattle.places.specs.Search.{Reached}
 use Rattle.lists.specs.Lists.{wrote, Puts}
 use Rattle.lists.proofs.Answering as answering
@@ -63,14 +63,8 @@ real-range kind m s e os oe h = rw (lt-leb (kind .past e) (rank s) h)
 
 -- of a well-formed map
 module _ (kind : Kind) {m : Stored} (sound : Sound kind m) where
-  pub shape : Shaped (length (m .starts)) m
-  shape = record { starts = refl; ends = sound .ends-as; values = sound .values-as }
-
-  pub well : Formed kind (length (m .starts)) m
-  well = formed kind (length (m .starts)) m (sound .well)
-
   end-at : (j : ℕ) → j < m .count → getD (ranges kind m) j (span 0 0 0) .hi ≡ kind .past (getD (m .ends) j (pos 0))
-  end-at j b = ap (λ (x : Span). x .hi) (getD-ranges kind (length (m .starts)) m shape (well .held) j (span 0 0 0) b)
+  end-at j b = ap (λ (x : Span). x .hi) (getD-ranges kind (length (m .starts)) m (shape sound) (good sound .held) j (span 0 0 0) b)
 
   rest-plain : (lo hi p : ℕ) → walked lo hi (rest kind (m .starts) (m .ends) (m .count) p) ≡ walked lo hi (drop p (ranges kind m))
   unfolding rest ranges
@@ -81,19 +75,19 @@ module _ (kind : Kind) {m : Stored} (sound : Sound kind m) where
 
   module _ {p : ℕ} {s : ℤ} (first : Reached kind (m .count) (m .ends) s p) where
     pub places : Places (m .count) p (m .starts) (m .ends)
-    places = record { held = well .held; ends-as = sound .ends-as; from = first .within }
+    places = record { held = good sound .held; ends-as = sound .ends-as; from = first .within }
 
     -- THE WALK from the first range that s has not passed finds the gaps
     finds-gaps : (hi : ℕ) → rank s < hi → walked (rank s) hi (rest kind (m .starts) (m .ends) (m .count) p) ≡ gaps (rank s) hi (ranges kind m)
     finds-gaps hi h =
         let lo = rank s in
         let xs = ranges kind m in
-        let n = length-ranges kind (length (m .starts)) m shape (well .held) in
+        let n = length-ranges kind (length (m .starts)) m (shape sound) (good sound .held) in
         let whole = take-append-drop p xs in
         let ended : (j : ℕ) → j < p → getD xs j (span 0 0 0) .hi ≤ lo = λ j b. rw (end-at j (omega (arith, first .within))) (first .below j b) in
         let goes-on : p < length xs → lo ≤ getD xs p (span 0 0 0) .hi = λ b. rw (end-at p (omega arith)) (omega (arith, first .at (omega arith))) in
         rest-plain lo hi p
-        ∙ walked-gaps lo hi 0 (take p xs) (drop p xs) h (rw whole (well .tidy .ordered)) (upto-take lo p (span 0 0 0) xs (omega (arith, first .within)) ended) (ahead-drop lo p (span 0 0 0) xs goes-on)
+        ∙ walked-gaps lo hi 0 (take p xs) (drop p xs) h (rw whole (good sound .tidy .ordered)) (upto-take lo p (span 0 0 0) xs (omega (arith, first .within)) ended) (ahead-drop lo p (span 0 0 0) xs goes-on)
         ∙ ap (gaps lo hi) whole
 
   -- THE ANSWERS where the outer range is not empty, by what the parts find. r is the room that there is

@@ -4,7 +4,7 @@ ghost use mathlib.Core.Path.{_≡_};
 ghost use Prim.Native.Nat.{_+_, _<_};
 ghost use Rattle.key.specs.Decides.{Decides};
 ghost use Rattle.key.specs.Rank.{rank, keys, lesser, greater};
-ghost use Rattle.key.specs.Range.{halfOpen, inclusive, kindOf, rangeOf, size, lengthOf};
+ghost use Rattle.key.specs.Range.{kindOf, rangeOf, size, lengthOf};
 
 // The least key, of rank 0.
 pub const LEAST: i64 = -9223372036854775808;
@@ -87,26 +87,26 @@ pub enum KeyCount {
     TooMany,
 }
 
-// The length of start..end: 0 if it is empty or reversed, and never too many.
-pub fn length(start: i64, end: i64) -> KeyCount
-    ensures { λ r. ⌜ r ≡ lengthOf (size (rangeOf halfOpen start end 0)) ⌝ }
+// A number and one more, where a u64 holds it.
+fn one_more(n: u64) -> KeyCount
+    ensures { λ r. ⌜ r ≡ lengthOf (n + 1) ⌝ }
 {
-    if end <= start {
-        return KeyCount::Keys(0);
+    if n == 18446744073709551615 {
+        return KeyCount::TooMany;
     }
-    KeyCount::Keys(rank_of(end) - rank_of(start))
+    KeyCount::Keys(n + 1)
 }
 
-// The length of start..=end: too many for the range of all keys, and for no other.
-pub fn length_inclusive(start: i64, end: i64) -> KeyCount
-    ensures { λ r. ⌜ r ≡ lengthOf (size (rangeOf inclusive start end 0)) ⌝ }
+// The length of a range: 0 if it is empty or reversed, and too many for the inclusive range of all keys, and for no other.
+pub fn length(kind: RangeKind, start: i64, end: i64) -> KeyCount
+    ensures { λ r. ⌜ r ≡ lengthOf (size (rangeOf (kindOf kind) start end 0)) ⌝ }
 {
-    if end < start {
+    if !full(kind, start, end) {
         return KeyCount::Keys(0);
     }
     let below = rank_of(end) - rank_of(start);
-    if below == 18446744073709551615 {
-        return KeyCount::TooMany;
+    match kind {
+        RangeKind::HalfOpen => KeyCount::Keys(below),
+        RangeKind::Inclusive => one_more(below),
     }
-    KeyCount::Keys(below + 1)
 }

@@ -25,7 +25,8 @@ use Rattle.outcomes.specs.declared.Part.the-variants as Part
 use Rattle.places.specs.Check.{place}
 use Rattle.places.specs.Search.{Reached, Begun}
 use Rattle.lookup.proofs.Places.{nth, Exactly, exactly-inside, missed-free, meets-none}
-use Rattle.lookup.proofs.Returns.{good, as-many, nth-place, the-first-range, rising, placed-at, placed-none, met-empty, met-yes, met-no, exactly-met, part-empty, part-none, part-some}
+use Rattle.outcomes.proofs.Formed.{good}
+use Rattle.lookup.proofs.Returns.{as-many, nth-place, the-first-range, rising, placed-at, placed-none, met-empty, met-yes, met-no, exactly-met, part-empty, part-none, part-some}
 
 -- is something held
 abbrev pub isHeld : Option ℕ → Bool

@@ -3,7 +3,7 @@ use Prim.Native.Nat.{ℕ, zero, suc, _-_, _≤_, _<_}
 use native.Mathlib.Omega.{arith}
 use native.Mathlib.Decide.{decLt}
 use native.Mathlib.Numerals.{add-one}
-use mathlib.Core.Path.{_≡_, refl, sym, ap, _∙_}
+use mathlib.Core.Path.{_≡_, sym, ap, _∙_}
 use mathlib.Core.Bool.{Bool, true, false}
 use borrow.Author.Tests.{lt-ltb, le-ltb, le-leb, lt-leb, eq-eqb, ne-eqb}
 use lib.ListN.{length, getD}
@@ -12,17 +12,15 @@ use Rattle.span.specs.Span.{Span, span}
 use Rattle.span.specs.Operations.{overlaps, any, holds}
 use Rattle.key.specs.Rank.{rank}
 use Rattle.key.specs.Range.{Kind, rangeOf}
-use Rattle.key.proofs.Lawful.{Lawful}
 use Rattle.outcomes.specs.Stored.{Stored, ranges, Sound}
 use Rattle.outcomes.specs.Outcomes.{firstPlace, howMany, partOf, placed, found, contained, met, metPart}
 use Rattle.outcomes.specs.declared.Asked.the-variants as Asked
 use Rattle.outcomes.specs.declared.Found.the-variants as Found
 use Rattle.outcomes.specs.declared.Part.the-variants as Part
-use Rattle.outcomes.proofs.Formed.{Formed, Shaped, formed, length-ranges, getD-ranges}
+use Rattle.outcomes.proofs.Formed.{shape, good, length-ranges, getD-ranges}
 use Rattle.places.specs.Check.{place}
-use Rattle.places.specs.Search.{Ascends, Reached, Begun}
+use Rattle.places.specs.Search.{Reached, Begun}
 use Rattle.places.proofs.Checked.{formed-steps}
-use Rattle.places.proofs.Seeking.{ends-ascend}
 use Rattle.lookup.proofs.Places.{nth, First, Exactly, exactly-first, first-as, exactly-as, is-first, the-first, any-first, how-many, Rising, holds-meets, meets-at, meets-none, meets-part}
 
 -- a place of a map
@@ -36,30 +34,20 @@ module _ (m : Stored) (i : ℕ) where
   placed-none h = rw (le-ltb i (m .count) h)
 
 module _ {kind : Kind} {m : Stored} (sound : Sound kind m) where
-  shape : Shaped (length (m .starts)) m
-  shape = record { starts = refl; ends = sound .ends-as; values = sound .values-as }
-
-  pub good : Formed kind (length (m .starts)) m
-  good = formed kind (length (m .starts)) m (sound .well)
-
-  -- what the search asks of the map
-  pub searched : Lawful kind → (m .count ≤ length (m .ends)) × Ascends (m .count) (m .ends)
-  searched law = (omega (arith, good .held, sound .ends-as), ends-ascend kind law shape good)
-
   -- the ranges of the map, place by place
   pub as-many : length (ranges kind m) ≡ m .count
-  as-many = length-ranges kind (length (m .starts)) m shape (good .held)
+  as-many = length-ranges kind (length (m .starts)) m (shape sound) (good sound .held)
 
   pub nth-place : (j : ℕ) → j < m .count → nth (ranges kind m) j ≡ place kind m j
-  nth-place j h = getD-ranges kind (length (m .starts)) m shape (good .held) j (span 0 0 0) h
+  nth-place j h = getD-ranges kind (length (m .starts)) m (shape sound) (good sound .held) j (span 0 0 0) h
 
   full : (j : ℕ) → j < m .count → place kind m j .lo < place kind m j .hi
-  full j h = formed-steps kind shape good j h .full
+  full j h = formed-steps kind (shape sound) (good sound) j h .full
 
   past : (i j : ℕ) → i < j → j < m .count → place kind m i .hi ≤ place kind m j .lo
   past i zero h b = absurd (omega arith)
   past i (suc j) h b =
-      let next = rw (add-one j) at (formed-steps kind shape good j (omega arith) .past) in
+      let next = rw (add-one j) at (formed-steps kind (shape sound) (good sound) j (omega arith) .past) in
       elim (decLt i j) [
         | yes q ↦ omega (arith, past i j q (omega arith), full j (omega arith), next b)
         | no q ↦ let e : i ≡ j = omega arith in rw e (next b)

@@ -121,6 +121,14 @@ module _ (kind : Kind) (n : ℕ) (m : Stored) (shape : Shaped n m) (held : m .co
   unfolding ranges
   getD-ranges k d h = getD-take (m .count) _ k d h ∙ getD-spans kind (m .starts) (m .ends) (m .values) k d (omega arith) (omega arith) (omega arith)
 
+-- a sound map: its columns are of one length, and it is well formed
+module _ {kind : Kind} {m : Stored} (sound : Sound kind m) where
+  pub shape : Shaped (length (m .starts)) m
+  shape = record { starts = refl; ends = sound .ends-as; values = sound .values-as }
+
+  pub good : Formed kind (length (m .starts)) m
+  good = formed kind (length (m .starts)) m (sound .well)
+
 -- a sound map holds no more ranges than it has places
 pub sound-held : (kind : Kind) (m : Stored) → Sound kind m → m .count ≤ length (m .starts)
 sound-held kind m s = formed kind (length (m .starts)) m (s .well) .held

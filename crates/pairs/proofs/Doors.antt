@@ -10,7 +10,7 @@ use Rattle.span.proofs.Tests.{both}
 use Rattle.key.specs.Range.{Kind}
 use Rattle.outcomes.specs.Stored.{Stored, ranges, noughts}
 use Rattle.outcomes.specs.Sets.{plain, SoundSet}
-use Rattle.outcomes.proofs.Formed.{Formed, formed}
+use Rattle.outcomes.proofs.Formed.{good}
 use Rattle.pairs.specs.Sides.{rows, Side}
 
 -- the values of a set are known
@@ -27,8 +27,5 @@ module _ (kind : Kind) {m : Stored} (set : SoundSet kind m) where
       let v : m .values ≡ replicate (length (m .starts)) 0 = noughts-are (m .values) (set .plain-too) ∙ ap (λ (n : ℕ). replicate n 0) (set .sound .values-as) in
       rw (← v)
 
-  well : Formed kind (length (m .starts)) m
-  well = formed kind (length (m .starts)) m (set .sound .well)
-
   pub side : Side kind (m .starts) (m .ends) (m .count)
-  side = record { held = well .held; ends-as = set .sound .ends-as; tidy = rw rows-are (well .tidy) }
+  side = record { held = good (set .sound) .held; ends-as = set .sound .ends-as; tidy = rw rows-are (good (set .sound) .tidy) }

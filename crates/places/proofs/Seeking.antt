@@ -13,8 +13,8 @@ use Rattle.span.proofs.Tests.{cases}
 use Rattle.key.specs.Rank.{rank, lesser}
 use Rattle.key.specs.Range.{Kind}
 use Rattle.key.proofs.Lawful.{Lawful}
-use Rattle.outcomes.specs.Stored.{Stored}
-use Rattle.outcomes.proofs.Formed.{Formed, Shaped}
+use Rattle.outcomes.specs.Stored.{Stored, Sound}
+use Rattle.outcomes.proofs.Formed.{Formed, Shaped, shape, good}
 use Rattle.places.specs.Search.{Ascends, passed}
 use Rattle.places.proofs.Checked.{formed-steps}
 
@@ -84,3 +84,7 @@ module _ (kind : Kind) {n : ℕ} {m : Stored} (law : Lawful kind) (shape : Shape
 
   pub ends-ascend : Ascends (m .count) (m .ends)
   ends-ascend p q h b = past-order law _ _ (later-end p q h b)
+
+-- what the search asks of a map
+pub searched : {kind : Kind} {m : Stored} → Sound kind m → Lawful kind → (m .count ≤ length (m .ends)) × Ascends (m .count) (m .ends)
+searched {kind} sound law = (omega (arith, good sound .held, sound .ends-as), ends-ascend kind law (shape sound) (good sound))

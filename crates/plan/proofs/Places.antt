@@ -2,7 +2,7 @@
 use Prim.Native.Nat.{ℕ, zero, suc, _+_, _-_, _≤_, _<_}
 use native.Mathlib.Omega.{arith}
 use native.Mathlib.Decide.{decLt}
-use mathlib.Core.Path.{_≡_, refl, sym, ap, subst, _∙_}
+use mathlib.Core.Path.{_≡_, sym, ap, subst, _∙_}
 use mathlib.Core.List.{List}
 use lib.ListN.{length, getD, drop, replicate, length-drop, length-replicate, getD-replicate}
 use lib.Seq.{getD-drop, ext-getD}
@@ -13,9 +13,7 @@ use Rattle.key.specs.Rank.{rank}
 use Rattle.key.specs.Range.{Kind, rangeOf}
 use Rattle.key.proofs.Lawful.{Lawful}
 use Rattle.outcomes.specs.Stored.{Stored, ranges, Sound}
-use Rattle.outcomes.proofs.Formed.{Formed, Shaped, formed, length-ranges, getD-ranges}
-use Rattle.places.specs.Search.{Ascends}
-use Rattle.places.proofs.Seeking.{ends-ascend}
+use Rattle.outcomes.proofs.Formed.{shape, good, length-ranges, getD-ranges}
 use Rattle.splice.specs.Splice.{Spare}
 use Rattle.plan.specs.Plan.{nowhere, Touching, Columns}
 
@@ -29,26 +27,17 @@ module _ (kind : Kind) (law : Lawful kind) (m : Stored) (sound : Sound kind m) w
   abbrev xs : List Span
   xs = ranges kind m
 
-  pub shaped : Shaped (length (m .starts)) m
-  shaped = record { starts = refl; ends = sound .ends-as; values = sound .values-as }
-
-  pub form : Formed kind (length (m .starts)) m
-  form = formed kind (length (m .starts)) m (sound .well)
-
   pub len : length xs ≡ m .count
-  len = length-ranges kind (length (m .starts)) m shaped (form .held)
+  len = length-ranges kind (length (m .starts)) m (shape sound) (good sound .held)
 
   pub at-place : (k : ℕ) → k < m .count → getD xs k nowhere ≡ rangeOf kind (getD (m .starts) k (pos 0)) (getD (m .ends) k (pos 0)) (getD (m .values) k 0)
-  at-place k h = getD-ranges kind (length (m .starts)) m shaped (form .held) k nowhere h
-
-  pub ascending-ends : Ascends (m .count) (m .ends)
-  ascending-ends = ends-ascend kind law shaped form
+  at-place k h = getD-ranges kind (length (m .starts)) m (shape sound) (good sound .held) k nowhere h
 
   full : (k : ℕ) → k < m .count → getD xs k nowhere .lo < getD xs k nowhere .hi
-  full k h = places-tidy nowhere (form .tidy) .full k (omega (arith, len))
+  full k h = places-tidy nowhere (good sound .tidy) .full k (omega (arith, len))
 
   after-next : (k : ℕ) → suc k < m .count → getD xs k nowhere .hi ≤ getD xs (suc k) nowhere .lo
-  after-next k h = places-tidy nowhere (form .tidy) .next k (omega (arith, len)) .past
+  after-next k h = places-tidy nowhere (good sound .tidy) .next k (omega (arith, len)) .past
 
   apart : (i j : ℕ) → i < j → j < m .count → getD xs i nowhere .hi ≤ getD xs j nowhere .lo
   apart i zero h c = absurd (omega arith)
@@ -85,12 +74,12 @@ module _ (kind : Kind) (law : Lawful kind) (m : Stored) (sound : Sound kind m) w
   columns = record {
     ends-as = sound .ends-as;
     values-as = sound .values-as;
-    held = form .held;
-    spare-starts = spare-of (m .starts) (m .count) (pos 0) (form .starts);
-    spare-ends = spare-of (m .ends) (m .count) (pos 0) (form .ends);
-    spare-values = spare-of (m .values) (m .count) 0 (form .values);
+    held = good sound .held;
+    spare-starts = spare-of (m .starts) (m .count) (pos 0) (good sound .starts);
+    spare-ends = spare-of (m .ends) (m .count) (pos 0) (good sound .ends);
+    spare-values = spare-of (m .values) (m .count) 0 (good sound .values);
   }
 
   -- the places that an edit meets or touches stand in each column
   pub stand : {lo hi from to : ℕ} → Touching xs lo hi from to → (to ≤ length (m .starts)) × (to ≤ length (m .ends)) × (to ≤ length (m .values))
-  stand t = omega (arith, form .held, t .within, len, sound .ends-as, sound .values-as)
+  stand t = omega (arith, good sound .held, t .within, len, sound .ends-as, sound .values-as)

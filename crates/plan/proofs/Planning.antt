@@ -26,7 +26,8 @@ use Rattle.splice.specs.declared.Entry.{Entry}
 use Rattle.outcomes.specs.Stored.{Stored, spans, ranges, AllFit, Sound}
 use Rattle.plan.specs.declared.Replacement.{Replacement}
 use Rattle.plan.specs.Plan.{nowhere, Touching, newStarts, newEnds, newValues, kept, Brings, Planned, LeftSide, l-clear, l-joined, l-kept, RightSide, r-clear, r-joined, r-kept}
-use Rattle.plan.proofs.Places.{form, len, at-place}
+use Rattle.outcomes.proofs.Formed.{good}
+use Rattle.plan.proofs.Places.{len, at-place}
 
 -- a list, cut at two places
 halves : {A : Type 0} (n : ℕ) (l : List A) → l ≡ take n l ++ drop n l
@@ -257,7 +258,7 @@ module _ (kind : Kind) (law : Lawful kind) (m : Stored) (sound : Sound kind m) (
   -- nothing is met: the new range comes, or nothing
   pub planned-alone : {es : List Entry} {new : Option ℕ} → from ≡ to → Brings p from to es → EntriesFit es → map (entrySpan kind) es ≡ piece (rank start) (kind .past end) new []
       → Planned kind m (rank start) (kind .past end) new p
-  planned-alone {new = new} e b g s = planned b g s (replaced-none (ranges kind m) (rank start) (kind .past end) new from to _ real (form kind law m sound .tidy) t e refl)
+  planned-alone {new = new} e b g s = planned b g s (replaced-none (ranges kind m) (rank start) (kind .past end) new from to _ real (good sound .tidy) t e refl)
 
   module _ (met : from < to) where
     met-first : getD (ranges kind m) from nowhere ≡ rangeOf kind first (getD (m .ends) from (pos 0)) (getD (m .values) from 0)
@@ -269,7 +270,7 @@ module _ (kind : Kind) (law : Lawful kind) (m : Stored) (sound : Sound kind m) (
     planned-met : {es : List Entry} (ns : List Span) {new : Option ℕ} → Brings p from to es → EntriesFit es → map (entrySpan kind) es ≡ ns
         → joined (keep (span (rank first) (rank start) (getD (m .values) from 0)) [] ++ piece (rank start) (kind .past end) new (keep (span (kind .past end) (kind .past last) (getD (m .values) (to - 1) 0)) [])) ≡ ns
         → Planned kind m (rank start) (kind .past end) new p
-    planned-met ns {new = new} b g e j = planned b g e (replaced-some (ranges kind m) (rank start) (kind .past end) new from to ns real (form kind law m sound .tidy) t met (rw (met-first, met-last) j))
+    planned-met ns {new = new} b g e j = planned b g e (replaced-some (ranges kind m) (rank start) (kind .past end) new from to ns real (good sound .tidy) t met (rw (met-first, met-last) j))
 
     pub planned-insert : {v : ℕ} {j k : Bool} {s e : ℤ} (left new right : Entry) → KeysFit left → KeysFit new → KeysFit right → LeftSide first start (getD (m .values) from 0) v j s → RightSide end last (getD (m .values) (to - 1) 0) v k e
         → Brings p from to (kept j left (new ∷ kept k right [])) → (j ≡ true → entrySpan kind left ≡ span (rank first) (rank start) (getD (m .values) from 0))

@@ -2,21 +2,17 @@
 use borrow.Author.Needs.{needs}
 use native.Mathlib.Omega.{arith}
 use mathlib.Core.Path.{sym, ap, _∙_}
-use Rattle.key.specs.Range.{halfOpen}
 use Rattle.key.proofs.Laws.{rank-back}
 use Rattle.key.proofs.Lawful.{half-open}
 use Rattle.outcomes.specs.Stored.{stored}
-use Rattle.outcomes.proofs.Formed.{sound-held}
-use Rattle.places.proofs.Seeking.{ends-ascend}
+use Rattle.places.proofs.Seeking.{searched}
 use Rattle.duty.specs.declared.Tallied.the-variants as Tallied
-use Rattle.duty.proofs.Walking.{shape, well, Found, found-strange, found-counted, counted-room, counted-is}
+use Rattle.duty.proofs.Walking.{Found, found-strange, found-counted, counted-room, counted-is}
 use Rattle.duty.proofs.between.Statement.{statement}
 use Rattle.duty.proofs.between.Tie as tie
 
 ended-requires : tie.Need-ended-requires
-ended-requires c κs =
-    let s = c .before .pre .0 in
-    (omega (arith, sound-held halfOpen _ s), ends-ascend halfOpen half-open (shape s) (well s))
+ended-requires c κs = searched (c .before .pre .0) half-open
 
 walk-requires : tie.Need-walk-requires
 walk-requires c κs =

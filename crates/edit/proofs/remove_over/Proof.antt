@@ -8,7 +8,8 @@ use mir.Facts.{toZ-ofZ}
 use Rattle.key.specs.Range.{halfOpen}
 use Rattle.key.proofs.Lawful.{half-open}
 use Rattle.outcomes.specs.Stored.{Stored, stored}
-use Rattle.plan.proofs.Places.{form, len}
+use Rattle.outcomes.proofs.Formed.{good}
+use Rattle.plan.proofs.Places.{len}
 use Rattle.key.proofs.Laws.{rank-back}
 use Rattle.plan.proofs.Planning.{planned-remove}
 use borrow.Author.Needs.{needs}
@@ -20,7 +21,7 @@ mul-first c =
     let s = c .before in
     let g = s .args in
     let m : Stored = stored (g .count) (g .starts .now) (g .ends .now) (g .values .now) in
-    let f = form halfOpen half-open m (s .pre .0 .0) in
+    let f = good (s .pre .0 .0) in
     let l = len halfOpen half-open m (s .pre .0 .0) in
     omega (arith, f .held, s .pre .0 .0 .ends-as, s .pre .0 .0 .values-as, s .pre .1 .1 .within, l)
 
@@ -29,7 +30,7 @@ shared-slice-copy-out-first c =
     let s = c .before in
     let g = s .args in
     let m : Stored = stored (g .count) (g .starts .now) (g .ends .now) (g .values .now) in
-    let f = form halfOpen half-open m (s .pre .0 .0) in
+    let f = good (s .pre .0 .0) in
     let l = len halfOpen half-open m (s .pre .0 .0) in
     omega (arith, f .held, s .pre .0 .0 .ends-as, s .pre .0 .0 .values-as, s .pre .1 .1 .within, l)
 
@@ -38,7 +39,7 @@ shared-slice-read-below c =
     let s = c .before .before .before in
     let g = s .args in
     let m : Stored = stored (g .count) (g .starts .now) (g .ends .now) (g .values .now) in
-    let f = form halfOpen half-open m (s .pre .0 .0) in
+    let f = good (s .pre .0 .0) in
     let l = len halfOpen half-open m (s .pre .0 .0) in
     omega (arith, f .held, s .pre .0 .0 .ends-as, s .pre .0 .0 .values-as, s .pre .1 .1 .within, l)
 
@@ -50,7 +51,7 @@ mul-last c =
     let s = c .before .before .before in
     let g = s .args in
     let m : Stored = stored (g .count) (g .starts .now) (g .ends .now) (g .values .now) in
-    let f = form halfOpen half-open m (s .pre .0 .0) in
+    let f = good (s .pre .0 .0) in
     let l = len halfOpen half-open m (s .pre .0 .0) in
     omega (arith, f .held, s .pre .0 .0 .ends-as, s .pre .0 .0 .values-as, s .pre .1 .1 .within, l)
 
@@ -59,7 +60,7 @@ shared-slice-copy-out-last c =
     let s = c .before .before .before in
     let g = s .args in
     let m : Stored = stored (g .count) (g .starts .now) (g .ends .now) (g .values .now) in
-    let f = form halfOpen half-open m (s .pre .0 .0) in
+    let f = good (s .pre .0 .0) in
     let l = len halfOpen half-open m (s .pre .0 .0) in
     omega (arith, f .held, s .pre .0 .0 .ends-as, s .pre .0 .0 .values-as, s .pre .1 .1 .within, l)
 
@@ -71,7 +72,7 @@ shared-slice-read-above c =
     let s = c .before .before .before .before .before in
     let g = s .args in
     let m : Stored = stored (g .count) (g .starts .now) (g .ends .now) (g .values .now) in
-    let f = form halfOpen half-open m (s .pre .0 .0) in
+    let f = good (s .pre .0 .0) in
     let l = len halfOpen half-open m (s .pre .0 .0) in
     omega (arith, f .held, s .pre .0 .0 .ends-as, s .pre .0 .0 .values-as, s .pre .1 .1 .within, l)
 

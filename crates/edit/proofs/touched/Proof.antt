@@ -5,24 +5,21 @@ use Rattle.key.specs.Range.{halfOpen}
 use Rattle.key.proofs.Laws.{rank-back}
 use Rattle.key.proofs.Lawful.{half-open}
 use Rattle.outcomes.specs.Stored.{Stored, stored}
-use Rattle.plan.proofs.Places.{form, ascending-ends, touching}
+use Rattle.outcomes.proofs.Formed.{good}
+use Rattle.places.proofs.Seeking.{searched}
+use Rattle.plan.proofs.Places.{touching}
 use Rattle.edit.proofs.touched.Statement.{statement}
 use Rattle.edit.proofs.touched.Tie as tie
 
 short-of-requires : tie.Need-short-of-requires
-short-of-requires c κs =
-    let s = c .before in
-    let g = s .args in
-    let m : Stored = stored (g .count) (g .starts .now) (g .ends .now) (g .values .now) in
-    let f = form halfOpen half-open m (s .pre .0) in
-    (omega (arith, s .pre .0 .ends-as), ascending-ends halfOpen half-open m (s .pre .0))
+short-of-requires c κs = searched (c .before .pre .0) half-open
 
 begun-requires : tie.Need-begun-requires
 begun-requires c κs =
     let s = c .before .before in
     let g = s .args in
     let m : Stored = stored (g .count) (g .starts .now) (g .ends .now) (g .values .now) in
-    (c .short-of .ensures .within, form halfOpen half-open m (s .pre .0) .held)
+    (c .short-of .ensures .within, good (s .pre .0) .held)
 
 returns : tie.Need-returns
 returns c =

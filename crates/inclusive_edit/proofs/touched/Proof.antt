@@ -10,18 +10,15 @@ use Rattle.key.specs.Range.{inclusive}
 use Rattle.key.proofs.Laws.{rank-back, rank-below}
 use Rattle.key.proofs.Lawful.{inclusive-too}
 use Rattle.outcomes.specs.Stored.{Stored, stored}
-use Rattle.plan.proofs.Places.{form, ascending-ends, touching}
+use Rattle.outcomes.proofs.Formed.{good}
+use Rattle.places.proofs.Seeking.{searched}
+use Rattle.plan.proofs.Places.{touching}
 use borrow.Author.Needs.{needs}
 use Rattle.inclusive_edit.proofs.touched.Statement.{statement}
 use Rattle.inclusive_edit.proofs.touched.Tie as tie
 
 parted-requires : tie.Need-parted-requires
-parted-requires c κs =
-    let s = c .before in
-    let g = s .args in
-    let m : Stored = stored (g .count) (g .starts .now) (g .ends .now) (g .values .now) in
-    let f = form inclusive inclusive-too m (s .pre .0) in
-    (omega (arith, s .pre .0 .ends-as), ascending-ends inclusive inclusive-too m (s .pre .0))
+parted-requires c κs = searched (c .before .pre .0) inclusive-too
 
 limit-of-requires : tie.Need-limit-of-requires
 limit-of-requires c κs = search needs
@@ -31,7 +28,7 @@ begun-requires c κs =
     let s = c .before .before .before in
     let g = s .args in
     let m : Stored = stored (g .count) (g .starts .now) (g .ends .now) (g .values .now) in
-    (c .before .parted .ensures .within, form inclusive inclusive-too m (s .pre .0) .held)
+    (c .before .parted .ensures .within, good (s .pre .0) .held)
 
 returns : tie.Need-returns
 returns c =

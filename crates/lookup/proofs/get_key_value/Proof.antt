@@ -2,7 +2,8 @@
 use native.Mathlib.Omega.{arith}
 use mathlib.Core.Path.{_∙_}
 use mir.Facts.{toZ-ofZ}
-use Rattle.lookup.proofs.Returns.{good, found-at}
+use Rattle.outcomes.proofs.Formed.{good}
+use Rattle.lookup.proofs.Returns.{found-at}
 use borrow.Author.Needs.{needs}
 use Rattle.lookup.proofs.get_key_value.Statement.{statement}
 use Rattle.lookup.proofs.get_key_value.Tie as tie

@@ -10,7 +10,9 @@ use Rattle.key.specs.Range.{kindOf}
 use Rattle.key.proofs.Lawful.{lawful}
 use Rattle.places.specs.Search.{Reached, Begun}
 use Rattle.key.proofs.Answers.{not-full}
-use Rattle.lookup.proofs.Returns.{searched, good, part-empty, part-none, part-some}
+use Rattle.outcomes.proofs.Formed.{good}
+use Rattle.places.proofs.Seeking.{searched}
+use Rattle.lookup.proofs.Returns.{part-empty, part-none, part-some}
 use Rattle.lookup.proofs.overlapping.Statement.{statement}
 use Rattle.lookup.proofs.overlapping.Tie as tie
 

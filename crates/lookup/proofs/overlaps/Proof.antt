@@ -14,7 +14,9 @@ use Rattle.key.specs.Range.{kindOf}
 use Rattle.key.proofs.Lawful.{lawful}
 use Rattle.places.specs.Search.{Reached}
 use Rattle.key.proofs.Answers.{not-full}
-use Rattle.lookup.proofs.Returns.{searched, good, met-empty, met-yes, met-no}
+use Rattle.outcomes.proofs.Formed.{good}
+use Rattle.places.proofs.Seeking.{searched}
+use Rattle.lookup.proofs.Returns.{met-empty, met-yes, met-no}
 use Rattle.lookup.proofs.overlaps.Statement.{statement}
 use Rattle.lookup.proofs.overlaps.Tie as tie
 

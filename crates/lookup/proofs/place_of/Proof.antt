@@ -5,7 +5,9 @@ use Rattle.key.specs.Range.{kindOf}
 use Rattle.key.proofs.Lawful.{lawful}
 use Rattle.key.proofs.Laws.{tests}
 use Rattle.places.specs.Search.{Reached}
-use Rattle.lookup.proofs.Returns.{searched, good, place-found, place-none}
+use Rattle.outcomes.proofs.Formed.{good}
+use Rattle.places.proofs.Seeking.{searched}
+use Rattle.lookup.proofs.Returns.{place-found, place-none}
 use Rattle.lookup.proofs.place_of.Statement.{statement}
 use Rattle.lookup.proofs.place_of.Tie as tie
 
