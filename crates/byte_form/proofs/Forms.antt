@@ -16,9 +16,9 @@ use Rattle.span.proofs.Tests.{both}
 use Rattle.key.proofs.Answers.{never}
 use Rattle.key.proofs.Laws.{toZ-fit}
 use Rattle.key.specs.Range.{halfOpen}
-use Rattle.outcomes.specs.Stored.{places, Stored, filled, AllFit}
+use Rattle.outcomes.specs.Stored.{places, Stored, filled, AllFit, Spare}
 use Rattle.outcomes.specs.Outcomes.{Entry, entries, formed, Edited, leaving}
-use Rattle.outcomes.proofs.Formed.{Spare, Formed, and-yes}
+use Rattle.outcomes.proofs.Formed.{Formed, and-yes}
 use Rattle.outcomes.proofs.Formed as Formed
 use Rattle.outcomes.proofs.Bulk.{length-entries}
 use Rattle.outcomes.proofs.Storing.{length-filled}

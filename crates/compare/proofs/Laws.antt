@@ -17,9 +17,9 @@ use Rattle.key.specs.declared.RangeKind.{RangeKind}
 use Rattle.key.specs.declared.RangeKind.the-variants as RangeKind
 use Rattle.key.proofs.Laws.{rank-inj}
 use Rattle.key.proofs.Lawful.{Lawful}
-use Rattle.outcomes.specs.Stored.{Stored, stored, spans, ranges, AllFit}
+use Rattle.outcomes.specs.Stored.{Stored, stored, spans, ranges, AllFit, Spare}
 use Rattle.outcomes.specs.Outcomes.{Entry, entries, compared}
-use Rattle.outcomes.proofs.Formed.{Spare, Formed, Shaped, length-ranges, getD-ranges}
+use Rattle.outcomes.proofs.Formed.{Formed, Shaped, length-ranges, getD-ranges}
 use Rattle.compare.proofs.Walk.{placeOf}
 
 -- ONE ORDER FOR BOTH KINDS

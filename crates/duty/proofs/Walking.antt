@@ -8,17 +8,19 @@ use mathlib.Core.Bool.{Bool, true, false, _||_, cond}
 use mathlib.Core.List.{List, [], _∷_}
 use borrow.Author.Tests.{le-leb, lt-leb, eq-eqb, ne-eqb, eqb-true, eqb-false}
 use lib.Dec.{leb, eqb}
-use lib.ListN.{length, getD, set, take, drop, replicate, length-set, take-append-drop, drop-of-length-le, List·getD-eq-default}
+use lib.ListN.{length, getD, set, take, drop, length-set, take-append-drop, drop-of-length-le, List·getD-eq-default}
 use lib.Seq.{drop-cons, getD-set-same, getD-set-other, length-take-le, getD-take, take-take}
 use lib.IntN.{ℤ, pos}
 use Rattle.span.specs.Span.{Span, span, Ordered, Upto}
 use Rattle.span.specs.Operations.{within, total}
 use Rattle.span.proofs.Holding.{ordered-right}
+use Rattle.span.proofs.Tests.{neither}
 use Rattle.key.specs.Rank.{rank}
 use Rattle.key.specs.Range.{halfOpen}
 use Rattle.key.proofs.Lawful.{half-open}
 use Rattle.outcomes.specs.Stored.{Stored, spans, ranges, Sound}
 use Rattle.outcomes.proofs.Formed.{shape, good, length-spans, getD-spans, length-ranges, getD-ranges}
+use Rattle.outcomes.proofs.Storing.{all-same}
 use Rattle.places.specs.Check.{Steps}
 use Rattle.places.specs.Search.{Ascends, passed}
 use Rattle.places.proofs.Checked.{formed-steps}
@@ -45,10 +47,6 @@ duty-none v h = rw (lt-leb v 4 h)
 
 status-is : (v : ℕ) → (dutyOf v ≡ 0 → ⊥) → (dutyOf v ≡ v) × (v < 5)
 status-is v n = elim (decLt 4 v) [ yes h ↦ absurd (n (sym (duty-none v h))) | no h ↦ (sym (duty-is v (omega arith)), omega arith) ]
-
-neither : (s t : Bool) → (s || t) ≡ false → (s ≡ false) × (t ≡ false)
-neither true t e = absurd (let z : _≡_ {A = ℕ} 0 1 = cc in omega arith)
-neither false t e = (refl, e)
 
 pub gathering-is : (t : List ℕ) → record { «off_duty» = getD t 1 0; «sleeper_berth» = getD t 2 0; driving = getD t 3 0; «on_duty» = getD t 4 0 } ≡ gathering t
 unfolding gathering
@@ -85,13 +83,8 @@ upto-take c (suc p) d [] f = tt
 upto-take c (suc p) d (x ∷ xs) f = (f 0 (omega arith) (omega arith), upto-take c p d xs (λ j i b. f (suc j) (omega arith) (omega arith)))
 
 -- A TABLE: of no seconds
-nothing : (n d : ℕ) → _≡_ {A = ℕ} (getD (replicate n 0) d 0) 0
-nothing zero d = refl
-nothing (suc n) zero = refl
-nothing (suc n) (suc d) = nothing n d
-
 pub empty-has : (d : ℕ) → getD empty d 0 ≡ 0
-empty-has d = nothing 5 d
+empty-has d = all-same 0 5 d
 
 pub nothing-added : {s : ℕ} (d : ℕ) → s ≡ 0 → getD empty d 0 ≡ getD empty d 0 + s
 nothing-added d e = omega arith

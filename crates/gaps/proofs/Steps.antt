@@ -3,7 +3,7 @@ use Prim.Native.Nat.{ℕ, suc, _+_, _-_, _≤_, _<_}
 use native.Mathlib.Omega.{arith}
 use native.Mathlib.Decide.{decLt}
 use native.Mathlib.Numerals.{add-one}
-use mathlib.Core.Path.{_≡_, refl, sym, ap, _∙_}
+use mathlib.Core.Path.{_≡_, refl, ap, _∙_}
 use mathlib.Core.List.{List, [], _∷_, _++_, map, append-nil, map-append}
 use lib.ListN.{length, getD, set, take, replicate, length-append, length-map, length-replicate, length-drop, drop-of-length-le}
 use lib.Seq.{sets, length-sets, drop-cons, getD-take, length-take-le}
@@ -14,7 +14,7 @@ use mir.Facts.{toZ-ofZ}
 use Rattle.span.specs.Span.{Span, span}
 use Rattle.key.specs.Rank.{rank, bitRank, keyAt, keys}
 use Rattle.key.specs.Range.{Kind, rangeOf}
-use Rattle.key.proofs.Laws.{rank-back, key-rank, toZ-fit}
+use Rattle.key.proofs.Laws.{rank-back, toZ-fit}
 use Rattle.key.proofs.Lawful.{Lawful}
 use Rattle.outcomes.proofs.Formed.{length-spans, getD-spans}
 use Rattle.lists.specs.Lists.{startsOf, endsOf, Room, Puts}
@@ -102,13 +102,6 @@ module _ (kind : Kind) {n from : ℕ} {ss es : List ℤ} (p : Places n from ss e
         record { within = omega arith; few = omega (arith, length-gap c (start ss k)); short = omega arith; sum = rw (e, q) (omega (arith, s)) }
 
 -- WRITING
--- a key as the code stores it, by its rank
-pub key-bits : (b : ℕ) → toZ w64 b ≡ keyAt (bitRank b)
-key-bits b = sym (ap keyAt (sym (rank-back b)) ∙ key-rank (toZ-fit b))
-
-pub set-key : (l : List ℤ) {l₁ : List ℤ} (n b : ℕ) → l₁ ≡ set l n (toZ w64 b) → l₁ ≡ set l n (keyAt (bitRank b))
-set-key l n b e = rw (← key-bits b) e
-
 module _ {kind : Kind} (law : Lawful kind) (l : List ℤ) {l₁ : List ℤ} (n : ℕ) where
   -- the end of the outer range
   pub set-end : (b : ℕ) → l₁ ≡ set l n (toZ w64 b) → l₁ ≡ set l n (kind .ending (kind .past (toZ w64 b)))

@@ -5,12 +5,15 @@ use native.Mathlib.Decide.{decLt}
 use mathlib.Core.Path.{_≡_}
 use mathlib.Core.List.{List, map}
 use borrow.Author.Tests.{lt-ltb, le-ltb}
-use lib.ListN.{length, length-map}
+use lib.ListN.{length, set, length-map}
 use lib.Seq.{sets, sets-eq}
 use lib.IntN.{ℤ}
+use mir.Syntax.{w64}
+use mir.Val.{toZ}
 use Rattle.span.specs.Span.{Span}
-use Rattle.key.specs.Rank.{keyAt}
+use Rattle.key.specs.Rank.{bitRank, keyAt}
 use Rattle.key.specs.Range.{Kind}
+use Rattle.key.proofs.Laws.{key-bits}
 use Rattle.outcomes.specs.Outcomes.{over, writing}
 use Rattle.outcomes.specs.declared.Counted.the-variants as Counted
 use Rattle.lists.specs.Lists.{wrote, startsOf, endsOf, Room, Puts}
@@ -43,3 +46,7 @@ module _ (kind : Kind) (xs : List Span) (os oe : List ℤ) {r : ℕ} (room : r �
   -- and the ranges are written
   pub answers-done : {n : ℕ} {os₁ oe₁ : List ℤ} → length xs ≤ r → (n ≡ length xs) × Puts kind 0 xs os oe os₁ oe₁ → wrote (Counted.Count n) os₁ oe₁ ≡ writing kind xs os oe
   answers-done h w = rw (w .0, w .1 .starts, w .1 .ends) (all-written h)
+
+-- a start as the code writes it
+pub put-start : (l : List ℤ) {l₁ : List ℤ} (n b : ℕ) → l₁ ≡ set l n (toZ w64 b) → l₁ ≡ set l n (keyAt (bitRank b))
+put-start l n b e = rw (← key-bits b) e

@@ -1,2 +1,2 @@
--- Answering: what is answered, and what the slices hold then.
+-- Answering: what is answered, and what the slices hold then; a start as the code writes it.
 pub mod Answering

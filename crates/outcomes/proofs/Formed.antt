@@ -12,11 +12,7 @@ use lib.IntN.{ℤ, pos, negsuc}
 use Rattle.span.specs.Span.{Span, span, Tidy, tidy}
 use Rattle.span.proofs.Tests.{both, tidy-yes, yes-tidy}
 use Rattle.key.specs.Range.{Kind, rangeOf}
-use Rattle.outcomes.specs.Stored.{Stored, spans, ranges, isZero, zeros, noughts, unused, wellFormed, Sound}
-
--- from n on, the list holds z
-abbrev pub Spare : {A : Type 0} → List A → ℕ → A → Type 0
-Spare l n z = (k : ℕ) → n ≤ k → getD l k z ≡ z
+use Rattle.outcomes.specs.Stored.{Stored, spans, ranges, isZero, zeros, noughts, unused, wellFormed, Spare, Sound}
 
 pub record Formed (kind : Kind) (n : ℕ) (m : Stored) : Type 0 where
   pub held : m .count ≤ n

@@ -12,8 +12,8 @@ use Rattle.key.specs.Rank.{rank, keyAt}
 use Rattle.key.specs.Range.{Kind}
 use Rattle.key.proofs.Laws.{key-rank, rank-key, key-fits}
 use Rattle.key.proofs.Lawful.{Lawful}
-use Rattle.outcomes.specs.Stored.{Stored, spans, ranges, filled, storing, AllFit, Sound}
-use Rattle.outcomes.proofs.Formed.{Spare, Formed, well-formed}
+use Rattle.outcomes.specs.Stored.{Stored, spans, ranges, filled, storing, AllFit, Sound, Spare}
+use Rattle.outcomes.proofs.Formed.{Formed, well-formed}
 
 -- parts of lists
 module _ {A B : Type 0} (f : A → B) where
@@ -58,6 +58,12 @@ values-back kind (s ∷ ss) [] vs p q = absurd (omega arith)
 values-back kind (s ∷ ss) (e ∷ es) [] p q = absurd (omega arith)
 values-back kind (s ∷ ss) (e ∷ es) (v ∷ vs) p q = rw (values-back kind ss es vs (omega arith) (omega arith))
 
+-- a list of one thing holds it at every place, and past its end for want of another
+pub all-same : {A : Type 0} (z : A) (m j : ℕ) → getD (replicate m z) j z ≡ z
+all-same z zero j = refl
+all-same z (suc m) zero = refl
+all-same z (suc m) (suc j) = all-same z m j
+
 -- a column that is filled up: its length, its first places, and the others
 module _ {A : Type 0} (n : ℕ) (z : A) (l : List A) (room : length l ≤ n) where
   pub length-filled : length (filled n z l) ≡ n
@@ -68,12 +74,7 @@ module _ {A : Type 0} (n : ℕ) (z : A) (l : List A) (room : length l ≤ n) whe
   unfolding filled
   spare-filled k h =
       let e : length l + (k - length l) ≡ k = omega arith in
-      ap (λ (j : ℕ). getD (l ++ replicate (n - length l) z) j z) (sym e) ∙ getD-append-add l (replicate (n - length l) z) (k - length l) z ∙ all-same (n - length l) (k - length l)
-    where
-      all-same : (m j : ℕ) → getD (replicate m z) j z ≡ z
-      all-same zero j = refl
-      all-same (suc m) zero = refl
-      all-same (suc m) (suc j) = all-same m j
+      ap (λ (j : ℕ). getD (l ++ replicate (n - length l) z) j z) (sym e) ∙ getD-append-add l (replicate (n - length l) z) (k - length l) z ∙ all-same z (n - length l) (k - length l)
 
 -- the ranges that are stored are those that were to be stored
 module _ (kind : Kind) (law : Lawful kind) where

@@ -1,5 +1,5 @@
 -- Document 01, Domain: what a map stores, the ranges that it holds, and when it is well formed. `kind` is `halfOpen` or `inclusive`.
-use Prim.Native.Nat.{ℕ, _-_}
+use Prim.Native.Nat.{ℕ, _-_, _≤_}
 use mathlib.Core.Path.{_≡_}
 use mathlib.Core.Bool.{Bool, true, false, _&&_}
 use mathlib.Core.List.{List, [], _∷_, _++_, map}
@@ -76,6 +76,10 @@ unused m = zeros (drop (m .count) (m .starts)) && (zeros (drop (m .count) (m .en
 -- and no two that touch have equal values (`tidy`); unused places hold 0
 unfoldable pub wellFormed : Kind → ℕ → Stored → Bool
 wellFormed kind n m = leb (m .count) n && (tidy 0 (ranges kind m) && unused m)
+
+-- from place n on, a list holds z
+abbrev pub Spare : {A : Type 0} → List A → ℕ → A → Type 0
+Spare l n z = (k : ℕ) → n ≤ k → getD l k z ≡ z
 
 -- all of a list are i64, as what an array in memory holds
 abbrev pub AllFit : List ℤ → Type 0

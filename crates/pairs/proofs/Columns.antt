@@ -17,6 +17,7 @@ use Rattle.key.specs.Range.{Kind, kindOf, rangeOf}
 use Rattle.key.specs.declared.RangeKind.{RangeKind}
 use Rattle.outcomes.specs.Stored.{spans}
 use Rattle.outcomes.proofs.Formed.{length-spans, getD-spans}
+use Rattle.outcomes.proofs.Storing.{all-same}
 use Rattle.outcomes.proofs.Sets.{plain-take}
 use Rattle.pairs.specs.Kind.{wide}
 use Rattle.pairs.specs.Sides.{rows, rest, Side}
@@ -26,11 +27,6 @@ use Rattle.pairs.proofs.Kinded.{past-is}
 pub one-goes : (left : Bool) → (boolByte left ≤ 1) × (boolByte left + boolByte (not left) ≡ 1)
 one-goes true = (omega arith, refl)
 one-goes false = (omega arith, refl)
-
-getD-noughts : (n k : ℕ) → _≡_ {A = ℕ} (getD (replicate n 0) k 0) 0
-getD-noughts zero k = refl
-getD-noughts (suc n) zero = refl
-getD-noughts (suc n) (suc k) = getD-noughts n k
 
 plain-bare : (kind : Kind) (ss es : List ℤ) → Plain (spans kind ss es (replicate (length ss) 0))
 unfolding spans
@@ -72,7 +68,7 @@ module _ (kind : Kind) {ss es : List ℤ} {n : ℕ} (side : Side kind ss es n) w
   unfolding rest rows
   place-more k h =
       let here = getD-spans kind ss es (replicate (length ss) 0) k (span 0 0 0) (side .ends-as) (length-replicate (length ss) 0) (omega (arith, side .held)) in
-      drop-cons (rows kind ss es n) k (span 0 0 0) (omega (arith, length-rows)) ∙ rw (getD-take n (spans kind ss es (replicate (length ss) 0)) k (span 0 0 0) h, here, getD-noughts (length ss) k, add-one)
+      drop-cons (rows kind ss es n) k (span 0 0 0) (omega (arith, length-rows)) ∙ rw (getD-take n (spans kind ss es (replicate (length ss) 0)) k (span 0 0 0) h, here, all-same {A = ℕ} 0 (length ss) k, add-one)
 
 -- the range at a place, by the ranks of its keys
 pub rest-more : (kind : RangeKind) {ss es : List ℤ} {n : ℕ} → Side (kindOf kind) ss es n → (k : ℕ) {s e : ℕ} → k < n → s ≡ rank (getD ss k (pos 0)) → e ≡ rank (getD es k (pos 0))

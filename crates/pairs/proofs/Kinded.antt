@@ -11,12 +11,12 @@ use lib.IntN.{ℤ}
 use lib.Signed.{ltZ}
 use mir.Syntax.{w64}
 use mir.Val.{toZ, ofZ}
-use Rattle.key.specs.Rank.{rank, bitRank, keyAt, lesser, greater}
+use Rattle.key.specs.Rank.{rank, bitRank, lesser, greater}
 use Rattle.key.specs.Range.{kindOf}
 use Rattle.key.specs.Decides.{Decides}
 use Rattle.key.specs.declared.RangeKind.{RangeKind}
 use Rattle.key.specs.declared.RangeKind.the-variants as RangeKind
-use Rattle.key.proofs.Laws.{rank-lt, rank-ge, rank-back, rank-lesser, rank-greater, key-rank, toZ-fit}
+use Rattle.key.proofs.Laws.{rank-lt, rank-ge, rank-back, rank-lesser, rank-greater, toZ-fit}
 use Rattle.key.proofs.Answers.{not-full}
 use Rattle.key.proofs.Lawful.{lawful}
 use Rattle.pairs.specs.Kind.{wide}
@@ -37,10 +37,7 @@ lt-test m n = by-answer (ltZ (toZ w64 m) (toZ w64 n)) (λ e. lt-ltb (bitRank m) 
 pub meets-is : {r : Bool} (kind : RangeKind) (s e : ℤ) → Decides r (rank s < kindOf kind .past e) → r ≡ ltb (rank s) (wide kind + rank e)
 meets-is {r} kind s e d = let p = past-is kind e in by-answer r (λ t. let h = d .right t in lt-ltb (rank s) (wide kind + rank e) (omega arith)) (λ f. let h = not-full d f in le-ltb (rank s) (wide kind + rank e) (omega arith))
 
--- a key as the code stores it, by its rank: as a start, and as an end
-start-bits : (b : ℕ) → toZ w64 b ≡ keyAt (bitRank b)
-start-bits b = sym (ap keyAt (sym (rank-back b)) ∙ key-rank (toZ-fit b))
-
+-- an end as the code stores it
 end-bits : (kind : RangeKind) (b : ℕ) → toZ w64 b ≡ kindOf kind .ending (wide kind + bitRank b)
 end-bits kind b =
     let p : kindOf kind .past (toZ w64 b) ≡ wide kind + bitRank b = rw (rank-back b) at (past-is kind (toZ w64 b)) in
@@ -53,10 +50,7 @@ greater-rank {r} a b e = rank-back (ofZ w64 r) ∙ ap rank e ∙ rank-greater (t
 pub lesser-rank : {r : ℤ} (a b : ℤ) → r ≡ lesser (toZ w64 (ofZ w64 a)) (toZ w64 (ofZ w64 b)) → rank (toZ w64 (ofZ w64 r)) ≡ min (rank a) (rank b)
 lesser-rank {r} a b e = rank-back (ofZ w64 r) ∙ ap rank e ∙ rank-lesser (toZ w64 (ofZ w64 a)) (toZ w64 (ofZ w64 b)) ∙ rw (rank-back (ofZ w64 a), rank-back (ofZ w64 b))
 
--- a start and an end, as the code stores them
-pub put-start : (l : List ℤ) {l₁ : List ℤ} (n b : ℕ) → l₁ ≡ set l n (toZ w64 b) → l₁ ≡ set l n (keyAt (bitRank b))
-put-start l n b e = rw (← start-bits b) e
-
+-- and as it writes it
 pub put-end : (kind : RangeKind) (l : List ℤ) {l₁ : List ℤ} (n b : ℕ) → l₁ ≡ set l n (toZ w64 b) → l₁ ≡ set l n (kindOf kind .ending (wide kind + bitRank b))
 put-end kind l n b e = rw (← end-bits kind b) e
 

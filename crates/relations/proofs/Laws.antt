@@ -9,7 +9,7 @@ use lib.Dec.{ltb, leb}
 use lib.IntN.{ℤ}
 use Rattle.span.specs.Span.{Span, inside}
 use Rattle.span.specs.Operations.{overlaps}
-use Rattle.span.proofs.Tests.{Within, yes-in, both}
+use Rattle.span.proofs.Tests.{Within, yes-in, both, neither}
 use Rattle.key.specs.Rank.{rank, lesser, greater}
 use Rattle.key.specs.Range.{Kind, rangeOf, empty}
 use Rattle.key.proofs.Laws.{rank-greater}
@@ -33,10 +33,6 @@ related-yes : (b t : Bool) → related b t ≡ Yes → (b ≡ false) × (t ≡ t
 related-yes true t e = clash e
 related-yes false true e = (refl, refl)
 related-yes false false e = clash′ e
-
-neither : (a b : Bool) → (a || b) ≡ false → (a ≡ false) × (b ≡ false)
-neither true b e = (e, absurd (omega (arith, let z : _≡_ {A = ℕ} 0 1 = cc in z)))
-neither false b e = (refl, e)
 
 proper : (x : Span) → empty x ≡ false → x .lo < x .hi
 proper x e = leb-false (x .hi) (x .lo) e

@@ -11,9 +11,10 @@ use Rattle.span.specs.Span.{span}
 use Rattle.key.specs.Rank.{bitRank}
 use Rattle.key.specs.Range.{kindOf}
 use Rattle.key.proofs.Laws.{rank-back}
+use Rattle.lists.proofs.Answering.{put-start}
 use Rattle.pairs.specs.Kind.{wide}
 use Rattle.pairs.specs.Lists.{Going}
-use Rattle.pairs.proofs.Kinded.{put-start, put-end}
+use Rattle.pairs.proofs.Kinded.{put-end}
 use Rattle.pairs.proofs.Writing.{going-first, going-room}
 use Rattle.pairs.proofs.Columns.{one-goes}
 use Rattle.common_walk.specs.Found.{sharedFrom, keyRank}

@@ -12,8 +12,9 @@ use Rattle.span.specs.Span.{Span, span}
 use Rattle.key.specs.Rank.{bitRank}
 use Rattle.key.proofs.Laws.{rank-back}
 use Rattle.key.specs.Range.{kindOf}
+use Rattle.lists.proofs.Answering.{put-start}
 use Rattle.pairs.specs.Kind.{wide}
-use Rattle.pairs.proofs.Kinded.{put-start, put-end}
+use Rattle.pairs.proofs.Kinded.{put-end}
 use Rattle.pairs.specs.Lists.{Going}
 use Rattle.pairs.proofs.Writing.{going-first, going-room, going-last}
 use Rattle.pairs.proofs.Columns.{one-goes}

@@ -8,7 +8,7 @@ use mir.Val.{toZ, ofZ}
 use borrow.Author.Needs.{needs}
 use Rattle.key.specs.Rank.{rank, keyAt}
 use Rattle.key.proofs.Laws.{prev-fits, rank-prev}
-use Rattle.gaps.proofs.Steps.{key-bits}
+use Rattle.key.proofs.Laws.{key-bits}
 use Rattle.gaps.proofs.end_before.Statement.{statement}
 use Rattle.gaps.proofs.end_before.Tie as tie
 

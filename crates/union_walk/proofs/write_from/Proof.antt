@@ -9,8 +9,9 @@ use Rattle.span.proofs.Walks.{absorb-some}
 use Rattle.key.specs.Rank.{bitRank}
 use Rattle.key.proofs.Laws.{rank-back}
 use Rattle.key.specs.Range.{kindOf}
+use Rattle.lists.proofs.Answering.{put-start}
 use Rattle.pairs.specs.Kind.{wide}
-use Rattle.pairs.proofs.Kinded.{greater-bits, put-start, put-end}
+use Rattle.pairs.proofs.Kinded.{greater-bits, put-end}
 use Rattle.pairs.specs.Lists.{Going}
 use Rattle.pairs.proofs.Writing.{going-first, going-room, going-last, from-first}
 use Rattle.pairs.proofs.Columns.{one-goes}
