@@ -16,7 +16,8 @@ use Rattle.key.specs.Rank.{rank, keyAt}
 use Rattle.key.specs.Range.{kindOf}
 use Rattle.key.specs.declared.RangeKind.{RangeKind}
 use Rattle.pairs.specs.Kind.{wide}
-use Rattle.pairs.specs.Sides.{rows, rest, Side}
+use Rattle.lists.specs.Columns.{rows, rest}
+use Rattle.pairs.specs.Sides.{Side}
 use Rattle.pairs.proofs.Columns.{length-rows, spaced-rows, spaced-rest, rest-more, rest-none, rest-all}
 use Rattle.pairs.specs.Lists.{Going}
 use Rattle.pairs.proofs.Writing.{going-step}

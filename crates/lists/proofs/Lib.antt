@@ -1,2 +1,3 @@
--- Answering: what is answered, and what the slices hold then; a start as the code writes it.
+-- Answering: what is answered, and what the slices hold then; a start as the code writes it. Columns: the ranges of two columns, one place at a time.
 pub mod Answering
+pub mod Columns

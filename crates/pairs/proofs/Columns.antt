@@ -1,26 +1,24 @@
 -- One of the two sets, place by place.
 use Prim.Native.Nat.{ℕ, zero, suc, _+_, _≤_, _<_}
 use native.Mathlib.Omega.{arith}
-use native.Mathlib.Numerals.{add-one}
 use mathlib.Core.Path.{_≡_, refl, _∙_}
 use mathlib.Core.Bool.{Bool, true, false, not}
 use mathlib.Core.List.{List, [], _∷_}
-use lib.ListN.{length, getD, take, drop, replicate, length-replicate, drop-of-length-le}
-use lib.Seq.{drop-cons, getD-take, length-take-le}
+use lib.ListN.{length, getD, take, drop, replicate}
 use lib.IntN.{ℤ, pos}
 use mir.Val.{boolByte}
 use Rattle.span.specs.Span.{Span, span}
 use Rattle.span.specs.Operations.{Plain}
 use Rattle.span.proofs.Walks.{Spaced, spaced-from, tidy-spaced}
 use Rattle.key.specs.Rank.{rank}
-use Rattle.key.specs.Range.{Kind, kindOf, rangeOf}
+use Rattle.key.specs.Range.{Kind, kindOf}
 use Rattle.key.specs.declared.RangeKind.{RangeKind}
 use Rattle.outcomes.specs.Stored.{spans}
-use Rattle.outcomes.proofs.Formed.{length-spans, getD-spans}
-use Rattle.outcomes.proofs.Storing.{all-same}
 use Rattle.outcomes.proofs.Sets.{plain-take}
 use Rattle.pairs.specs.Kind.{wide}
-use Rattle.pairs.specs.Sides.{rows, rest, Side}
+use Rattle.lists.specs.Columns.{rows, rest}
+use Rattle.lists.proofs.Columns as columns
+use Rattle.pairs.specs.Sides.{Side}
 use Rattle.pairs.proofs.Kinded.{past-is}
 
 -- a walk over two sides goes one place on in one of the two, and in no other
@@ -40,12 +38,8 @@ spaced-drop b (suc k) [] s = tt
 spaced-drop b (suc k) (x ∷ xs) s = spaced-from {b = suc (x .hi)} (drop k xs) (omega arith) (spaced-drop (suc (x .hi)) k xs (s .3))
 
 module _ (kind : Kind) {ss es : List ℤ} {n : ℕ} (side : Side kind ss es n) where
-  length-bare : length (spans kind ss es (replicate (length ss) 0)) ≡ length ss
-  length-bare = length-spans kind ss es (replicate (length ss) 0) (side .ends-as) (length-replicate (length ss) 0)
-
   pub length-rows : length (rows kind ss es n) ≡ n
-  unfolding rows
-  length-rows = length-take-le n (spans kind ss es (replicate (length ss) 0)) (omega (arith, length-bare, side .held))
+  length-rows = columns.length-rows kind ss es n (side .held) (side .ends-as)
 
   -- it is a set
   pub spaced-rows : Spaced 0 (rows kind ss es n)
@@ -57,20 +51,12 @@ module _ (kind : Kind) {ss es : List ℤ} {n : ℕ} (side : Side kind ss es n) w
   spaced-rest k = spaced-drop 0 k (rows kind ss es n) spaced-rows
 
   pub rest-all : rest kind ss es n 0 ≡ rows kind ss es n
-  unfolding rest
-  rest-all = refl
+  rest-all = columns.rest-all kind ss es n (side .held) (side .ends-as)
 
   pub rest-none : (k : ℕ) → n ≤ k → rest kind ss es n k ≡ []
-  unfolding rest
-  rest-none k h = drop-of-length-le (rows kind ss es n) {i = k} (omega (arith, length-rows))
-
-  place-more : (k : ℕ) → k < n → rest kind ss es n k ≡ rangeOf kind (getD ss k (pos 0)) (getD es k (pos 0)) 0 ∷ rest kind ss es n (k + 1)
-  unfolding rest rows
-  place-more k h =
-      let here = getD-spans kind ss es (replicate (length ss) 0) k (span 0 0 0) (side .ends-as) (length-replicate (length ss) 0) (omega (arith, side .held)) in
-      drop-cons (rows kind ss es n) k (span 0 0 0) (omega (arith, length-rows)) ∙ rw (getD-take n (spans kind ss es (replicate (length ss) 0)) k (span 0 0 0) h, here, all-same {A = ℕ} 0 (length ss) k, add-one)
+  rest-none = columns.rest-none kind ss es n (side .held) (side .ends-as)
 
 -- the range at a place, by the ranks of its keys
 pub rest-more : (kind : RangeKind) {ss es : List ℤ} {n : ℕ} → Side (kindOf kind) ss es n → (k : ℕ) {s e : ℕ} → k < n → s ≡ rank (getD ss k (pos 0)) → e ≡ rank (getD es k (pos 0))
     → rest (kindOf kind) ss es n k ≡ span s (wide kind + e) 0 ∷ rest (kindOf kind) ss es n (k + 1)
-rest-more kind {es = es} side k h p q = place-more (kindOf kind) side k h ∙ rw (past-is kind (getD es k (pos 0)), p, q)
+rest-more kind {ss = ss} {es = es} {n = n} side k h p q = columns.rest-more (kindOf kind) ss es n (side .held) (side .ends-as) k h ∙ rw (past-is kind (getD es k (pos 0)), p, q)

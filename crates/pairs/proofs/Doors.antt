@@ -11,7 +11,8 @@ use Rattle.key.specs.Range.{Kind}
 use Rattle.outcomes.specs.Stored.{Stored, ranges, noughts}
 use Rattle.outcomes.specs.Sets.{plain, SoundSet}
 use Rattle.outcomes.proofs.Formed.{good}
-use Rattle.pairs.specs.Sides.{rows, Side}
+use Rattle.lists.specs.Columns.{rows}
+use Rattle.pairs.specs.Sides.{Side}
 
 -- the values of a set are known
 noughts-are : (vs : List ℕ) → noughts vs ≡ true → vs ≡ replicate (length vs) 0

@@ -22,7 +22,8 @@ use Rattle.key.specs.Range.{kindOf}
 use Rattle.key.specs.declared.RangeKind.{RangeKind}
 use Rattle.key.specs.declared.RangeKind.the-variants as RangeKind
 use Rattle.pairs.specs.Kind.{wide}
-use Rattle.pairs.specs.Sides.{rows, rest, Side}
+use Rattle.lists.specs.Columns.{rows, rest}
+use Rattle.pairs.specs.Sides.{Side}
 use Rattle.pairs.proofs.Kinded.{past-is}
 use Rattle.pairs.proofs.Columns.{spaced-rows, spaced-rest, rest-more, rest-none, rest-all}
 use Rattle.pairs.proofs.Doors.{rows-are}

@@ -5,7 +5,7 @@ use lib.IntN.{ℤ}
 use Rattle.span.specs.Operations.{total}
 use Rattle.key.specs.Range.{kindOf}
 use Rattle.key.specs.declared.RangeKind.{RangeKind}
-use Rattle.pairs.specs.Sides.{rows}
+use Rattle.lists.specs.Columns.{rows}
 
 -- how many keys the ranges of the first n places have
 abbrev pub sumOf : RangeKind → List ℤ → List ℤ → ℕ → ℕ

@@ -20,7 +20,8 @@ use Rattle.key.proofs.Answers.{never}
 use Rattle.key.specs.Range.{kindOf}
 use Rattle.key.specs.declared.RangeKind.{RangeKind}
 use Rattle.pairs.specs.Kind.{wide}
-use Rattle.pairs.specs.Sides.{rows, rest, Side}
+use Rattle.lists.specs.Columns.{rows, rest}
+use Rattle.pairs.specs.Sides.{Side}
 use Rattle.pairs.proofs.Columns.{length-rows, spaced-rest, rest-more, rest-none, rest-all}
 use Rattle.pairs.specs.Lists.{Counting, Going}
 use Rattle.pairs.proofs.Writing.{counting-step, going-step}

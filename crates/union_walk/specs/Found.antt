@@ -11,7 +11,7 @@ use Rattle.key.specs.Rank.{rank}
 use Rattle.key.specs.Range.{kindOf}
 use Rattle.key.specs.declared.RangeKind.{RangeKind}
 use Rattle.pairs.specs.Kind.{wide}
-use Rattle.pairs.specs.Sides.{rows, rest}
+use Rattle.lists.specs.Columns.{rows, rest}
 use Rattle.union_walk.specs.declared.Taken.{Taken}
 
 -- the union of the two sets

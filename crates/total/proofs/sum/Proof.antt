@@ -5,7 +5,7 @@ use mathlib.Core.Path.{_≡_, refl}
 use Rattle.span.specs.Operations.{total}
 use Rattle.key.proofs.Laws.{rank-back}
 use Rattle.key.specs.Range.{kindOf}
-use Rattle.pairs.specs.Sides.{rest}
+use Rattle.lists.specs.Columns.{rest}
 use Rattle.total.specs.Sum.{sumOf}
 use Rattle.total.proofs.Laws.{sum-none, sum-all, length-at, sum-more}
 use Rattle.total.proofs.sum.Statement.{statement}
