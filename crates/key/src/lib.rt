@@ -61,7 +61,7 @@ pub fn rank_of(a: i64) -> u64
     a as u64 + 9223372036854775808
 }
 
-// Whether a range has a key: it is neither empty nor reversed. The one comparison in which the two kinds differ.
+// Whether a range has a key: it is neither empty nor reversed. Whether a key lies before an end is the same question.
 pub fn full(kind: RangeKind, start: i64, end: i64) -> bool
     ensures { λ r. ⌜ Decides r (rank start < kindOf kind .past end) ⌝ }
 {

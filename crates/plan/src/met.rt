@@ -1,4 +1,4 @@
-// Which places an edit meets or touches. One search finds the first; the places that are replaced are walked, which is no search.
+// Which places an edit meets or touches: `edit` and `inclusive_edit` find them.
 
 // Places, from one up to another.
 pub struct Met {
