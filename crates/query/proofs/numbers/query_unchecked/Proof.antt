@@ -1,0 +1,34 @@
+-- `query::numbers::query_unchecked` meets its contract.
+use mathlib.Core.Path.{ap, _∙_}
+use mir.Facts.{toZ-ofZ}
+use borrow.Author.Needs.{needs}
+use Rattle.outcomes.specs.Numbers.{countOf}
+use Rattle.outcomes.specs.Outcomes.{Written}
+use Rattle.query.proofs.numbers.query_unchecked.Statement.{statement}
+use Rattle.query.proofs.numbers.query_unchecked.Tie as tie
+
+query-unchecked-requires : tie.Need-query-unchecked-requires
+query-unchecked-requires c κs = search needs
+
+count-of-requires : tie.Need-count-of-requires
+count-of-requires c κs = search needs
+
+same-length : tie.Need-same-length
+same-length c = search needs
+
+same-length-2 : tie.Need-same-length-2
+same-length-2 c = search needs
+
+returns : tie.Need-returns
+returns c =
+    let called = c .before .before .before in
+    let s = called .before .before .before .before .before .before .before .before .before .before .before .before in
+    let w = rw (toZ-ofZ (s .fits .start), toZ-ofZ (s .fits .end)) at (called .query-unchecked .ensures) in
+    record {
+      number = c .count-of .ensures ∙ ap (λ (x : Written). countOf (x .answer)) w;
+      starts-are = ap (λ (x : Written). x .starts) w;
+      ends-are = ap (λ (x : Written). x .ends) w;
+    }
+
+pub query-unchecked-spec : {M : Type 1} → statement M
+query-unchecked-spec = tie.close (tie.spec query-unchecked-requires count-of-requires same-length same-length-2 returns)
