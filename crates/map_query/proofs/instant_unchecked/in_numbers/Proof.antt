@@ -10,7 +10,7 @@ query-at-unchecked-requires : tie.Need-query-at-unchecked-requires
 query-at-unchecked-requires c κs = search needs
 
 told-of-requires : tie.Need-told-of-requires
-told-of-requires c κs = search needs
+told-of-requires c κs = tt
 
 returns : tie.Need-returns
 returns c = let s = c .before .before .before .before .before .before .before .before .before .before .before in c .told-of .ensures ∙ ap toldOf (rw (toZ-ofZ (s .fits .start), toZ-ofZ (s .fits .end), toZ-ofZ (s .fits .key)) at (c .before .query-at-unchecked .ensures))

@@ -2,7 +2,6 @@
 use native.Mathlib.Omega.{arith}
 use native.Mathlib.Nat.{le-refl}
 use mathlib.Core.Path.{ap, _∙_}
-use borrow.Author.Needs.{needs}
 use Rattle.key.specs.Rank.{rank}
 use Rattle.key.proofs.Laws.{tests, rank-back, rank-lesser}
 use Rattle.outcomes.specs.Stored.{stored}
@@ -30,7 +29,7 @@ shared-slice-copy-out-start c =
     omega (arith, held m (s .pre .0))
 
 min-requires : tie.Need-min-requires
-min-requires c κs = search needs
+min-requires c κs = tt
 
 returns-2 : tie.Need-returns-2
 returns-2 c =
@@ -48,7 +47,7 @@ shared-slice-read-class-of c =
     omega (arith, held m (s .pre .0), s .pre .0 .values-as)
 
 class-of-requires : tie.Need-class-of-requires
-class-of-requires c κs = search needs
+class-of-requires c κs = tt
 
 mul-min : tie.Need-mul-min
 mul-min c =
@@ -63,7 +62,7 @@ shared-slice-copy-out-min c =
     omega (arith, held m (s .pre .0), s .pre .0 .ends-as)
 
 min-requires-2 : tie.Need-min-requires-2
-min-requires-2 c κs = search needs
+min-requires-2 c κs = tt
 
 returns-3 : tie.Need-returns-3
 returns-3 c =
