@@ -50,7 +50,8 @@ write-requires c κs =
           (record {
             list = zs;
             to-come = s .pre .3 .to-come;
-            room = enough halfOpen zs (s .args .out-starts .now) (s .args .out-ends .now) (at-shorter .shorter .ensures) (omega (arith, few, at-if1 .if1 .left));
+            room = enough halfOpen zs (s .args .out-starts .now) (s .args .out-ends .now) (at-shorter .shorter .ensures)
+                (omega (arith, few, at-if1 .if1 .left));
           }),
     )
 
