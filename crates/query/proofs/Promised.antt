@@ -1,4 +1,4 @@
--- What C and Rust see of the two entries: one outcome for any input, and the instant told by the ranges that the lent lists hold.
+-- What C and Rust see of the two entries: what the lent lists hold, and the instant told by the ranges there.
 -- r, starts and ends are what the entry for ranges answers and leaves; t is what the entry for one instant answers.
 use Prim.Native.Nat.{ℕ, min}
 use native.Mathlib.Omega.{arith}
@@ -83,20 +83,11 @@ module _ {a b : Stored} {s e : ℤ} {bytes : List ℕ} {os oe : List ℤ} {k : �
       record { query = q; spelt = asks .spelt; tells = ap (λ (t : Told). t .yes) (h ∙ told-yes (isIn a b s e q k)) }
 
 module _ (a b : Stored) (s e : ℤ) (bytes : List ℕ) (k : ℤ) where
-  -- ONE OUTCOME of an instant
-  pub query-at-one : {r t : Told} → r ≡ toldOf (queryingAt a b s e bytes k) → t ≡ toldOf (queryingAt a b s e bytes k) → r ≡ t
-  query-at-one x y = one-answer x y
-
   -- WHERE THE NUMBER IS 0, it is told by whether the query is true of it
   pub told-means : {t : Told} → t ≡ toldOf (queryingAt a b s e bytes k) → t .answer ≡ 0 → ToldOf a b s e bytes k (t .yes)
   told-means told z = answered-told (querying-answers a b s e bytes [] [] k) told z
 
 module _ (a b : Stored) (s e : ℤ) (bytes : List ℕ) (os oe : List ℤ) where
-  -- ONE OUTCOME of the ranges: the number, the count, and both lent lists
-  pub query-one : {r t : Count} {ss es ss′ es′ : List ℤ} → Listed r ss es (querying a b s e bytes os oe) → Listed t ss′ es′ (querying a b s e bytes os oe)
-      → (r ≡ t) × (ss ≡ ss′) × (es ≡ es′)
-  query-one x y = list-one x y
-
   module _ {r : Count} {starts ends : List ℤ} (listed : Listed r starts ends (querying a b s e bytes os oe)) where
     -- WHERE THE NUMBER IS 0, the first places of the lent lists, as many as the count, are the true instants of the window in maximal ranges
     pub listed-means : r .answer ≡ 0 → IsResult a b s e bytes (rows halfOpen starts ends (r .count))
