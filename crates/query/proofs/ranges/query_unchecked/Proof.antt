@@ -11,7 +11,7 @@ use Rattle.outcomes.specs.Stored.{stored}
 use Rattle.query_text.specs.Reader.{queryOf}
 use Rattle.query_text.proofs.Parts.{as-got, as-bad}
 use Rattle.query.specs.Answers.{resultOf, queried}
-use Rattle.query.proofs.Glue.{result-comes}
+use Rattle.query.proofs.Glue.{result-comes, result-few}
 use Rattle.query.proofs.ranges.query_unchecked.Statement.{statement}
 use Rattle.query.proofs.ranges.query_unchecked.Tie as tie
 
@@ -49,8 +49,16 @@ found-requires c κs =
     let f = as-got (s .args .bytes .now) 0 (queryOf (s .args .bytes .now)) (at-t .t .given .1) (at-query .read-query .ensures) in
     let lt : rank (s .args .start) < rank (s .args .end) = omega (arith, tests, at-if1 .if1 .left) in
     let g = result-comes m n (s .pre .0) (s .pre .1) (rank (s .args .start)) (rank (s .args .end)) lt (s .args .bytes .now) (f .query) _ (f .is) _ (f .table) in
-    rw (toZ-ofZ (s .fits .start), toZ-ofZ (s .fits .end))
-    (s .pre .0, s .pre .1, lt, record { list = resultOf m n (s .args .start) (s .args .end) (f .query); to-come = g })
+    rw (toZ-ofZ (s .fits .start), toZ-ofZ (s .fits .end)) (
+      s .pre .0,
+      s .pre .1,
+      lt,
+      record {
+        list = resultOf m n (s .args .start) (s .args .end) (f .query);
+        to-come = g;
+        few = result-few m n (s .pre .0) (s .pre .1) (rank (s .args .start)) (rank (s .args .end)) lt (f .query);
+      },
+    )
 
 same-length : tie.Need-same-length
 same-length c = omega arith
