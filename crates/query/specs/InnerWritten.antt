@@ -32,7 +32,7 @@ pub record Counts (t : Truth) (xs ys : List Span) (p e n : ℕ) : Type 0 where
   pub many : (zs : List Span) → ToCome t xs ys p e zs → n ≡ length zs
 
 -- two lent lists have room for that list from place n on
-pub record Fits (t : Truth) (xs ys : List Span) (p e n : ℕ) (os oe : List ℤ) : Type 0 where
+pub record HasRoom (t : Truth) (xs ys : List Span) (p e n : ℕ) (os oe : List ℤ) : Type 0 where
   pub list : List Span
   pub to-come : ToCome t xs ys p e list
   pub room : Room n list os oe

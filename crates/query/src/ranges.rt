@@ -23,7 +23,7 @@ ghost use Rattle.query.specs.Answers.{queried, querying};
 ghost use Rattle.query.specs.InnerWritten.{Known, WritesAll};
 
 // What the table says in the window. Nothing is written before it is known that the lent lists are long enough.
-fn found(
+fn by_table(
     count_a: usize,
     starts_a: &[i64],
     ends_a: &[i64],
@@ -117,7 +117,7 @@ pub fn query_unchecked(
     let Reading::Got(_, t) = read_query(bytes) else {
         return Counted::Refused(BAD_QUERY);
     };
-    found(
+    by_table(
         count_a,
         starts_a,
         ends_a,

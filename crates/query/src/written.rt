@@ -10,7 +10,7 @@ ghost use Rattle.key.specs.Range.{halfOpen};
 ghost use Rattle.outcomes.specs.Stored.{Sound};
 ghost use Rattle.query.specs.InnerColumns.{columns, spansOf};
 ghost use Rattle.query.specs.InnerWalk.{Stands};
-ghost use Rattle.query.specs.InnerWritten.{Counts, Known, Measures, Fits, Writes};
+ghost use Rattle.query.specs.InnerWritten.{Counts, Known, Measures, HasRoom, Writes};
 
 // How many ranges there are from the walk on, before `end`.
 fn count(
@@ -147,7 +147,7 @@ pub fn write(
         × Sound halfOpen (columns «count_b» «starts_b» «ends_b» «values_b»)
         × Stands (spansOf «count_a» «starts_a» «ends_a» «values_a»)
         (spansOf «count_b» «starts_b» «ends_b» «values_b») w × (rank (w .key) ≤ rank end)
-        × Fits t (spansOf «count_a» «starts_a» «ends_a» «values_a»)
+        × HasRoom t (spansOf «count_a» «starts_a» «ends_a» «values_a»)
         (spansOf «count_b» «starts_b» «ends_b» «values_b») (rank (w .key)) (rank end) 0 (now «out_starts») (now «out_ends») ⌝ }
     ensures { λ r. ⌜ Writes t (spansOf «count_a» («starts_a» .entry) («ends_a» .entry) («values_a» .entry))
         (spansOf «count_b» («starts_b» .entry) («ends_b» .entry) («values_b» .entry))

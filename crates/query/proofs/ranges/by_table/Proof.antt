@@ -1,12 +1,12 @@
--- `query::ranges::found` meets its contract.
+-- `query::ranges::by_table` meets its contract.
 use native.Mathlib.Omega.{arith}
 use mathlib.Core.Path.{_≡_, _∙_}
 use mir.Facts.{toZ-ofZ}
 use borrow.Author.Tests.{not-true, not-false}
 use Rattle.key.specs.Range.{halfOpen}
 use Rattle.lists.proofs.Answering.{answers-short, answers-done, enough}
-use Rattle.query.proofs.ranges.found.Statement.{statement}
-use Rattle.query.proofs.ranges.found.Tie as tie
+use Rattle.query.proofs.ranges.by_table.Statement.{statement}
+use Rattle.query.proofs.ranges.by_table.Tie as tie
 
 walk-at-requires : tie.Need-walk-at-requires
 walk-at-requires c κs = let s = c .before .before in (s .pre .0, s .pre .1)
@@ -77,8 +77,8 @@ returns-2 c =
     λ zs g. answers-done halfOpen zs (s .args .out-starts .now) (s .args .out-ends .now) (at-shorter .shorter .ensures)
     (m zs g .right (not-false _ (at-if1 .if1 .left))) (omega (arith, v .upto zs g), v .puts zs g)
 
-pub found-spec : {M : Type 1} → statement M
-found-spec =
+pub by-table-spec : {M : Type 1} → statement M
+by-table-spec =
     tie.close
     (tie.spec
     walk-at-requires
