@@ -1,5 +1,6 @@
 -- ONE OUTCOME of each exported function, over what a caller sees: two outcomes that meet its promise are equal, the answer and all lent memory.
--- `query-one` and `query-unchecked-one`: the number, the count and both lent lists. `query-at-one` and `query-at-unchecked-one`: the number and the answer.
+-- `range-map-query-one`, `range-map-query-unchecked-one`: the number, the count and both lent lists.
+-- `range-map-query-at-one`, `range-map-query-at-unchecked-one`: the number and the answer.
 use Prim.Native.Nat.{ℕ}
 use mathlib.Core.Path.{_≡_}
 use mathlib.Core.List.{List}
@@ -24,14 +25,14 @@ abbrev OneTold : Asked → Type 0
 OneTold x = (r t : Told) → r ≡ toldOf x → t ≡ toldOf x → r ≡ t
 
 module _ (a b : RangeMap) (s e : ℤ) (bytes : List ℕ) where
-  pub query-one : (os oe : List ℤ) → OneList (querying (held a) (held b) s e bytes os oe)
-  query-one os oe r t ss es ss′ es′ x y = list-one x y
+  pub range-map-query-one : (os oe : List ℤ) → OneList (querying (held a) (held b) s e bytes os oe)
+  range-map-query-one os oe r t ss es ss′ es′ x y = list-one x y
 
-  pub query-unchecked-one : (os oe : List ℤ) → OneList (queried (held a) (held b) s e bytes os oe)
-  query-unchecked-one os oe r t ss es ss′ es′ x y = list-one x y
+  pub range-map-query-unchecked-one : (os oe : List ℤ) → OneList (queried (held a) (held b) s e bytes os oe)
+  range-map-query-unchecked-one os oe r t ss es ss′ es′ x y = list-one x y
 
-  pub query-at-one : (k : ℤ) → OneTold (queryingAt (held a) (held b) s e bytes k)
-  query-at-one k r t x y = one-answer x y
+  pub range-map-query-at-one : (k : ℤ) → OneTold (queryingAt (held a) (held b) s e bytes k)
+  range-map-query-at-one k r t x y = one-answer x y
 
-  pub query-at-unchecked-one : (k : ℤ) → OneTold (queriedAt (held a) (held b) s e bytes k)
-  query-at-unchecked-one k r t x y = one-answer x y
+  pub range-map-query-at-unchecked-one : (k : ℤ) → OneTold (queriedAt (held a) (held b) s e bytes k)
+  range-map-query-at-unchecked-one k r t x y = one-answer x y

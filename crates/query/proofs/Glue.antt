@@ -80,9 +80,9 @@ result-comes m n sm sn lo hi h bytes q rest e t s =
     rw (says-truth bytes q rest e t s xs ys k) (windowed (leb lo k) (ltb k hi) (truth q (at xs k) (at ys k))))
 
 -- it has at most one range more than the maps together
-pub result-few : (m n : Stored) → Sound halfOpen m → Sound halfOpen n → (lo hi : ℕ) → lo < hi → (q : Query)
+pub sound-few : (m n : Stored) → Sound halfOpen m → Sound halfOpen n → (lo hi : ℕ) → lo < hi → (q : Query)
     → length (result lo hi (ranges halfOpen m) (ranges halfOpen n) q) ≤ m .count + n .count + 1
-result-few m n sm sn lo hi h q =
+sound-few m n sm sn lo hi h q =
     omega (arith, query-few lo hi (ranges halfOpen m) (ranges halfOpen n) h (good sm .tidy) (good sn .tidy) q, many m sm, many n sn)
 
 -- outside the window no instant is in the result; inside, the query decides

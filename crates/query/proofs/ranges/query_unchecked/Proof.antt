@@ -11,7 +11,7 @@ use Rattle.outcomes.specs.Stored.{stored}
 use Rattle.query_text.specs.Reader.{queryOf}
 use Rattle.query_text.proofs.Parts.{as-got, as-bad}
 use Rattle.query.specs.Answers.{resultOf, queried}
-use Rattle.query.proofs.Glue.{result-comes, result-few}
+use Rattle.query.proofs.Glue.{result-comes, sound-few}
 use Rattle.query.proofs.ranges.query_unchecked.Statement.{statement}
 use Rattle.query.proofs.ranges.query_unchecked.Tie as tie
 
@@ -56,7 +56,7 @@ by-table-requires c κs =
       record {
         list = resultOf m n (s .args .start) (s .args .end) (f .query);
         to-come = g;
-        few = result-few m n (s .pre .0) (s .pre .1) (rank (s .args .start)) (rank (s .args .end)) lt (f .query);
+        few = sound-few m n (s .pre .0) (s .pre .1) (rank (s .args .start)) (rank (s .args .end)) lt (f .query);
       },
     )
 
