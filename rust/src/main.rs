@@ -57,12 +57,13 @@ fn compare(sizes: &Sizes) -> bool {
     report.finish()
 }
 
-/// What rangemap answers to the questions that a program of the gate asks.
+/// What rangemap answers to the questions that a program of the gate asks, and for queries the model.
 fn replay(module: &str) -> bool {
     match module {
         "relations" => print!("{}", relations::replay()),
         "maps" => print!("{}", maps::replay()),
         "set" => print!("{}", sets::replay()),
+        "query" => print!("{}", query::replay()),
         _ => {
             eprintln!("there is no replay of {module}");
             return false;

@@ -1,5 +1,6 @@
 //! Queries over two half-open maps: the ranges and the one instant, through both doors, beside a model that was written from document 01 alone.
 mod model;
+mod replay;
 mod texts;
 
 use crate::ffi::{Map, Queries, Told, PLACES, QUERIES, QUERIES_UNCHECKED};
@@ -528,4 +529,9 @@ pub fn compare(report: &mut Report, size: &Size) {
     compare_longest(report);
     compare_random(report, size.long_pairs);
     compare_damaged(report);
+}
+
+/// What crates/test_query has to print.
+pub fn replay() -> String {
+    replay::replay()
 }

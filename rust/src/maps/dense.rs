@@ -42,6 +42,13 @@ impl Cells {
         }
     }
 
+    /// From each of these keys to the next.
+    pub fn between(keys: &[i64]) -> Self {
+        Cells {
+            bounds: keys.iter().map(|&key| key.into()).collect(),
+        }
+    }
+
     /// Cells of one key to so many each, from a random key on. All of them together have fewer than 2^33 keys.
     pub fn random(random: &mut Random, cells: usize, most: usize) -> Self {
         let mut bound = i128::from(i64::MIN) + ((random.below(1 << 31) as i128) << 33);
