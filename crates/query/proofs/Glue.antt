@@ -15,18 +15,21 @@ use Rattle.key.specs.Range.{halfOpen}
 use Rattle.outcomes.specs.Stored.{Stored, ranges, Sound}
 use Rattle.outcomes.proofs.Formed.{good}
 use Rattle.places.proofs.Seeking.{Passed}
-use Rattle.query_form.specs.Grammar.{Query}
-use Rattle.query_form.specs.Meaning.{classOf, truth}
-use Rattle.query_form.specs.Reader.{got, queryOf}
-use Rattle.query_form.proofs.Grammar.{read-is}
-use Rattle.query_form.proofs.Meaning.{by-class}
-use Rattle.query_truth.specs.declared.Truth.{Truth}
-use Rattle.query_truth.specs.Says.{Shows}
-use Rattle.query_form.specs.Meaning.{classTruth}
-use Rattle.query_result.specs.Result.{result, isTrue, marked}
-use Rattle.query_result.proofs.Result.{result-means}
-use Rattle.query_walk.specs.Standing.{none-there, Standing, saysAt, ToCome}
-use Rattle.query_walk.proofs.Looks.{many, range-here}
+use Rattle.query_text.specs.Grammar.{Query}
+use Rattle.query_text.specs.InnerClasses.{classOf}
+use Rattle.query_text.specs.Meaning.{truth}
+use Rattle.query_text.specs.Reader.{got, queryOf}
+use Rattle.query_text.proofs.Grammar.{read-is}
+use Rattle.query_text.proofs.Meaning.{by-class}
+use Rattle.query_text.specs.declared.truth.Truth.{Truth}
+use Rattle.query_text.specs.InnerTable.{Shows}
+use Rattle.query_text.specs.InnerClasses.{classTruth}
+use Rattle.query.specs.Result.{result, isTrue, marked}
+use Rattle.query.proofs.Result.{result-means}
+use Rattle.query.specs.InnerSeen.{none-there, Standing}
+use Rattle.query.specs.InnerWalk.{saysAt}
+use Rattle.query.specs.InnerWritten.{ToCome}
+use Rattle.query.proofs.Looks.{many, range-here}
 
 -- ranges that end by p hold nothing from p on
 gone-by : (xs : List Span) (i p : ℕ) → ((j : ℕ) → j < i → j < length xs → getD xs j none-there .hi ≤ p) → (k : ℕ) → p ≤ k → at xs k ≡ at (drop i xs) k

@@ -1,20 +1,22 @@
 // ONE INSTANT of a query: whether it is in the result.
 use crate::BAD_QUERY;
 use crate::formed::are_formed;
-use crate::start::walk_at;
+use crate::walk::cell_at;
+use crate::walk::walk_at;
 use outcomes::Asked;
 use outcomes::EMPTY_RANGE;
 use outcomes::NOT_FORMED;
 use outcomes::PLACES;
-use query_read::Reading;
-use query_truth::Truth;
+use query_text::reader::Reading;
+use query_text::reader::read_query;
+use query_text::truth::Truth;
 ghost use mathlib.Core.Path.{_≡_};
 ghost use Prim.Native.Nat.{_<_};
 ghost use Rattle.key.specs.Rank.{rank};
 ghost use Rattle.key.specs.Range.{halfOpen};
 ghost use Rattle.outcomes.specs.Stored.{lent, Sound};
 ghost use Rattle.outcomes.specs.Outcomes.{yesNo};
-ghost use Rattle.query_walk.specs.Standing.{saysAt};
+ghost use Rattle.query.specs.InnerWalk.{saysAt};
 ghost use Rattle.query.specs.InnerColumns.{columns, spansOf};
 ghost use Rattle.query.specs.Answers.{queriedAt, queryingAt};
 
@@ -48,7 +50,7 @@ fn told(
         values_b,
         key,
     );
-    let c = query_walk::cell_at(
+    let c = cell_at(
         count_a,
         starts_a,
         ends_a,
@@ -89,7 +91,7 @@ pub fn query_at_unchecked(
     if start >= end {
         return Asked::Refused(EMPTY_RANGE);
     }
-    let Reading::Got(_, t) = query_read::query(bytes) else {
+    let Reading::Got(_, t) = read_query(bytes) else {
         return Asked::Refused(BAD_QUERY);
     };
     if key < start {

@@ -1,15 +1,17 @@
 // THE RANGES of a query: the true instants of a window, as maximal ranges, ascending.
 use crate::BAD_QUERY;
 use crate::formed::are_formed;
-use crate::start::walk_at;
+use crate::walk::walk_at;
+use crate::written;
 use lists::shorter;
 use outcomes::Counted;
 use outcomes::EMPTY_RANGE;
 use outcomes::NOT_FORMED;
 use outcomes::PLACES;
 use outcomes::TOO_SHORT;
-use query_read::Reading;
-use query_truth::Truth;
+use query_text::reader::Reading;
+use query_text::reader::read_query;
+use query_text::truth::Truth;
 ghost use mathlib.Core.Path.{_≡_};
 ghost use Prim.Native.Nat.{_<_};
 ghost use Rattle.key.specs.Rank.{rank};
@@ -17,7 +19,8 @@ ghost use Rattle.key.specs.Range.{halfOpen};
 ghost use Rattle.outcomes.specs.Stored.{lent, Sound};
 ghost use Rattle.lists.specs.Lists.{wrote};
 ghost use Rattle.query.specs.InnerColumns.{columns};
-ghost use Rattle.query.specs.Answers.{queried, querying, Known, WritesAll};
+ghost use Rattle.query.specs.Answers.{queried, querying};
+ghost use Rattle.query.specs.InnerWritten.{Known, WritesAll};
 
 // What the table says in the window, counted first and then written.
 fn found(
@@ -51,7 +54,7 @@ fn found(
         values_b,
         start,
     );
-    let n = query_walk::count(
+    let n = written::count(
         count_a,
         starts_a,
         ends_a,
@@ -67,7 +70,7 @@ fn found(
     if shorter(out_starts.len(), out_ends.len()) < n {
         return Counted::Refused(TOO_SHORT);
     }
-    Counted::Count(query_walk::write(
+    Counted::Count(written::write(
         count_a,
         starts_a,
         ends_a,
@@ -108,7 +111,7 @@ pub fn query_unchecked(
     if start >= end {
         return Counted::Refused(EMPTY_RANGE);
     }
-    let Reading::Got(_, t) = query_read::query(bytes) else {
+    let Reading::Got(_, t) = read_query(bytes) else {
         return Counted::Refused(BAD_QUERY);
     };
     found(

@@ -10,8 +10,8 @@ use Rattle.key.proofs.Laws.{tests}
 use Rattle.key.specs.Range.{halfOpen}
 use Rattle.outcomes.specs.Stored.{stored, ranges}
 use Rattle.outcomes.specs.Outcomes.{yesNo}
-use Rattle.query_form.specs.Reader.{queryOf}
-use Rattle.query_read.proofs.Parts.{as-got, as-bad}
+use Rattle.query_text.specs.Reader.{queryOf}
+use Rattle.query_text.proofs.Parts.{as-got, as-bad}
 use Rattle.query.specs.Answers.{queriedAt}
 use Rattle.query.proofs.Glue.{says-truth, before-window, behind-window, in-window}
 use Rattle.query.proofs.instant.query_at_unchecked.Statement.{statement}
@@ -23,8 +23,8 @@ returns c =
     let s = c .before .before .before .before in
     rw (le-ltb (rank (s .args .start)) (rank (s .args .end)) (omega (arith, tests))) refl
 
-query-requires : tie.Need-query-requires
-query-requires c κs = search needs
+read-query-requires : tie.Need-read-query-requires
+read-query-requires c κs = search needs
 
 enum-known-t : tie.Need-enum-known-t
 enum-known-t c = search needs
@@ -37,7 +37,7 @@ unfolding queriedAt
 returns-2 c =
     let at-query = c .before .before in
     let s = at-query .before .before .before .before .before in
-    let e = as-bad (s .args .bytes .now) 0 (queryOf (s .args .bytes .now)) (c .enum-told .given .1) (at-query .query .ensures) in
+    let e = as-bad (s .args .bytes .now) 0 (queryOf (s .args .bytes .now)) (c .enum-told .given .1) (at-query .read-query .ensures) in
     rw (lt-ltb (rank (s .args .start)) (rank (s .args .end)) (omega (arith, tests)), e) refl
 
 returns-3 : tie.Need-returns-3
@@ -47,7 +47,7 @@ returns-3 c =
     let at-query = at-t .before .before in
     let s = at-query .before .before .before .before .before in
     let a = s .args in
-    let f = as-got (a .bytes .now) 0 (queryOf (a .bytes .now)) (at-t .t .given .1) (at-query .query .ensures) in
+    let f = as-got (a .bytes .now) 0 (queryOf (a .bytes .now)) (at-t .t .given .1) (at-query .read-query .ensures) in
     let out : rank (a .key) < rank (a .start) = omega (arith, tests, c .if2 .taken) in
     rw (lt-ltb (rank (a .start)) (rank (a .end)) (omega (arith, tests, at-query .before .if1 .left)), f .is, before-window) refl
 
@@ -58,7 +58,7 @@ returns-4 c =
     let at-query = at-t .before .before in
     let s = at-query .before .before .before .before .before in
     let a = s .args in
-    let f = as-got (a .bytes .now) 0 (queryOf (a .bytes .now)) (at-t .t .given .1) (at-query .query .ensures) in
+    let f = as-got (a .bytes .now) 0 (queryOf (a .bytes .now)) (at-t .t .given .1) (at-query .read-query .ensures) in
     let out : rank (a .end) ≤ rank (a .key) = omega (arith, tests, c .if3 .taken) in
     rw (lt-ltb (rank (a .start)) (rank (a .end)) (omega (arith, tests, at-query .before .if1 .left)), f .is, behind-window) refl
 
@@ -74,7 +74,7 @@ returns-5 c =
     let at-query = at-t .before .before in
     let s = at-query .before .before .before .before .before in
     let a = s .args in
-    let f = as-got (a .bytes .now) 0 (queryOf (a .bytes .now)) (at-t .t .given .1) (at-query .query .ensures) in
+    let f = as-got (a .bytes .now) 0 (queryOf (a .bytes .now)) (at-t .t .given .1) (at-query .read-query .ensures) in
     let told = rw (toZ-ofZ (s .fits .key)) at (c .told .ensures) in
     let within : rank (a .start) ≤ rank (a .key) = omega (arith, tests, c .before .before .if2 .left) in
     let inside : rank (a .key) < rank (a .end) = omega (arith, tests, c .before .if3 .left) in
@@ -84,4 +84,4 @@ returns-5 c =
     rw (lt-ltb (rank (a .start)) (rank (a .end)) (omega arith), f .is, in-window) (told ∙ ap yesNo t)
 
 pub query-at-unchecked-spec : {M : Type 1} → statement M
-query-at-unchecked-spec = tie.close (tie.spec returns query-requires enum-known-t enum-told returns-2 returns-3 returns-4 told-requires returns-5)
+query-at-unchecked-spec = tie.close (tie.spec returns read-query-requires enum-known-t enum-told returns-2 returns-3 returns-4 told-requires returns-5)

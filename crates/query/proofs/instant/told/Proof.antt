@@ -8,7 +8,7 @@ use Rattle.key.specs.Rank.{rank}
 use Rattle.key.specs.Range.{halfOpen}
 use Rattle.outcomes.specs.Stored.{stored, ranges}
 use Rattle.outcomes.specs.Outcomes.{yesNo}
-use Rattle.query_walk.specs.Standing.{saysAt}
+use Rattle.query.specs.InnerWalk.{saysAt}
 use Rattle.query.proofs.instant.told.Statement.{statement}
 use Rattle.query.proofs.instant.told.Tie as tie
 

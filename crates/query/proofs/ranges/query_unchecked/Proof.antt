@@ -8,8 +8,8 @@ use borrow.Author.Needs.{needs}
 use Rattle.key.specs.Rank.{rank}
 use Rattle.key.proofs.Laws.{tests}
 use Rattle.outcomes.specs.Stored.{stored}
-use Rattle.query_form.specs.Reader.{queryOf}
-use Rattle.query_read.proofs.Parts.{as-got, as-bad}
+use Rattle.query_text.specs.Reader.{queryOf}
+use Rattle.query_text.proofs.Parts.{as-got, as-bad}
 use Rattle.query.specs.Answers.{resultOf, queried}
 use Rattle.query.proofs.Glue.{result-comes}
 use Rattle.query.proofs.ranges.query_unchecked.Statement.{statement}
@@ -21,8 +21,8 @@ returns c =
     let s = c .before .before .before .before in
     rw (le-ltb (rank (s .args .start)) (rank (s .args .end)) (omega (arith, tests))) refl
 
-query-requires : tie.Need-query-requires
-query-requires c κs = search needs
+read-query-requires : tie.Need-read-query-requires
+read-query-requires c κs = search needs
 
 enum-known-t : tie.Need-enum-known-t
 enum-known-t c = search needs
@@ -35,7 +35,7 @@ unfolding queried
 returns-2 c =
     let at-query = c .before .before in
     let s = at-query .before .before .before .before .before in
-    let e = as-bad (s .args .bytes .now) 0 (queryOf (s .args .bytes .now)) (c .enum-told .given .1) (at-query .query .ensures) in
+    let e = as-bad (s .args .bytes .now) 0 (queryOf (s .args .bytes .now)) (c .enum-told .given .1) (at-query .read-query .ensures) in
     rw (lt-ltb (rank (s .args .start)) (rank (s .args .end)) (omega (arith, tests)), e) refl
 
 found-requires : tie.Need-found-requires
@@ -46,7 +46,7 @@ found-requires c κs =
     let s = at-if1 .before .before .before .before in
     let m = stored (s .args .count-a) (s .args .starts-a .now) (s .args .ends-a .now) (s .args .values-a .now) in
     let n = stored (s .args .count-b) (s .args .starts-b .now) (s .args .ends-b .now) (s .args .values-b .now) in
-    let f = as-got (s .args .bytes .now) 0 (queryOf (s .args .bytes .now)) (at-t .t .given .1) (at-query .query .ensures) in
+    let f = as-got (s .args .bytes .now) 0 (queryOf (s .args .bytes .now)) (at-t .t .given .1) (at-query .read-query .ensures) in
     let lt : rank (s .args .start) < rank (s .args .end) = omega (arith, tests, at-if1 .if1 .left) in
     let g = result-comes m n (s .pre .0) (s .pre .1) (rank (s .args .start)) (rank (s .args .end)) lt (s .args .bytes .now) (f .query) _ (f .is) _ (f .table) in
     rw (toZ-ofZ (s .fits .start), toZ-ofZ (s .fits .end))
@@ -68,7 +68,7 @@ returns-3 c =
     let s = at-if1 .before .before .before .before in
     let m = stored (s .args .count-a) (s .args .starts-a .now) (s .args .ends-a .now) (s .args .values-a .now) in
     let n = stored (s .args .count-b) (s .args .starts-b .now) (s .args .ends-b .now) (s .args .values-b .now) in
-    let f = as-got (s .args .bytes .now) 0 (queryOf (s .args .bytes .now)) (at-t .t .given .1) (at-query .query .ensures) in
+    let f = as-got (s .args .bytes .now) 0 (queryOf (s .args .bytes .now)) (at-t .t .given .1) (at-query .read-query .ensures) in
     let lt : rank (s .args .start) < rank (s .args .end) = omega (arith, tests, at-if1 .if1 .left) in
     let g = result-comes m n (s .pre .0) (s .pre .1) (rank (s .args .start)) (rank (s .args .end)) lt (s .args .bytes .now) (f .query) _ (f .is) _ (f .table) in
     let v = rw (toZ-ofZ (s .fits .start), toZ-ofZ (s .fits .end)) at (at-found .found .ensures) in
@@ -79,7 +79,7 @@ query-unchecked-spec =
     tie.close
     (tie.spec
     returns
-    query-requires
+    read-query-requires
     enum-known-t
     enum-told
     returns-2
