@@ -2,11 +2,11 @@
 use Prim.Native.Nat.{ℕ, _+_, _-_, _≤_, _<_}
 use native.Mathlib.Numerals.{add-one}
 use mathlib.Core.Path.{_≡_, refl, sym, ap, _∙_}
-use mathlib.Core.Bool.{Bool, true, false, _&&_}
+use mathlib.Core.Bool.{true, false, _&&_}
 use mathlib.Core.List.{List, [], _∷_}
 use native.Mathlib.Omega.{arith}
 use borrow.Author.Tests.{leb-true, le-leb, lt-leb}
-use lib.Dec.{eqb, leb}
+use lib.Dec.{leb}
 use lib.ListN.{length, drop, getD, drop-of-length-le}
 use lib.Seq.{drop-cons}
 use Rattle.query_text.specs.Grammar.{Query, first, second, sum, limit, longest}
@@ -43,25 +43,17 @@ digit-is : (make : ℕ → Query) (bytes : List ℕ) (i : ℕ) → DigitAt bytes
 unfolding digit
 digit-is make bytes i d = rw (drop-cons bytes i 0 (d .inside), le-leb 48 (getD bytes i 0) (d .low), le-leb (getD bytes i 0) 57 (d .high), add-one i) refl
 
-pub digit-found : (make : ℕ → Query) (f : ℕ → ℕ → ℕ → Bool) → ((d a b : ℕ) → classTruth (make d) a b ≡ f d a b) → (bytes : List ℕ) (c z : Cursor) (v : ℕ) (t : Truth)
-    → DigitAt bytes (c .at) → z ≡ cursor (c .at + 1) (c .marks) → v ≡ getD bytes (c .at) 0 - 48 → Shows t (f v) → Finds bytes (c .marks) (digit make (drop (c .at) bytes)) z t
-digit-found make f means bytes c z v t d e i s =
+pub digit-found : (make : ℕ → Query) (bytes : List ℕ) (c z : Cursor) (v : ℕ) (t : Truth)
+    → DigitAt bytes (c .at) → z ≡ cursor (c .at + 1) (c .marks) → v ≡ getD bytes (c .at) 0 - 48 → Shows t (classTruth (make v)) → Finds bytes (c .marks) (digit make (drop (c .at) bytes)) z t
+digit-found make bytes c z v t d e i s =
     let at : z .at ≡ c .at + 1 = ap (λ (y : Cursor). y .at) e in
     record {
       query = make (getD bytes (c .at) 0 - 48);
       is = digit-is make bytes (c .at) d ∙ rw at refl;
       inside = omega (arith, d .inside);
       back = ap (λ (y : Cursor). y .marks) e;
-      table = λ a b ha hb. s a b ha hb ∙ sym (means v a b) ∙ ap (λ (x : ℕ). classTruth (make x) a b) i;
+      table = λ a b ha hb. s a b ha hb ∙ ap (λ (x : ℕ). classTruth (make x) a b) i;
     }
-
-pub first-means : (d a b : ℕ) → classTruth (first d) a b ≡ eqb a d
-unfolding classTruth
-first-means d a b = refl
-
-pub second-means : (d a b : ℕ) → classTruth (second d) a b ≡ eqb b d
-unfolding classTruth
-second-means d a b = refl
 
 pub atom-first : (bytes : List ℕ) (c z : Cursor) (r : Reading) → starts 65 (drop (c .at) bytes) ≡ true → z ≡ cursor (c .at + 1) (c .marks)
     → ReadAs bytes (z .marks) (digit first (drop (z .at) bytes)) r → ReadAs bytes (c .marks) (atom (drop (c .at) bytes)) r

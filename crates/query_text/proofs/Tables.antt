@@ -10,6 +10,8 @@ use lib.Dec.{eqb}
 use lib.ListN.{getD}
 use borrow.Author.Tests.{lt-ltb, le-ltb}
 use Rattle.query_text.proofs.Cases.{both-true}
+use Rattle.query_text.specs.Grammar.{first, second}
+use Rattle.query_text.specs.InnerClasses.{classTruth}
 use Rattle.query_text.specs.InnerTable.{isOne}
 use Rattle.query_text.specs.InnerTable.{says, Shows}
 use Rattle.query_text.specs.declared.truth.Truth.{Truth}
@@ -97,10 +99,10 @@ high-seconds =
     70403120701444 ∷ 140806241402888 ∷ 281612482805776 ∷ 563224965611552 ∷ 1126449931223104 ∷ 2252899862446208
     ∷ 4505799724892416 ∷ 9011599449784832 ∷ 18023198899569664 ∷ 36046397799139329 ∷ []
 
-pub first-shows : (d : ℕ) → d < 10 → Shows (table (getD low-firsts d 0) (getD high-firsts d 0)) (λ a b. eqb a d)
-unfolding shown says isOne
+pub first-shows : (d : ℕ) → d < 10 → Shows (table (getD low-firsts d 0) (getD high-firsts d 0)) (classTruth (first d))
+unfolding shown says isOne classTruth
 first-shows d h = shown-at low-firsts high-firsts (λ d a b. eqb a d) refl d h
 
-pub second-shows : (d : ℕ) → d < 10 → Shows (table (getD low-seconds d 0) (getD high-seconds d 0)) (λ a b. eqb b d)
-unfolding shown says isOne
+pub second-shows : (d : ℕ) → d < 10 → Shows (table (getD low-seconds d 0) (getD high-seconds d 0)) (classTruth (second d))
+unfolding shown says isOne classTruth
 second-shows d h = shown-at low-seconds high-seconds (λ d a b. eqb b d) refl d h

@@ -1,6 +1,6 @@
 -- What a map holds at an instant, by its class: no digit of a query tells apart what is none, or over 9. A law says that the class is enough (`by-class`).
 use Prim.Native.Nat.{ℕ, min}
-use mathlib.Core.Bool.{Bool, _&&_, _||_, not}
+use mathlib.Core.Bool.{Bool, true, false, _&&_, _||_, not}
 use mathlib.Core.Option.{Option, some, none}
 use lib.Dec.{eqb}
 use Rattle.query_text.specs.Grammar.{Query, first, second, no, both, either}
@@ -9,6 +9,11 @@ use Rattle.query_text.specs.Grammar.{Query, first, second, no, both, eit
 abbrev pub classOf : Option ℕ → ℕ
 classOf none = 10
 classOf (some v) = min v 10
+
+-- the atom of a digit: of the second map, or else of the first
+abbrev pub atomOf : Bool → ℕ → Query
+atomOf true = second
+atomOf false = first
 
 -- is the query true of two classes
 unfoldable pub classTruth : Query → ℕ → ℕ → Bool

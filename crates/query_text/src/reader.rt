@@ -4,8 +4,9 @@ use crate::cursor::Cursor;
 use crate::truth::Truth;
 ghost use Prim.Native.Nat.{_-_, _≤_, _<_};
 ghost use lib.ListN.{length, drop};
-ghost use Rattle.query_text.specs.Grammar.{first, second, limit, factor as Level·factor, term as Level·term, sum as Level·sum};
+ghost use Rattle.query_text.specs.Grammar.{limit, factor as Level·factor, term as Level·term, sum as Level·sum};
 ghost use Rattle.query_text.specs.Reader.{digit, atom as Reader·atom, queryOf};
+ghost use Rattle.query_text.specs.InnerClasses.{atomOf};
 ghost use Rattle.query_text.specs.InnerCursor.{Placed};
 ghost use Rattle.query_text.specs.InnerReading.{ReadAs, here, negation, grouping};
 
@@ -15,26 +16,15 @@ pub enum Reading {
     Bad,
 }
 
-// A digit: the first map holds it.
-fn in_first(bytes: &[u8], c: Cursor) -> Reading
+// A digit: the second map holds it, or else the first.
+fn holding(bytes: &[u8], c: Cursor, second: bool) -> Reading
     requires { ⌜ c .at ≤ length (now bytes) ⌝ }
-    ensures { λ r. ⌜ ReadAs (now (bytes .entry)) (c .marks) (digit first (drop (c .at) (now (bytes .entry)))) r ⌝ }
+    ensures { λ r. ⌜ ReadAs (now (bytes .entry)) (c .marks) (digit (atomOf second) (drop (c .at) (now (bytes .entry)))) r ⌝ }
 {
     if !c.sees_digit(bytes) {
         return Reading::Bad;
     }
-    Reading::Got(c.next(), Truth::first(c.digit(bytes)))
-}
-
-// A digit: the second map holds it.
-fn in_second(bytes: &[u8], c: Cursor) -> Reading
-    requires { ⌜ c .at ≤ length (now bytes) ⌝ }
-    ensures { λ r. ⌜ ReadAs (now (bytes .entry)) (c .marks) (digit second (drop (c .at) (now (bytes .entry)))) r ⌝ }
-{
-    if !c.sees_digit(bytes) {
-        return Reading::Bad;
-    }
-    Reading::Got(c.next(), Truth::second(c.digit(bytes)))
+    Reading::Got(c.next(), Truth::atom(second, c.digit(bytes)))
 }
 
 // A or B, then a digit.
@@ -43,10 +33,10 @@ fn atom(bytes: &[u8], c: Cursor) -> Reading
     ensures { λ r. ⌜ ReadAs (now (bytes .entry)) (c .marks) (Reader·atom (drop (c .at) (now (bytes .entry)))) r ⌝ }
 {
     if c.sees(bytes, b'A') {
-        return in_first(bytes, c.next());
+        return holding(bytes, c.next(), false);
     }
     if c.sees(bytes, b'B') {
-        return in_second(bytes, c.next());
+        return holding(bytes, c.next(), true);
     }
     Reading::Bad
 }

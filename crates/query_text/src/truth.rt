@@ -4,7 +4,7 @@ ghost use mathlib.Core.Path.{_≡_};
 ghost use mathlib.Core.Bool.{_&&_, _||_};
 ghost use mathlib.Core.Bool.{not as Bool·not};
 ghost use Prim.Native.Nat.{_≤_, _<_};
-ghost use lib.Dec.{eqb};
+ghost use Rattle.query_text.specs.InnerClasses.{atomOf, classTruth};
 ghost use Rattle.query_text.specs.InnerTable.{isOne, says as Table·says, Shows};
 
 pub struct Truth {
@@ -65,25 +65,20 @@ const HIGH_SECONDS: [u64; 10] = [
 ];
 
 impl Truth {
-    // The first map holds a digit.
-    pub fn first(digit: usize) -> Self
+    // A map holds a digit: the second, or else the first.
+    pub fn atom(second: bool, digit: usize) -> Self
         requires { ⌜ digit < 10 ⌝ }
-        ensures { λ r. ⌜ Shows r (λ a b. eqb a digit) ⌝ }
+        ensures { λ r. ⌜ Shows r (classTruth (atomOf second digit)) ⌝ }
     {
+        if second {
+            return Truth {
+                low: LOW_SECONDS[digit],
+                high: HIGH_SECONDS[digit],
+            };
+        }
         Truth {
             low: LOW_FIRSTS[digit],
             high: HIGH_FIRSTS[digit],
-        }
-    }
-
-    // The second map holds a digit.
-    pub fn second(digit: usize) -> Self
-        requires { ⌜ digit < 10 ⌝ }
-        ensures { λ r. ⌜ Shows r (λ a b. eqb b digit) ⌝ }
-    {
-        Truth {
-            low: LOW_SECONDS[digit],
-            high: HIGH_SECONDS[digit],
         }
     }
 

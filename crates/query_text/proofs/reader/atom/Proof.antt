@@ -14,8 +14,8 @@ sees-requires c κs = search needs
 next-requires : tie.Need-next-requires
 next-requires c κs = search needs
 
-in-first-requires : tie.Need-in-first-requires
-in-first-requires c κs =
+holding-requires : tie.Need-holding-requires
+holding-requires c κs =
     let at-sees = c .before .before in
     let s = at-sees .before .before in
     let bytes = s .args .bytes .now in
@@ -31,8 +31,8 @@ returns c =
     let s = at-sees .before .before in
     let bytes = s .args .bytes .now in
     let c₀ = s .args .c in
-    atom-first bytes c₀ (c .before .next .result) (c .in-first .result) (sym (at-sees .sees .ensures) ∙ at-if1 .if1 .taken) (c .before .next .ensures)
-    (c .in-first .ensures)
+    atom-first bytes c₀ (c .before .next .result) (c .holding .result) (sym (at-sees .sees .ensures) ∙ at-if1 .if1 .taken) (c .before .next .ensures)
+    (c .holding .ensures)
 
 sees-requires-2 : tie.Need-sees-requires-2
 sees-requires-2 c κs = search needs
@@ -40,8 +40,8 @@ sees-requires-2 c κs = search needs
 next-requires-2 : tie.Need-next-requires-2
 next-requires-2 c κs = search needs
 
-in-second-requires : tie.Need-in-second-requires
-in-second-requires c κs =
+holding-requires-2 : tie.Need-holding-requires-2
+holding-requires-2 c κs =
     let at-sees2 = c .before .before in
     let s = at-sees2 .before .before .before .before in
     let bytes = s .args .bytes .now in
@@ -59,8 +59,8 @@ returns-2 c =
     let s = at-sees .before .before in
     let bytes = s .args .bytes .now in
     let c₀ = s .args .c in
-    atom-second bytes c₀ (c .before .next2 .result) (c .in-second .result) (sym (at-sees .sees .ensures) ∙ at-if1 .if1 .left)
-    (sym (at-sees2 .sees2 .ensures) ∙ at-if2 .if2 .taken) (c .before .next2 .ensures) (c .in-second .ensures)
+    atom-second bytes c₀ (c .before .next2 .result) (c .holding2 .result) (sym (at-sees .sees .ensures) ∙ at-if1 .if1 .left)
+    (sym (at-sees2 .sees2 .ensures) ∙ at-if2 .if2 .taken) (c .before .next2 .ensures) (c .holding2 .ensures)
 
 returns-3 : tie.Need-returns-3
 returns-3 c =
@@ -77,10 +77,10 @@ atom-spec =
     (tie.spec
     sees-requires
     next-requires
-    in-first-requires
+    holding-requires
     returns
     sees-requires-2
     next-requires-2
-    in-second-requires
+    holding-requires-2
     returns-2
     returns-3)

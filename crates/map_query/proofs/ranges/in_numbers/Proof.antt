@@ -1,11 +1,11 @@
--- `query::numbers::query` meets its contract.
+-- `map_query::ranges::in_numbers` meets its contract.
 use mathlib.Core.Path.{ap, _∙_}
 use mir.Facts.{toZ-ofZ}
 use borrow.Author.Needs.{needs}
 use Rattle.outcomes.specs.Numbers.{countOf}
 use Rattle.outcomes.specs.Outcomes.{Written}
-use Rattle.query.proofs.numbers.query.Statement.{statement}
-use Rattle.query.proofs.numbers.query.Tie as tie
+use Rattle.map_query.proofs.ranges.in_numbers.Statement.{statement}
+use Rattle.map_query.proofs.ranges.in_numbers.Tie as tie
 
 query-requires : tie.Need-query-requires
 query-requires c κs = search needs
@@ -30,5 +30,5 @@ returns c =
       ends-are = ap (λ (x : Written). x .ends) w;
     }
 
-pub query-spec : {M : Type 1} → statement M
-query-spec = tie.close (tie.spec query-requires count-of-requires same-length same-length-2 returns)
+pub in-numbers-spec : {M : Type 1} → statement M
+in-numbers-spec = tie.close (tie.spec query-requires count-of-requires same-length same-length-2 returns)

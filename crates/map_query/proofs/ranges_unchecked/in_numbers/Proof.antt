@@ -1,11 +1,11 @@
--- `query::numbers::query_unchecked` meets its contract.
+-- `map_query::ranges_unchecked::in_numbers` meets its contract.
 use mathlib.Core.Path.{ap, _∙_}
 use mir.Facts.{toZ-ofZ}
 use borrow.Author.Needs.{needs}
 use Rattle.outcomes.specs.Numbers.{countOf}
 use Rattle.outcomes.specs.Outcomes.{Written}
-use Rattle.query.proofs.numbers.query_unchecked.Statement.{statement}
-use Rattle.query.proofs.numbers.query_unchecked.Tie as tie
+use Rattle.map_query.proofs.ranges_unchecked.in_numbers.Statement.{statement}
+use Rattle.map_query.proofs.ranges_unchecked.in_numbers.Tie as tie
 
 query-unchecked-requires : tie.Need-query-unchecked-requires
 query-unchecked-requires c κs = search needs
@@ -30,5 +30,5 @@ returns c =
       ends-are = ap (λ (x : Written). x .ends) w;
     }
 
-pub query-unchecked-spec : {M : Type 1} → statement M
-query-unchecked-spec = tie.close (tie.spec query-unchecked-requires count-of-requires same-length same-length-2 returns)
+pub in-numbers-spec : {M : Type 1} → statement M
+in-numbers-spec = tie.close (tie.spec query-unchecked-requires count-of-requires same-length same-length-2 returns)

@@ -1,10 +1,10 @@
--- `query::numbers::query_at` meets its contract.
+-- `map_query::instant::in_numbers` meets its contract.
 use mathlib.Core.Path.{ap, _∙_}
 use mir.Facts.{toZ-ofZ}
 use borrow.Author.Needs.{needs}
 use Rattle.outcomes.specs.Numbers.{toldOf}
-use Rattle.query.proofs.numbers.query_at.Statement.{statement}
-use Rattle.query.proofs.numbers.query_at.Tie as tie
+use Rattle.map_query.proofs.instant.in_numbers.Statement.{statement}
+use Rattle.map_query.proofs.instant.in_numbers.Tie as tie
 
 query-at-requires : tie.Need-query-at-requires
 query-at-requires c κs = search needs
@@ -15,5 +15,5 @@ told-of-requires c κs = search needs
 returns : tie.Need-returns
 returns c = let s = c .before .before .before in c .told-of .ensures ∙ ap toldOf (rw (toZ-ofZ (s .fits .start), toZ-ofZ (s .fits .end), toZ-ofZ (s .fits .key)) at (c .before .query-at .ensures))
 
-pub query-at-spec : {M : Type 1} → statement M
-query-at-spec = tie.close (tie.spec query-at-requires told-of-requires returns)
+pub in-numbers-spec : {M : Type 1} → statement M
+in-numbers-spec = tie.close (tie.spec query-at-requires told-of-requires returns)
