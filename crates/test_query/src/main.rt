@@ -7,6 +7,8 @@ use key::RangeKind;
 use outcomes::Count;
 use outcomes::PLACES;
 use outcomes::Told;
+use outcomes::count_of;
+use outcomes::told_of;
 use test_text::print;
 use test_text::print_key;
 use test_text::print_list;
@@ -217,7 +219,7 @@ fn list<'a, 'b>(
 ) {
     let mut out_starts = [0i64; 4];
     let mut out_ends = [0i64; 4];
-    print_count(query::numbers::query(
+    let listed = query::ranges::query(
         count_a,
         starts_a,
         ends_a,
@@ -231,7 +233,8 @@ fn list<'a, 'b>(
         bytes,
         &mut out_starts,
         &mut out_ends,
-    ));
+    );
+    print_count(count_of(listed));
     print_list(RangeKind::HalfOpen, &out_starts, &out_ends);
 }
 
@@ -255,7 +258,7 @@ fn show_list(a: Map, b: Map, start: i64, end: i64, bytes: &[u8]) {
 }
 
 fn at(a: Map, b: Map, start: i64, end: i64, bytes: &[u8], key: i64) -> Told {
-    query::numbers::query_at(
+    told_of(query::instant::query_at(
         &a.count,
         &a.starts,
         &a.ends,
@@ -268,7 +271,7 @@ fn at(a: Map, b: Map, start: i64, end: i64, bytes: &[u8], key: i64) -> Told {
         end,
         bytes,
         key,
-    )
+    ))
 }
 
 fn show_at(a: Map, b: Map, start: i64, end: i64, bytes: &[u8], key: i64) {
