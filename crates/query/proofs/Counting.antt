@@ -59,7 +59,8 @@ module _ (t : Truth) (xs ys : List Span) (e : ℕ) where
   nothing-at r le h = elim (decLt (rank (r .key)) e) [ yes q ↦ no-there (rank (r .key)) q (h q) | no q ↦ no-more (rank (r .key)) (omega arith) ]
 
   -- from an edge to the next is the first span
-  pub one-more : (p : ℕ) (s r : Walk) (zs : List Span) → Edges t xs ys p e true s → rank (s .key) < e → Edges t xs ys (rank (s .key)) e false r → ToCome t xs ys p e zs
+  pub one-more : (p : ℕ) (s r : Walk) (zs : List Span) → Edges t xs ys p e true s → rank (s .key) < e → Edges t xs ys (rank (s .key)) e false r
+      → ToCome t xs ys p e zs
       → Taken (rank (s .key)) (rank (r .key)) (trueBefore t xs ys e) zs
   one-more p s r zs d h g c =
       take-first (rank (s .key)) (rank (r .key)) (trueBefore t xs ys e) zs (grows s r (d .there h) h g)

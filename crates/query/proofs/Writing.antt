@@ -23,7 +23,8 @@ module _ (t : Truth) (xs ys : List Span) (e : ℕ) (os oe : List ℤ) where
     puts = λ zs c. let z = none-left t xs ys e p s zs d h c in rw z (record { starts = refl; ends = refl });
   }
 
-  module _ (p n : ℕ) (s r : Walk) (d : Edges t xs ys p e true s) (h : rank (s .key) < e) (g : Edges t xs ys (rank (s .key)) e false r) (f : Fits t xs ys p e n os oe) where
+  module _ (p n : ℕ) (s r : Walk) (d : Edges t xs ys p e true s) (h : rank (s .key) < e) (g : Edges t xs ys (rank (s .key)) e false r)
+      (f : Fits t xs ys p e n os oe) where
     abbrev got : Taken (rank (s .key)) (rank (r .key)) (trueBefore t xs ys e) (f .list)
     got = one-more t xs ys e p s r (f .list) d h g (f .to-come)
 
@@ -71,7 +72,8 @@ module _ (t : Truth) (xs ys : List Span) (e : ℕ) where
     puts = λ zs c. w .puts zs (come-to t xs ys e p s zs d c);
   }
 
-  pub underway-first : (p : ℕ) (s : Walk) (os oe : List ℤ) → Edges t xs ys p e true s → Fits t xs ys p e 0 os oe → Underway t xs ys (rank (s .key)) e os oe os oe 0 s
+  pub underway-first : (p : ℕ) (s : Walk) (os oe : List ℤ) → Edges t xs ys p e true s → Fits t xs ys p e 0 os oe
+      → Underway t xs ys (rank (s .key)) e os oe os oe 0 s
   underway-first p s os oe d f = record {
     edge = at-edge t xs ys e p s d;
     fits = fits-to p 0 s os oe d f;
@@ -89,8 +91,10 @@ module _ (t : Truth) (xs ys : List Span) (e : ℕ) where
       same-starts = ap length a ∙ simp length-set (u .same-starts);
       same-ends = ap length b ∙ simp length-set (u .same-ends);
       rest = λ k os₂ oe₂ w. u .rest k os₂ oe₂
-          (writes-more t xs ys e os oe (rank (s .key)) n s r (u .edge) h g (u .fits) os₁ oe₁ a b k os₂ oe₂ (writes-to (rank (r .key)) (n + 1) z os₁ oe₁ k os₂ oe₂ d w));
+          (writes-more t xs ys e os oe (rank (s .key)) n s r (u .edge) h g (u .fits) os₁ oe₁ a b k os₂ oe₂
+          (writes-to (rank (r .key)) (n + 1) z os₁ oe₁ k os₂ oe₂ d w));
     }
 
-  pub underway-all : (p n : ℕ) (s : Walk) (os₀ oe₀ os oe : List ℤ) → Underway t xs ys p e os₀ oe₀ os oe n s → e ≤ rank (s .key) → Writes t xs ys p e 0 os₀ oe₀ n os oe
+  pub underway-all : (p n : ℕ) (s : Walk) (os₀ oe₀ os oe : List ℤ) → Underway t xs ys p e os₀ oe₀ os oe n s → e ≤ rank (s .key)
+      → Writes t xs ys p e 0 os₀ oe₀ n os oe
   underway-all p n s os₀ oe₀ os oe u h = u .rest n os oe (writes-none t xs ys e os oe (rank (s .key)) n s (u .edge) h)

@@ -85,7 +85,8 @@ pub fn query_at_unchecked(
     key: i64,
 ) -> Asked
     requires { ⌜ Sound halfOpen (columns «count_a» «starts_a» «ends_a» «values_a») × Sound halfOpen (columns «count_b» «starts_b» «ends_b» «values_b») ⌝ }
-    ensures { λ r. ⌜ r ≡ queriedAt (columns «count_a» («starts_a» .entry) («ends_a» .entry) («values_a» .entry)) (columns «count_b» («starts_b» .entry) («ends_b» .entry) («values_b» .entry))
+    ensures { λ r. ⌜ r ≡ queriedAt (columns «count_a» («starts_a» .entry) («ends_a» .entry) («values_a» .entry))
+        (columns «count_b» («starts_b» .entry) («ends_b» .entry) («values_b» .entry))
         start end (now (bytes .entry)) key ⌝ }
 {
     if start >= end {

@@ -40,7 +40,8 @@ fn found(
 ) -> Counted
     requires { ⌜ Sound halfOpen (columns «count_a» «starts_a» «ends_a» «values_a») × Sound halfOpen (columns «count_b» «starts_b» «ends_b» «values_b»)
         × (rank start < rank end) × Known t (columns «count_a» «starts_a» «ends_a» «values_a») (columns «count_b» «starts_b» «ends_b» «values_b») start end ⌝ }
-    ensures { λ r. ⌜ WritesAll t (columns «count_a» («starts_a» .entry) («ends_a» .entry) («values_a» .entry)) (columns «count_b» («starts_b» .entry) («ends_b» .entry) («values_b» .entry))
+    ensures { λ r. ⌜ WritesAll t (columns «count_a» («starts_a» .entry) («ends_a» .entry) («values_a» .entry))
+        (columns «count_b» («starts_b» .entry) («ends_b» .entry) («values_b» .entry))
         start end (now («out_starts» .entry)) (now («out_ends» .entry)) (wrote r (now («out_starts» .exit)) (now («out_ends» .exit))) ⌝ }
 {
     let w = walk_at(
@@ -105,7 +106,8 @@ pub fn query_unchecked(
 ) -> Counted
     requires { ⌜ Sound halfOpen (columns «count_a» «starts_a» «ends_a» «values_a») × Sound halfOpen (columns «count_b» «starts_b» «ends_b» «values_b») ⌝ }
     ensures { λ r. ⌜ wrote r (now («out_starts» .exit)) (now («out_ends» .exit))
-        ≡ queried (columns «count_a» («starts_a» .entry) («ends_a» .entry) («values_a» .entry)) (columns «count_b» («starts_b» .entry) («ends_b» .entry) («values_b» .entry))
+        ≡ queried (columns «count_a» («starts_a» .entry) («ends_a» .entry) («values_a» .entry))
+        (columns «count_b» («starts_b» .entry) («ends_b» .entry) («values_b» .entry))
         start end (now (bytes .entry)) (now («out_starts» .entry)) (now («out_ends» .entry)) ⌝ }
 {
     if start >= end {
@@ -148,7 +150,8 @@ pub fn query<'a, 'b>(
     out_ends: &mut [i64],
 ) -> Counted
     ensures { λ r. ⌜ wrote r (now («out_starts» .exit)) (now («out_ends» .exit))
-        ≡ querying (lent («count_a» .entry) («starts_a» .entry) («ends_a» .entry) («values_a» .entry)) (lent («count_b» .entry) («starts_b» .entry) («ends_b» .entry) («values_b» .entry))
+        ≡ querying (lent («count_a» .entry) («starts_a» .entry) («ends_a» .entry) («values_a» .entry))
+        (lent («count_b» .entry) («starts_b» .entry) («ends_b» .entry) («values_b» .entry))
         start end (now (bytes .entry)) (now («out_starts» .entry)) (now («out_ends» .entry)) ⌝ }
 {
     if !are_formed(

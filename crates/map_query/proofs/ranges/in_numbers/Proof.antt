@@ -1,23 +1,23 @@
 -- `map_query::ranges::in_numbers` meets its contract.
+use native.Mathlib.Omega.{arith}
 use mathlib.Core.Path.{ap, _∙_}
 use mir.Facts.{toZ-ofZ}
-use borrow.Author.Needs.{needs}
 use Rattle.outcomes.specs.Numbers.{countOf}
 use Rattle.outcomes.specs.Outcomes.{Written}
 use Rattle.map_query.proofs.ranges.in_numbers.Statement.{statement}
 use Rattle.map_query.proofs.ranges.in_numbers.Tie as tie
 
 query-requires : tie.Need-query-requires
-query-requires c κs = search needs
+query-requires c κs = tt
 
 count-of-requires : tie.Need-count-of-requires
-count-of-requires c κs = search needs
+count-of-requires c κs = tt
 
 same-length : tie.Need-same-length
-same-length c = search needs
+same-length c = omega arith
 
 same-length-2 : tie.Need-same-length-2
-same-length-2 c = search needs
+same-length-2 c = omega arith
 
 returns : tie.Need-returns
 returns c =

@@ -24,7 +24,7 @@ returns c =
     rw (le-ltb (rank (s .args .start)) (rank (s .args .end)) (omega (arith, tests))) refl
 
 read-query-requires : tie.Need-read-query-requires
-read-query-requires c κs = search needs
+read-query-requires c κs = tt
 
 enum-known-t : tie.Need-enum-known-t
 enum-known-t c = search needs

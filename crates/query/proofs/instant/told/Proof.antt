@@ -3,7 +3,6 @@ use native.Mathlib.Omega.{arith}
 use native.Mathlib.Nat.{le-refl}
 use mathlib.Core.Path.{_≡_, sym, ap, _∙_}
 use mir.Facts.{toZ-ofZ}
-use borrow.Author.Needs.{needs}
 use Rattle.key.specs.Rank.{rank}
 use Rattle.key.specs.Range.{halfOpen}
 use Rattle.outcomes.specs.Stored.{stored, ranges}
@@ -13,7 +12,7 @@ use Rattle.query.proofs.instant.told.Statement.{statement}
 use Rattle.query.proofs.instant.told.Tie as tie
 
 walk-at-requires : tie.Need-walk-at-requires
-walk-at-requires c κs = search needs
+walk-at-requires c κs = let s = c .before .before in (s .pre .0, s .pre .1)
 
 -- the walk stands at the key
 at-key : (c : tie.After-walk-at) → c .walk-at .result .key ≡ c .before .before .before .args .key

@@ -2,14 +2,13 @@
 use native.Mathlib.Omega.{arith}
 use mathlib.Core.Path.{_≡_, _∙_}
 use mir.Facts.{toZ-ofZ}
-use borrow.Author.Needs.{needs}
 use Rattle.key.specs.Range.{halfOpen}
 use Rattle.lists.proofs.Answering.{answers-short, answers-done, enough}
 use Rattle.query.proofs.ranges.found.Statement.{statement}
 use Rattle.query.proofs.ranges.found.Tie as tie
 
 walk-at-requires : tie.Need-walk-at-requires
-walk-at-requires c κs = search needs
+walk-at-requires c κs = let s = c .before .before in (s .pre .0, s .pre .1)
 
 -- the walk stands at the window's start
 at-start : (c : tie.After-walk-at) → c .walk-at .result .key ≡ c .before .before .before .args .start
@@ -21,7 +20,7 @@ count-requires c κs =
     rw (toZ-ofZ (s .fits .end)) (s .pre .0, s .pre .1, c .walk-at .ensures .1, rw (at-start c) (omega (arith, s .pre .2)))
 
 shorter-requires : tie.Need-shorter-requires
-shorter-requires c κs = search needs
+shorter-requires c κs = tt
 
 returns : tie.Need-returns
 returns c =
@@ -51,15 +50,16 @@ write-requires c κs =
           (record {
             list = zs;
             to-come = s .pre .3 .to-come;
-            room = enough halfOpen zs (s .args .out-starts .now) (s .args .out-ends .now) (at-shorter .shorter .ensures) (omega (arith, few, at-if1 .if1 .left));
+            room = enough halfOpen zs (s .args .out-starts .now) (s .args .out-ends .now) (at-shorter .shorter .ensures)
+                (omega (arith, few, at-if1 .if1 .left));
           }),
     )
 
 same-length : tie.Need-same-length
-same-length c = search needs
+same-length c = omega arith
 
 same-length-2 : tie.Need-same-length-2
-same-length-2 c = search needs
+same-length-2 c = omega arith
 
 returns-2 : tie.Need-returns-2
 returns-2 c =

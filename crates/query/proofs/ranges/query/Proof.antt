@@ -1,7 +1,7 @@
 -- `query::ranges::query` meets its contract.
+use native.Mathlib.Omega.{arith}
 use mathlib.Core.Path.{sym, _∙_}
 use mir.Facts.{toZ-ofZ}
-use borrow.Author.Needs.{needs}
 use borrow.Author.Tests.{not-true, not-false}
 use Rattle.query.specs.Answers.{querying}
 use Rattle.query.proofs.ranges.query.Statement.{statement}
@@ -15,13 +15,14 @@ unfolding querying
 returns c = let asked = c .before .are-formed in rw (sym (asked .ensures .0) ∙ not-true (asked .result) (c .if1 .taken))
 
 query-unchecked-requires : tie.Need-query-unchecked-requires
-query-unchecked-requires c κs = let e = c .before .before .before .before .before .before .before .before in e .before .are-formed .ensures .1 (not-false (e .before .are-formed .result) (e .if1 .left))
+query-unchecked-requires c κs = let e = c .before .before .before .before .before .before .before .before in
+    e .before .are-formed .ensures .1 (not-false (e .before .are-formed .result) (e .if1 .left))
 
 same-length : tie.Need-same-length
-same-length c = search needs
+same-length c = omega arith
 
 same-length-2 : tie.Need-same-length-2
-same-length-2 c = search needs
+same-length-2 c = omega arith
 
 returns-2 : tie.Need-returns-2
 unfolding querying

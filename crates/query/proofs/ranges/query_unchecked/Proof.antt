@@ -22,7 +22,7 @@ returns c =
     rw (le-ltb (rank (s .args .start)) (rank (s .args .end)) (omega (arith, tests))) refl
 
 read-query-requires : tie.Need-read-query-requires
-read-query-requires c κs = search needs
+read-query-requires c κs = tt
 
 enum-known-t : tie.Need-enum-known-t
 enum-known-t c = search needs
@@ -53,10 +53,10 @@ found-requires c κs =
     (s .pre .0, s .pre .1, lt, record { list = resultOf m n (s .args .start) (s .args .end) (f .query); to-come = g })
 
 same-length : tie.Need-same-length
-same-length c = search needs
+same-length c = omega arith
 
 same-length-2 : tie.Need-same-length-2
-same-length-2 c = search needs
+same-length-2 c = omega arith
 
 returns-3 : tie.Need-returns-3
 unfolding queried

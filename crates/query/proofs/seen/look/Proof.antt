@@ -2,7 +2,6 @@
 use native.Mathlib.Omega.{arith}
 use native.Mathlib.Nat.{le-refl}
 use mathlib.Core.Path.{ap, _∙_}
-use borrow.Author.Needs.{needs}
 use Rattle.key.specs.Rank.{rank}
 use Rattle.key.proofs.Laws.{tests, rank-back, rank-lesser}
 use Rattle.outcomes.specs.Stored.{stored}
@@ -14,8 +13,10 @@ returns : tie.Need-returns
 returns c =
     let s = c .before .before in
     let m = stored (s .args .count) (s .args .starts .now) (s .args .ends .now) (s .args .values .now) in
-    simp rank-back
-    (look-none m (s .pre .0) (s .args .place) (rank (s .args .key)) (s .pre .1) (rank (s .args .end)) (c .if1 .taken) (s .pre .2), le-refl (rank (s .args .end)))
+    simp rank-back (
+      look-none m (s .pre .0) (s .args .place) (rank (s .args .key)) (s .pre .1) (rank (s .args .end)) (c .if1 .taken) (s .pre .2),
+      le-refl (rank (s .args .end)),
+    )
 
 mul-start : tie.Need-mul-start
 mul-start c =
@@ -30,7 +31,7 @@ shared-slice-copy-out-start c =
     omega (arith, held m (s .pre .0))
 
 min-requires : tie.Need-min-requires
-min-requires c κs = search needs
+min-requires c κs = tt
 
 returns-2 : tie.Need-returns-2
 returns-2 c =
@@ -38,8 +39,11 @@ returns-2 c =
     let s = at-if1 .before .before in
     let m = stored (s .args .count) (s .args .starts .now) (s .args .ends .now) (s .args .values .now) in
     let e = simp rank-back at (ap rank (c .min .ensures) ∙ rank-lesser _ _) in
-    simp rank-back
-    (look-before m (s .pre .0) (s .args .place) (rank (s .args .key)) (s .pre .1) (rank (c .min .result)) (at-if1 .if1 .left) (omega (arith, tests, s .pre .2)) (omega arith), omega arith)
+    simp rank-back (
+      look-before m (s .pre .0) (s .args .place) (rank (s .args .key)) (s .pre .1) (rank (c .min .result)) (at-if1 .if1 .left)
+          (omega (arith, tests, s .pre .2)) (omega arith),
+      omega arith,
+    )
 
 shared-slice-read-class-of : tie.Need-shared-slice-read-class-of
 shared-slice-read-class-of c =
@@ -48,7 +52,7 @@ shared-slice-read-class-of c =
     omega (arith, held m (s .pre .0), s .pre .0 .values-as)
 
 class-of-requires : tie.Need-class-of-requires
-class-of-requires c κs = search needs
+class-of-requires c κs = tt
 
 mul-min : tie.Need-mul-min
 mul-min c =
@@ -63,7 +67,7 @@ shared-slice-copy-out-min c =
     omega (arith, held m (s .pre .0), s .pre .0 .ends-as)
 
 min-requires-2 : tie.Need-min-requires-2
-min-requires-2 c κs = search needs
+min-requires-2 c κs = tt
 
 returns-3 : tie.Need-returns-3
 returns-3 c =

@@ -10,17 +10,17 @@ returns : tie.Need-returns
 returns c = search needs
 
 mul-if2 : tie.Need-mul-if2
-mul-if2 c = search needs
+mul-if2 c = omega arith
 
 shared-slice-copy-out-if2 : tie.Need-shared-slice-copy-out-if2
-shared-slice-copy-out-if2 c = search needs
+shared-slice-copy-out-if2 c = omega arith
 
 returns-2 : tie.Need-returns-2
 returns-2 c =
     record { last = λ h. absurd (omega arith); still = λ h q. refl; next = λ h q. absurd (omega (arith, tests)) }
 
 add-result : tie.Need-add-result
-add-result c = search needs
+add-result c = omega arith
 
 returns-3 : tie.Need-returns-3
 returns-3 c =

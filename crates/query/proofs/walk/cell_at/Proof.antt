@@ -20,7 +20,7 @@ look-requires-2 : tie.Need-look-requires-2
 look-requires-2 c κs = search needs
 
 min-requires : tie.Need-min-requires
-min-requires c κs = search needs
+min-requires c κs = tt
 
 passed-requires : tie.Need-passed-requires
 passed-requires c κs =

@@ -14,7 +14,8 @@ use Rattle.query.proofs.written.count.Tie as tie
 
 abbrev Inv-loop : tie.InvT-loop
 Inv-loop count-a starts-a ends-a values-a count-b starts-b ends-b values-b t end n₀ s₀ n s =
-    Counted t (ranges halfOpen (stored count-a starts-a ends-a values-a)) (ranges halfOpen (stored count-b starts-b ends-b values-b)) (rank (s₀ .key)) (bitRank end) n s
+    Counted t (ranges halfOpen (stored count-a starts-a ends-a values-a)) (ranges halfOpen (stored count-b starts-b ends-b values-b)) (rank (s₀ .key))
+    (bitRank end) n s
 
 abbrev μ-loop : tie.MeasureT-loop
 μ-loop count-a starts-a ends-a values-a count-b starts-b ends-b values-b t end n₀ s₀ n s = bitRank end - rank (s .key)

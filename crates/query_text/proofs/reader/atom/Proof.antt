@@ -1,7 +1,6 @@
 -- `query_text::reader::atom` meets its contract.
 use native.Mathlib.Omega.{arith}
 use mathlib.Core.Path.{sym, ap, _∙_}
-use borrow.Author.Needs.{needs}
 use Rattle.query_text.proofs.Bytes.{seen}
 use Rattle.query_text.specs.declared.cursor.Cursor.{Cursor}
 use Rattle.query_text.proofs.Atoms.{atom-first, atom-second, no-atom}
@@ -9,10 +8,10 @@ use Rattle.query_text.proofs.reader.atom.Statement.{statement}
 use Rattle.query_text.proofs.reader.atom.Tie as tie
 
 sees-requires : tie.Need-sees-requires
-sees-requires c κs = search needs
+sees-requires c κs = tt
 
 next-requires : tie.Need-next-requires
-next-requires c κs = search needs
+next-requires c κs = omega arith
 
 holding-requires : tie.Need-holding-requires
 holding-requires c κs =
@@ -35,10 +34,10 @@ returns c =
     (c .holding .ensures)
 
 sees-requires-2 : tie.Need-sees-requires-2
-sees-requires-2 c κs = search needs
+sees-requires-2 c κs = tt
 
 next-requires-2 : tie.Need-next-requires-2
-next-requires-2 c κs = search needs
+next-requires-2 c κs = omega arith
 
 holding-requires-2 : tie.Need-holding-requires-2
 holding-requires-2 c κs =

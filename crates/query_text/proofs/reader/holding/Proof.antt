@@ -1,7 +1,6 @@
 -- `query_text::reader::holding` meets its contract.
 use native.Mathlib.Omega.{arith}
 use mathlib.Core.Path.{sym, _∙_}
-use borrow.Author.Needs.{needs}
 use Rattle.query_text.specs.InnerClasses.{atomOf}
 use Rattle.query_text.proofs.Atoms.{no-digit, digit-at, digit-found}
 use Rattle.query_text.proofs.Parts.{was-false, was-true}
@@ -9,14 +8,15 @@ use Rattle.query_text.proofs.reader.holding.Statement.{statement}
 use Rattle.query_text.proofs.reader.holding.Tie as tie
 
 sees-digit-requires : tie.Need-sees-digit-requires
-sees-digit-requires c κs = search needs
+sees-digit-requires c κs = tt
 
 returns : tie.Need-returns
 returns c =
-    no-digit (atomOf (c .before .before .before .args .second)) _ (sym (c .before .sees-digit .ensures) ∙ was-false (c .before .sees-digit .result) (c .if1 .taken))
+    no-digit (atomOf (c .before .before .before .args .second)) _ (sym (c .before .sees-digit .ensures)
+    ∙ was-false (c .before .sees-digit .result) (c .if1 .taken))
 
 next-requires : tie.Need-next-requires
-next-requires c κs = search needs
+next-requires c κs = omega arith
 
 digit-requires : tie.Need-digit-requires
 digit-requires c κs =

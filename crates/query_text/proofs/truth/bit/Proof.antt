@@ -1,14 +1,14 @@
 -- `query_text::truth::bit` meets its contract.
+use native.Mathlib.Omega.{arith}
 use Prim.Native.Nat.{_/_, _%_, _^_}
 use mathlib.Core.Path.{_≡_}
 use lib.Bits.{bitAnd, and-mask}
-use borrow.Author.Needs.{needs}
 use Rattle.query_text.specs.InnerTable.{isOne}
 use Rattle.query_text.proofs.truth.bit.Statement.{statement}
 use Rattle.query_text.proofs.truth.bit.Tie as tie
 
 shr-result : tie.Need-shr-result
-shr-result c = search needs
+shr-result c = omega arith
 
 returns : tie.Need-returns
 unfolding isOne
