@@ -49,12 +49,13 @@ pub const FULL: Size = Size {
 /// The second is only for well-formed maps.
 const DOORS: [(&str, &Queries); 2] = [("", &QUERIES), ("inner door, ", &QUERIES_UNCHECKED)];
 
+/// The text is a `&mut` here as the maps are, so that the compiler does not take for granted that it stays as it was.
 fn list(
     door: &Queries,
     a: &mut Map,
     b: &mut Map,
     window: Ends,
-    text: &[u8],
+    text: &mut [u8],
     lengths: (usize, usize),
 ) -> Written {
     lend(lengths, |s, e| {
@@ -65,7 +66,7 @@ fn list(
                 b,
                 window.0,
                 window.1,
-                text.as_ptr(),
+                text.as_mut_ptr(),
                 text.len(),
                 s.as_mut_ptr(),
                 s.len(),
@@ -76,9 +77,10 @@ fn list(
     })
 }
 
-fn at(door: &Queries, a: &mut Map, b: &mut Map, window: Ends, text: &[u8], key: i64) -> Told {
+fn at(door: &Queries, a: &mut Map, b: &mut Map, window: Ends, text: &mut [u8], key: i64) -> Told {
+    let (bytes, length) = (text.as_mut_ptr(), text.len());
     // SAFETY: the text is there, and the maps are well formed or the function checks them.
-    unsafe { (door.at)(a, b, window.0, window.1, text.as_ptr(), text.len(), key) }
+    unsafe { (door.at)(a, b, window.0, window.1, bytes, length, key) }
 }
 
 /// A map: of the model and of ours.
@@ -133,12 +135,13 @@ impl<'a> Pair<'a> {
     fn ask(
         &mut self,
         report: &mut Report,
-        (ends, cells): &Window,
+        window: &Window,
         (text, query): (&[u8], Option<&Query>),
         lengths: Lengths,
         keys: &[i64],
     ) -> Result<usize, u8> {
-        let result = self.result(&(*ends, cells.clone()), query);
+        let ends = window.0;
+        let result = self.result(window, query);
         let ranges = result.as_ref().map(|true_cells| {
             let runs = true_cells.runs().into_iter();
             let ranges = runs.map(|(run, _)| as_ends::<HalfOpen>(self.cells, &run));
@@ -149,8 +152,8 @@ impl<'a> Pair<'a> {
             of::<HalfOpen>(&self.a.entries),
             of::<HalfOpen>(&self.b.entries),
         );
-        let (shown_text, over) = (text.escape_ascii(), shown::<HalfOpen>(*ends));
-        let lent_text = text.to_vec();
+        let (shown_text, over) = (text.escape_ascii(), shown::<HalfOpen>(ends));
+        let mut lent_text = text.to_vec();
         let (a, b) = (&mut self.lent.0, &mut self.lent.1);
         for (name, door) in DOORS {
             let input = format_args!("{name}'{shown_text}' over {over}, A {of_a}, B {of_b}");
@@ -159,7 +162,7 @@ impl<'a> Pair<'a> {
                     Ok(ranges) => writing(ranges, lengths),
                     &Err(&answer) => refused(answer, lengths),
                 };
-                let ours = list(door, a, b, *ends, &lent_text, lengths);
+                let ours = list(door, a, b, ends, &mut lent_text, lengths);
                 let input = format_args!("{input}, into {lengths:?} places");
                 report.same(input, ours, expected);
             }
@@ -168,7 +171,7 @@ impl<'a> Pair<'a> {
                     Ok(cells) => told(self.cells.cell_of(key).is_some_and(|c| cells.covers(c))),
                     &Err(answer) => Told { answer, yes: 0 },
                 };
-                let ours = at(door, a, b, *ends, &lent_text, key);
+                let ours = at(door, a, b, ends, &mut lent_text, key);
                 report.same(format_args!("{input}, at {key}"), ours, expected);
             }
             report.same(input, &lent_text[..], text);
@@ -504,12 +507,13 @@ fn compare_damaged(report: &mut Report) {
                 for text in [&b"A3&!B1"[..], b"A3&", b""] {
                     let shown_text = text.escape_ascii();
                     let input = format_args!("'{shown_text}' over {window:?}, {which}: {name}");
+                    let (a, b, text) = (&mut lent_a, &mut lent_b, &mut text.to_vec()[..]);
                     for lengths in [(0, 0), (3, 2)] {
-                        let ours = list(&QUERIES, &mut lent_a, &mut lent_b, window, text, lengths);
+                        let ours = list(&QUERIES, a, b, window, text, lengths);
                         report.same(input, ours, refused(4, lengths));
                     }
                     for key in [3, 30] {
-                        let ours = at(&QUERIES, &mut lent_a, &mut lent_b, window, text, key);
+                        let ours = at(&QUERIES, a, b, window, text, key);
                         report.same(input, ours, Told { answer: 4, yes: 0 });
                     }
                 }
