@@ -21,7 +21,7 @@ ghost use Rattle.query.specs.InnerColumns.{columns, spansOf};
 ghost use Rattle.query.specs.Answers.{queriedAt, queryingAt};
 
 // What the table says of what the two maps hold at a key. The key is before `end`: so far the walk may look.
-fn told(
+fn by_table(
     count_a: usize,
     starts_a: &[i64],
     ends_a: &[i64],
@@ -101,7 +101,7 @@ pub fn query_at_unchecked(
     if key >= end {
         return Asked::No;
     }
-    told(
+    by_table(
         count_a,
         starts_a,
         ends_a,

@@ -22,8 +22,8 @@ ghost use Rattle.query.specs.InnerColumns.{columns};
 ghost use Rattle.query.specs.Answers.{queried, querying};
 ghost use Rattle.query.specs.InnerWritten.{Known, WritesAll};
 
-// What the table says in the window, counted first and then written.
-fn found(
+// What the table says in the window. Nothing is written before it is known that the lent lists are long enough.
+fn by_table(
     count_a: usize,
     starts_a: &[i64],
     ends_a: &[i64],
@@ -55,7 +55,8 @@ fn found(
         values_b,
         start,
     );
-    let n = written::count(
+    let room = shorter(out_starts.len(), out_ends.len());
+    if !written::fits(
         count_a,
         starts_a,
         ends_a,
@@ -67,8 +68,8 @@ fn found(
         t,
         w,
         end,
-    );
-    if shorter(out_starts.len(), out_ends.len()) < n {
+        room,
+    ) {
         return Counted::Refused(TOO_SHORT);
     }
     Counted::Count(written::write(
@@ -116,7 +117,7 @@ pub fn query_unchecked(
     let Reading::Got(_, t) = read_query(bytes) else {
         return Counted::Refused(BAD_QUERY);
     };
-    found(
+    by_table(
         count_a,
         starts_a,
         ends_a,
