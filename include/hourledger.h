@@ -1,7 +1,9 @@
 /*
  * Hourledger for C: relations of ranges, maps of half-open ranges with their byte form, maps of inclusive ranges, sets of both kinds,
  * log days, the day's report and queries. Keys are int64_t, values are uint8_t.
- * Each part has a static library of its own: link those that are used.
+ * ./library makes target/libhourledger.a, with all of it:
+ *
+ *   cc examples/day.c -Iinclude -Ltarget -lhourledger
  *
  * ANSWERS
  *   0  done
