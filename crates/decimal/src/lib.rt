@@ -1,0 +1,99 @@
+// Numbers as decimal text, put into lent bytes. Each function answers the place behind its text.
+use text::put_byte;
+use text::put_right;
+ghost use Prim.Native.Nat.{_+_, _<_, _≤_, max};
+ghost use mathlib.Core.Path.{_≡_};
+ghost use lib.ListN.{length};
+ghost use Rattle.text.specs.Text.{Adds, rightOf};
+ghost use Rattle.decimal.specs.Decimal.{digit, digitsText, decimalText, signedText};
+
+// No number of 64 bits has more bytes of text than this, its sign among them.
+pub const LONGEST: usize = 20;
+
+// The rank of the key 0: how many keys are negative.
+const ZERO: u64 = 9223372036854775808;
+
+// The byte of a digit.
+fn digit_byte(d: u64) -> u8
+    requires { ⌜ d < 10 ⌝ }
+    ensures { λ r. ⌜ r ≡ digit d ⌝ }
+{
+    48 + d as u8
+}
+
+// The last k digits of a number, with zeros before it where it has fewer. The last digit is put first.
+pub fn put_digits(out: &mut [u8], at: usize, k: usize, n: u64) -> usize
+    requires { ⌜ at + k ≤ length (now out) ⌝ }
+    ensures { λ r. ⌜ Adds (digitsText k n) (now (out .entry)) at (now (out .exit)) r ⌝ }
+{
+    let mut i = k;
+    let mut rest = n;
+    while 0 < i {
+        i -= 1;
+        out[at + i] = digit_byte(rest % 10);
+        rest /= 10;
+    }
+    at + k
+}
+
+// How many digits a number has.
+fn places(n: u64) -> usize
+    ensures { λ r. ⌜ r ≡ length (decimalText n) ⌝ }
+{
+    let mut k = 1;
+    let mut rest = n;
+    while 10 <= rest {
+        rest /= 10;
+        k += 1;
+    }
+    k
+}
+
+// A number, where there is room for it.
+fn put_number(out: &mut [u8], at: usize, n: u64) -> usize
+    requires { ⌜ at + length (decimalText n) ≤ length (now out) ⌝ }
+    ensures { λ r. ⌜ Adds (decimalText n) (now (out .entry)) at (now (out .exit)) r ⌝ }
+{
+    put_digits(out, at, places(n), n)
+}
+
+// A number.
+pub fn put_u64(out: &mut [u8], at: usize, n: u64) -> usize
+    requires { ⌜ at + 20 ≤ length (now out) ⌝ }
+    ensures { λ r. ⌜ Adds (decimalText n) (now (out .entry)) at (now (out .exit)) r ⌝ }
+{
+    put_number(out, at, n)
+}
+
+// A number with a sign. The rank of a key tells how far it is from 0, and nothing overflows there.
+pub fn put_i64(out: &mut [u8], at: usize, n: i64) -> usize
+    requires { ⌜ at + 20 ≤ length (now out) ⌝ }
+    ensures { λ r. ⌜ Adds (signedText n) (now (out .entry)) at (now (out .exit)) r ⌝ }
+{
+    let rank = key::rank_of(n);
+    if rank < ZERO {
+        let to = put_byte(out, at, b'-');
+        return put_number(out, to, ZERO - rank);
+    }
+    put_number(out, at, rank - ZERO)
+}
+
+// A number at the right of its columns. One that is wider than they are stands whole.
+pub fn put_u64_right(out: &mut [u8], at: usize, width: usize, n: u64) -> usize
+    requires { ⌜ at + max width 20 ≤ length (now out) ⌝ }
+    ensures { λ r. ⌜ Adds (rightOf width (decimalText n)) (now (out .entry)) at (now (out .exit)) r ⌝ }
+{
+    let mut text = [0u8; LONGEST];
+    let k = put_u64(&mut text, 0, n);
+    put_right(out, at, width, &text[..k])
+}
+
+// The same with a sign.
+pub fn put_i64_right(out: &mut [u8], at: usize, width: usize, n: i64) -> usize
+    requires { ⌜ at + max width 20 ≤ length (now out) ⌝ }
+    ensures { λ r. ⌜ Adds (rightOf width (signedText n)) (now (out .entry)) at (now (out .exit)) r ⌝ }
+{
+    let mut text = [0u8; LONGEST];
+    let k = put_i64(&mut text, 0, n);
+    put_right(out, at, width, &text[..k])
+}
