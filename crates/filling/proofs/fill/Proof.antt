@@ -25,7 +25,7 @@ put-piece-requires : tie.Need-put-piece-requires Inv-loop μ-loop
 put-piece-requires c κs =
     let l = c .before .before .before .loop in
     let a = c .before .before .before .before .before .before .before .args in
-    (l .inv .used, omega (arith, l .inv .room, length-drop (l .k) (a .numbers .now), adds-length (l .inv .adds)))
+    (omega (arith, l .inv .used), omega (arith, l .inv .room, length-drop (l .k) (a .numbers .now), adds-length (l .inv .adds)))
 
 next-number-requires : tie.Need-next-number-requires Inv-loop μ-loop
 next-number-requires c κs = c .before .before .before .before .before .before .loop .inv .used
