@@ -7,7 +7,7 @@ use mir.Syntax.{w64}
 use mir.Val.{ofZ}
 use Rattle.key.proofs.Laws.{rank-back}
 use Rattle.text.proofs.Laws.{adds-as, adds-then}
-use Rattle.decimal.proofs.Signed.{signed-negative, signed-natural, length-magnitude}
+use Rattle.decimal.proofs.Signs.{signed-negative, signed-natural, length-magnitude}
 use Rattle.decimal.proofs.put_i64.Statement.{statement}
 use Rattle.decimal.proofs.put_i64.Tie as tie
 

@@ -11,7 +11,7 @@ use Rattle.key.proofs.Laws.{toZ-fit}
 use Rattle.decimal.specs.Decimal.{signedText}
 use Rattle.text.specs.Text.{rightOf}
 use Rattle.text.proofs.Laws.{adds-as, text-first, text-room}
-use Rattle.decimal.proofs.Signed.{length-signed}
+use Rattle.decimal.proofs.Signs.{length-signed}
 use Rattle.decimal.proofs.put_i64_right.Statement.{statement}
 use Rattle.decimal.proofs.put_i64_right.Tie as tie
 
