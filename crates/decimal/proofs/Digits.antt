@@ -1,17 +1,14 @@
 -- The text of a number, digit by digit.
-use Prim.Native.Nat.{ℕ, zero, suc, _+_, _-_, _*_, _/_, _%_, _^_, _≤_, _<_}
+use Prim.Native.Nat.{ℕ, zero, suc, _+_, _-_, _/_, _%_, _^_, _≤_, _<_}
 use native.Mathlib.Omega.{arith}
 use native.Mathlib.Nat.{div-lt-iff-lt-mul, zero-lt-suc, pow-suc}
 use native.Mathlib.Numerals.{add-one}
 use native.Mathlib.Decide.{decLt}
 use mathlib.Core.Path.{_≡_, refl, sym, ap, subst, _∙_}
-use mathlib.Core.Bool.{cond}
 use mathlib.Core.List.{List, [], _∷_, _++_}
 use borrow.Author.Tests.{lt-ltb, le-ltb}
-use lib.Dec.{ltb}
 use lib.ListN.{length, length-append}
-use lib.IntN.{ℤ, pos, negsuc}
-use Rattle.decimal.specs.Decimal.{digit, minus, digitsText, spelled, decimalText, signedText}
+use Rattle.decimal.specs.Decimal.{digit, digitsText, spelled, decimalText}
 
 -- one digit less
 fewer : (k n : ℕ) → n < 10 ^ suc k → n / 10 < 10 ^ k
@@ -32,7 +29,9 @@ spelled-same (suc k) n h =
     let ih = spelled-same k (n / 10) (fewer (suc k) n h) in
     elim (decLt n 10) [
       | yes p ↦ spelled-one (suc k) n p ∙ sym (spelled-one (suc (suc k)) n p)
-      | no p ↦ let l : 10 ≤ n = omega arith in spelled-more (suc k) n l ∙ ap (λ (t : List ℕ). t ++ (digit (n % 10) ∷ [])) ih ∙ sym (spelled-more (suc (suc k)) n l)
+      | no p ↦
+          let l : 10 ≤ n = omega arith in
+          spelled-more (suc k) n l ∙ ap (λ (t : List ℕ). t ++ (digit (n % 10) ∷ [])) ih ∙ sym (spelled-more (suc (suc k)) n l)
     ]
 
 -- the two cases of the text of a number
@@ -82,12 +81,15 @@ pub length-more : (n : ℕ) → 10 ≤ n → n < 10 ^ 20 → length (decimalText
 length-more n h b = ap length (decimal-more n h b) ∙ length-append (decimalText (n / 10)) (digit (n % 10) ∷ [])
 
 -- the text of a number is as many of its digits as it has
-pub digits-all : (n : ℕ) → n < 10 ^ 20 → digitsText (length (decimalText n)) n ≡ decimalText n
+abbrev AllDigits : ℕ → Type 0
+AllDigits n = digitsText (length (decimalText n)) n ≡ decimalText n
+
+pub digits-all : (n : ℕ) → n < 10 ^ 20 → AllDigits n
 unfolding digitsText
-digits-all = each-number (λ n. digitsText (length (decimalText n)) n ≡ decimalText n) one more
+digits-all = each-number AllDigits one more
   where
-    one : (n : ℕ) → n < 10 → digitsText (length (decimalText n)) n ≡ decimalText n
+    one : (n : ℕ) → n < 10 → AllDigits n
     one n h = let m : n % 10 ≡ n = omega arith in rw (decimal-one n h, m)
 
-    more : (n : ℕ) → 10 ≤ n → n < 10 ^ 20 → digitsText (length (decimalText (n / 10))) (n / 10) ≡ decimalText (n / 10) → digitsText (length (decimalText n)) n ≡ decimalText n
+    more : (n : ℕ) → 10 ≤ n → n < 10 ^ 20 → AllDigits (n / 10) → AllDigits n
     more n h b ih = rw (length-more n h b, add-one, ih, decimal-more n h b)

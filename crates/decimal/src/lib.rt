@@ -99,9 +99,9 @@ pub fn put_u64_right(out: &mut [u8], at: usize, width: usize, n: u64) -> usize
     requires { ⌜ at + max width 20 ≤ length (now out) ⌝ }
     ensures { λ r. ⌜ Adds (rightOf width (decimalText n)) (now (out .entry)) at (now (out .exit)) r ⌝ }
 {
-    let mut text = [0u8; LONGEST];
-    let k = put_u64(&mut text, 0, n);
-    put_right(out, at, width, &text[..k])
+    let mut digits = [0u8; LONGEST];
+    let k = put_u64(&mut digits, 0, n);
+    put_right(out, at, width, &digits[..k])
 }
 
 // The same with a sign.

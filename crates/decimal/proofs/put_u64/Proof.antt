@@ -11,7 +11,7 @@ put-number-requires c κs = omega (arith, length-u64 (c .before .before .args .n
 
 -- src/lib.rt:61:1
 same-length : tie.Need-same-length
-same-length c = search needs
+same-length c = omega arith
 
 -- src/lib.rt:61:1
 returns : tie.Need-returns
