@@ -126,7 +126,7 @@ only-digits-fixed (suc k) n i h =
     let ih = only-digits-fixed k (n / 10) in
     digits-then (digitsText k (n / 10)) (digit (n % 10) ∷ []) ih (digit-only (n % 10) (omega arith)) i h
 
--- no two numbers have the same k digits
+-- the digits before the last, and the last
 first-digits : (k n : ℕ) → take k (digitsText (suc k) n) ≡ digitsText k (n / 10)
 unfolding digitsText
 first-digits k n = take-at (digitsText k (n / 10)) (digit (n % 10) ∷ []) k (length-digits k (n / 10))
@@ -135,6 +135,7 @@ last-digit : (k n : ℕ) → getD (digitsText (suc k) n) k 0 ≡ digit (n % 10)
 unfolding digitsText
 last-digit k n = getD-at (digitsText k (n / 10)) (digit (n % 10)) [] 0 k (length-digits k (n / 10))
 
+-- no two numbers have the same k digits
 pub one-digits : (k m n : ℕ) → m < 10 ^ k → n < 10 ^ k → digitsText k m ≡ digitsText k n → m ≡ n
 one-digits zero m n h l e = omega arith
 one-digits (suc k) m n h l e =

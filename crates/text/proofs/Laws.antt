@@ -41,7 +41,7 @@ adds-eq {s} {out} {out₁} {at} {r} a h = a .puts ∙ sets-eq s out at h ∙ ap 
 pub text-first : {s out out₁ : List ℕ} {r : ℕ} → Adds s out 0 out₁ r → length s ≤ length out → take r out₁ ≡ s
 text-first {s} {out} {out₁} {r} a h = ap (take r) (adds-eq a (omega arith)) ∙ take-at s (drop r out) r (omega arith)
 
--- which there are
+-- and there are that many
 pub text-room : {s out out₁ : List ℕ} {r : ℕ} → Adds s out 0 out₁ r → length s ≤ length out → r ≤ length out₁
 text-room a h = omega (arith, adds-length a)
 
