@@ -1,17 +1,35 @@
-// Numbers as decimal text, put into lent bytes. Each function answers the place behind its text.
+// Numbers as decimal text: put into lent bytes, where each function answers the place behind its text, and read.
 use text::put_byte;
 use text::put_right;
 ghost use Prim.Native.Nat.{_+_, _<_, _≤_, max};
 ghost use mathlib.Core.Path.{_≡_};
 ghost use lib.ListN.{length};
 ghost use Rattle.text.specs.Text.{Adds, rightOf};
-ghost use Rattle.decimal.specs.Decimal.{digit, digitsText, decimalText, signedText};
+ghost use Rattle.decimal.specs.Decimal.{longest, digit, digitsText, decimalText, signedText};
+ghost use Rattle.decimal.specs.Reading.{plain, nextOf, readNumber, asNatural, asNegative, readSigned};
 
-// No number of 64 bits has more bytes of text than this, its sign among them.
+// What a text is as a u64.
+pub enum Numeral {
+    Is(u64),
+    Not,
+}
+
+// What a text is as an i64.
+pub enum Signed {
+    Is(i64),
+    Not,
+}
+
+// No text of a number of 64 bits is longer, its sign counted.
 pub const LONGEST: usize = 20;
 
 // The rank of the key 0: how many keys are negative.
 const ZERO: u64 = 9223372036854775808;
+
+// The greatest u64.
+const GREATEST: u64 = 18446744073709551615;
+
+// ---- writing
 
 // The byte of a digit.
 fn digit_byte(d: u64) -> u8
@@ -59,7 +77,7 @@ fn put_number(out: &mut [u8], at: usize, n: u64) -> usize
 
 // A number.
 pub fn put_u64(out: &mut [u8], at: usize, n: u64) -> usize
-    requires { ⌜ at + 20 ≤ length (now out) ⌝ }
+    requires { ⌜ at + longest ≤ length (now out) ⌝ }
     ensures { λ r. ⌜ Adds (decimalText n) (now (out .entry)) at (now (out .exit)) r ⌝ }
 {
     put_number(out, at, n)
@@ -67,7 +85,7 @@ pub fn put_u64(out: &mut [u8], at: usize, n: u64) -> usize
 
 // A number with a sign. The rank of a key tells how far it is from 0, and nothing overflows there.
 pub fn put_i64(out: &mut [u8], at: usize, n: i64) -> usize
-    requires { ⌜ at + 20 ≤ length (now out) ⌝ }
+    requires { ⌜ at + longest ≤ length (now out) ⌝ }
     ensures { λ r. ⌜ Adds (signedText n) (now (out .entry)) at (now (out .exit)) r ⌝ }
 {
     let rank = key::rank_of(n);
@@ -80,20 +98,113 @@ pub fn put_i64(out: &mut [u8], at: usize, n: i64) -> usize
 
 // A number at the right of its columns. One that is wider than they are stands whole.
 pub fn put_u64_right(out: &mut [u8], at: usize, width: usize, n: u64) -> usize
-    requires { ⌜ at + max width 20 ≤ length (now out) ⌝ }
+    requires { ⌜ at + max width longest ≤ length (now out) ⌝ }
     ensures { λ r. ⌜ Adds (rightOf width (decimalText n)) (now (out .entry)) at (now (out .exit)) r ⌝ }
 {
-    let mut text = [0u8; LONGEST];
-    let k = put_u64(&mut text, 0, n);
-    put_right(out, at, width, &text[..k])
+    let mut digits = [0u8; LONGEST];
+    let k = put_u64(&mut digits, 0, n);
+    put_right(out, at, width, &digits[..k])
 }
 
 // The same with a sign.
 pub fn put_i64_right(out: &mut [u8], at: usize, width: usize, n: i64) -> usize
-    requires { ⌜ at + max width 20 ≤ length (now out) ⌝ }
+    requires { ⌜ at + max width longest ≤ length (now out) ⌝ }
     ensures { λ r. ⌜ Adds (rightOf width (signedText n)) (now (out .entry)) at (now (out .exit)) r ⌝ }
 {
     let mut text = [0u8; LONGEST];
     let k = put_i64(&mut text, 0, n);
     put_right(out, at, width, &text[..k])
+}
+
+// ---- reading
+
+// Whether a text is not empty, and no zero stands before other bytes.
+fn is_plain(text: &[u8]) -> bool
+    ensures { λ r. ⌜ r ≡ plain (now (text .entry)) ⌝ }
+{
+    if text.len() == 0 {
+        return false;
+    }
+    if text.len() == 1 {
+        return true;
+    }
+    text[0] != b'0'
+}
+
+// A number with one byte more behind it.
+fn next(n: u64, byte: u8) -> Numeral
+    ensures { λ r. ⌜ r ≡ nextOf (Numeral.Is n) byte ⌝ }
+{
+    if byte < b'0' {
+        return Numeral::Not;
+    }
+    if b'9' < byte {
+        return Numeral::Not;
+    }
+    let d = (byte - b'0') as u64;
+    if (GREATEST - d) / 10 < n {
+        return Numeral::Not;
+    }
+    Numeral::Is(10 * n + d)
+}
+
+// The number below 2 ^ 64 that a text says.
+pub fn read_u64(text: &[u8]) -> Numeral
+    ensures { λ r. ⌜ r ≡ readNumber (now (text .entry)) ⌝ }
+{
+    if !is_plain(text) {
+        return Numeral::Not;
+    }
+    let mut n: u64 = 0;
+    let mut i = 0;
+    while i < text.len() {
+        let Numeral::Is(more) = next(n, text[i]) else {
+            return Numeral::Not;
+        };
+        n = more;
+        i += 1;
+    }
+    Numeral::Is(n)
+}
+
+// A number as an i64.
+fn natural(a: Numeral) -> Signed
+    ensures { λ r. ⌜ r ≡ asNatural a ⌝ }
+{
+    let Numeral::Is(n) = a else {
+        return Signed::Not;
+    };
+    if ZERO <= n {
+        return Signed::Not;
+    }
+    Signed::Is(n as i64)
+}
+
+// A number behind a minus, as an i64.
+fn negative(a: Numeral) -> Signed
+    ensures { λ r. ⌜ r ≡ asNegative a ⌝ }
+{
+    let Numeral::Is(n) = a else {
+        return Signed::Not;
+    };
+    if n == 0 {
+        return Signed::Not;
+    }
+    if ZERO < n {
+        return Signed::Not;
+    }
+    Signed::Is((ZERO - n) as i64 + key::LEAST)
+}
+
+// The i64 that a text says.
+pub fn read_i64(text: &[u8]) -> Signed
+    ensures { λ r. ⌜ r ≡ readSigned (now (text .entry)) ⌝ }
+{
+    if text.len() == 0 {
+        return Signed::Not;
+    }
+    if text[0] == b'-' {
+        return negative(read_u64(&text[1..]));
+    }
+    natural(read_u64(text))
 }
