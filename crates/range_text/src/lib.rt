@@ -10,7 +10,7 @@ ghost use lib.ListN.{length};
 ghost use Rattle.outcomes.specs.Stored.{places, stored};
 ghost use Rattle.filling.specs.Filling.{AddsWithin};
 ghost use Rattle.range_text.specs.RangeText.{rangeText, rangeLine, resultLine, rangesText, resultText};
-ghost use Rattle.range_text.specs.InnerRoom.{rangeRoom, lineRoom, resultRoom, Room, ResultRoom};
+ghost use Rattle.range_text.specs.InnerRoom.{rangeRoom, rangeLineRoom, resultLineRoom, RangesRoom, ResultsRoom};
 
 // The most bytes that a line takes: two numbers of 20 bytes, two dots, and a value of at most 20 bytes with what stands around it.
 pub const LINE_ROOM: usize = 65;
@@ -30,8 +30,8 @@ fn put_range(out: &mut [u8], at: usize, start: i64, end: i64) -> usize
 
 // The line of a range of a map.
 fn put_line(out: &mut [u8], at: usize, start: i64, end: i64, value: u8) -> usize
-    requires { ⌜ at + lineRoom ≤ length (now out) ⌝ }
-    ensures { λ r. ⌜ AddsWithin lineRoom (rangeLine start end value) (now (out .entry)) at (now (out .exit)) r ⌝ }
+    requires { ⌜ at + rangeLineRoom ≤ length (now out) ⌝ }
+    ensures { λ r. ⌜ AddsWithin rangeLineRoom (rangeLine start end value) (now (out .entry)) at (now (out .exit)) r ⌝ }
 {
     let to = put_range(out, at, start, end);
     let numbers = [value as u64];
@@ -40,8 +40,8 @@ fn put_line(out: &mut [u8], at: usize, start: i64, end: i64, value: u8) -> usize
 
 // The line of a range of a result.
 fn put_result_line(out: &mut [u8], at: usize, start: i64, end: i64) -> usize
-    requires { ⌜ at + resultRoom ≤ length (now out) ⌝ }
-    ensures { λ r. ⌜ AddsWithin resultRoom (resultLine start end) (now (out .entry)) at (now (out .exit)) r ⌝ }
+    requires { ⌜ at + resultLineRoom ≤ length (now out) ⌝ }
+    ensures { λ r. ⌜ AddsWithin resultLineRoom (resultLine start end) (now (out .entry)) at (now (out .exit)) r ⌝ }
 {
     let to = put_range(out, at, start, end);
     put_byte(out, to, b'\n')
@@ -49,8 +49,8 @@ fn put_result_line(out: &mut [u8], at: usize, start: i64, end: i64) -> usize
 
 // The lines of the first `count` places.
 fn put_ranges(count: usize, starts: &[i64], ends: &[i64], values: &[u8], out: &mut [u8]) -> usize
-    requires { ⌜ Room count (now starts) (now ends) (now values) (now out) ⌝ }
-    ensures { λ r. ⌜ AddsWithin (lineRoom * count) (rangesText (stored count (now (starts .entry)) (now (ends .entry)) (now (values .entry)))) (now (out .entry)) 0 (now (out .exit)) r ⌝ }
+    requires { ⌜ RangesRoom count (now starts) (now ends) (now values) (now out) ⌝ }
+    ensures { λ r. ⌜ AddsWithin (rangeLineRoom * count) (rangesText (stored count (now (starts .entry)) (now (ends .entry)) (now (values .entry)))) (now (out .entry)) 0 (now (out .exit)) r ⌝ }
 {
     let mut to = 0;
     let mut i = 0;
@@ -70,15 +70,15 @@ pub fn ranges_text(
     out: &mut [u8; RANGES_ROOM],
 ) -> usize
     requires { ⌜ count ≤ places ⌝ }
-    ensures { λ r. ⌜ AddsWithin (lineRoom * count) (rangesText (stored count (now (starts .entry)) (now (ends .entry)) (now (values .entry)))) (now (out .entry)) 0 (now (out .exit)) r ⌝ }
+    ensures { λ r. ⌜ AddsWithin (rangeLineRoom * count) (rangesText (stored count (now (starts .entry)) (now (ends .entry)) (now (values .entry)))) (now (out .entry)) 0 (now (out .exit)) r ⌝ }
 {
     put_ranges(count, starts, ends, values, out)
 }
 
 // THE FIRST n RANGES of a query's result.
 pub fn result_text(starts: &[i64], ends: &[i64], n: usize, out: &mut [u8]) -> usize
-    requires { ⌜ ResultRoom n (now starts) (now ends) (now out) ⌝ }
-    ensures { λ r. ⌜ AddsWithin (resultRoom * n) (resultText (now (starts .entry)) (now (ends .entry)) n) (now (out .entry)) 0 (now (out .exit)) r ⌝ }
+    requires { ⌜ ResultsRoom n (now starts) (now ends) (now out) ⌝ }
+    ensures { λ r. ⌜ AddsWithin (resultLineRoom * n) (resultText (now (starts .entry)) (now (ends .entry)) n) (now (out .entry)) 0 (now (out .exit)) r ⌝ }
 {
     let mut to = 0;
     let mut i = 0;

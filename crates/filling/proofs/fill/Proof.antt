@@ -5,12 +5,12 @@ use mathlib.Core.Path.{_≡_, ap}
 use mathlib.Core.List.{List}
 use lib.ListN.{length, length-drop}
 use Rattle.text.proofs.Laws.{adds-length}
-use Rattle.filling.proofs.Fills.{Filling, filling-none, filling-more, filling-done}
+use Rattle.filling.proofs.Fills.{FilledUpto, filling-none, filling-more, filling-done}
 use Rattle.filling.proofs.fill.Statement.{statement}
 use Rattle.filling.proofs.fill.Tie as tie
 
 abbrev Inv-loop : tie.InvT-loop
-Inv-loop out₀ at text numbers to₀ k₀ i₀ out to k i = Filling text numbers out₀ at i k out to
+Inv-loop out₀ at text numbers to₀ k₀ i₀ out to k i = FilledUpto text numbers out₀ at i k out to
 
 abbrev μ-loop : tie.MeasureT-loop
 μ-loop out₀ at text numbers to₀ k₀ i₀ out to k i = length text - i

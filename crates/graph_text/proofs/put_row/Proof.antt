@@ -27,7 +27,7 @@ same-length c = omega arith
 
 returns : tie.Need-returns
 unfolding rowLine
-returns c = 
+returns c =
     let b = rw (toZ-ofZ (c .before .before .before .before .before .before .before .before .before .before .before .before .before .before .before .fits .start)) at (c .before .before .before .before .before .before .before .put-cells .ensures) in
     let t = rw (c .before .before .before .seconds-of .ensures) at (c .before .before .put-total .ensures) in
     as-within refl (omega (arith, c .before .before .before .before .before .before .before .before .before .before .before .before .before .before .before .pre .0 .few)) (then-within (then-within (c .before .before .before .before .before .before .before .before .before .before .before .put-row-column .ensures) b) t)

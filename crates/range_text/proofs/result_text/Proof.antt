@@ -7,13 +7,13 @@ use borrow.Author.Needs.{sfits-of}
 use Rattle.filling.specs.Filling.{AddsWithin}
 use Rattle.filling.proofs.Laws.{as-within, within-length}
 use Rattle.range_text.specs.RangeText.{resultText}
-use Rattle.range_text.specs.InnerRoom.{resultRoom}
+use Rattle.range_text.specs.InnerRoom.{resultLineRoom}
 use Rattle.range_text.proofs.Laws.{results-none, results-more}
 use Rattle.range_text.proofs.result_text.Statement.{statement}
 use Rattle.range_text.proofs.result_text.Tie as tie
 
 abbrev Inv-loop : tie.InvT-loop
-Inv-loop starts ends n out₀ to₀ i₀ out to i = (i ≤ n) × AddsWithin (resultRoom * i) (resultText starts ends i) out₀ 0 out to
+Inv-loop starts ends n out₀ to₀ i₀ out to i = (i ≤ n) × AddsWithin (resultLineRoom * i) (resultText starts ends i) out₀ 0 out to
 
 abbrev μ-loop : tie.MeasureT-loop
 μ-loop starts ends n out₀ to₀ i₀ out to i = n - i
