@@ -52,7 +52,8 @@ filling-more {t} {ns} {out} {out₁} {out₂} {at} {i} {k} {l} {r₁} {r₂} h f
       room = omega (arith, f .room, p .room, ap length (n .left));
     }
 
-pub filling-done : {t ns out out₁ : List ℕ} {at i k r : ℕ} → length t ≤ i → FilledUpto t ns out at i k out₁ r → AddsWithin (filledRoom t ns) (filled t ns) out at out₁ r
+pub filling-done : {t ns out out₁ : List ℕ} {at i k r : ℕ} → length t ≤ i → FilledUpto t ns out at i k out₁ r
+    → AddsWithin (filledRoom t ns) (filled t ns) out at out₁ r
 filling-done {t} {ns} {i = i} h f =
     let w : take i t ≡ t = rw (drop-of-length-le t {i = i} h, append-nil) at (take-append-drop i t) in
     record { adds = adds-as (ap (λ (u : List ℕ). filled u ns) w) (f .adds); within = omega (arith, f .room, f .passed) }
@@ -84,7 +85,8 @@ module _ (c : ℕ) (ns : List ℕ) (k : ℕ) where
   pub last-next : length ns ≤ k → k ≤ length ns → Next c k ns k
   last-next b h = record { held = h; left = drop-of-length-le ns {i = k} b ∙ sym (no-numbers c .1) ∙ ap (leftBy c) (sym (drop-of-length-le ns {i = k} b)) }
 
-  pub number-piece : {out out₁ : List ℕ} {at r n : ℕ} → c ≡ hole → k < length ns → n ≡ getD ns k 0 → n < 2 ^ 64 → Adds (decimalText n) out at out₁ r → Piece c (drop k ns) out at out₁ r
+  pub number-piece : {out out₁ : List ℕ} {at r n : ℕ} → c ≡ hole → k < length ns → n ≡ getD ns k 0 → n < 2 ^ 64 → Adds (decimalText n) out at out₁ r
+      → Piece c (drop k ns) out at out₁ r
   number-piece {n = n} h b e f a =
       let p = a-hole c n (drop (suc k) ns) h in
       let d : drop k ns ≡ n ∷ drop (suc k) ns = drop-cons ns k 0 b ∙ rw e in

@@ -14,7 +14,8 @@ pub in-room : {room : ℕ} {t out out₁ : List ℕ} {at r : ℕ} → length t �
 in-room h a = record { adds = a; within = omega (arith, a .upto) }
 
 -- a text, and another behind it
-pub then-within : {m n : ℕ} {s t out out₁ out₂ : List ℕ} {at r₁ r₂ : ℕ} → AddsWithin m s out at out₁ r₁ → AddsWithin n t out₁ r₁ out₂ r₂ → AddsWithin (m + n) (s ++ t) out at out₂ r₂
+pub then-within : {m n : ℕ} {s t out out₁ out₂ : List ℕ} {at r₁ r₂ : ℕ} → AddsWithin m s out at out₁ r₁ → AddsWithin n t out₁ r₁ out₂ r₂
+    → AddsWithin (m + n) (s ++ t) out at out₂ r₂
 then-within a b = record { adds = adds-then (a .adds) (b .adds); within = omega arith }
 
 -- the same text by another name, and in more room
@@ -30,7 +31,8 @@ pub series-none : (f : ℕ → List ℕ) (out : List ℕ) (at : ℕ) → AddsWit
 unfolding series
 series-none f out at = record { adds = adds-none out at; within = omega arith }
 
-pub series-more : (f : ℕ → List ℕ) (i : ℕ) {m n : ℕ} {out out₁ out₂ : List ℕ} {at r₁ r₂ : ℕ} → AddsWithin m (series f i) out at out₁ r₁ → AddsWithin n (f i) out₁ r₁ out₂ r₂
+pub series-more : (f : ℕ → List ℕ) (i : ℕ) {m n : ℕ} {out out₁ out₂ : List ℕ} {at r₁ r₂ : ℕ} → AddsWithin m (series f i) out at out₁ r₁
+    → AddsWithin n (f i) out₁ r₁ out₂ r₂
     → AddsWithin (m + n) (series f (i + 1)) out at out₂ r₂
 unfolding series
 series-more f i a b = as-within (sym (ap (series f) (add-one i))) (omega arith) (then-within a b)

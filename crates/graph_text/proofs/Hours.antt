@@ -18,7 +18,8 @@ pub hour-short : (r : ℕ) → r < 26 → length (decimalText r) ≤ 2
 hour-short r h = length-decimal 1 r (omega arith) (omega arith)
 
 -- and spaces up to the end of its columns
-pub hour-spaces : (n h : ℕ) {r at r₁ r₂ : ℕ} {out out₁ out₂ : List ℕ} → r ≡ clockHour n h → r < 26 → Adds (decimalText r) out at out₁ r₁ → Adds (replicate (at + 4 - r₁) space) out₁ r₁ out₂ r₂
+pub hour-spaces : (n h : ℕ) {r at r₁ r₂ : ℕ} {out out₁ out₂ : List ℕ} → r ≡ clockHour n h → r < 26 → Adds (decimalText r) out at out₁ r₁
+    → Adds (replicate (at + 4 - r₁) space) out₁ r₁ out₂ r₂
     → AddsWithin 4 (hourColumn n h) out at out₂ r₂
 unfolding hourColumn
 hour-spaces n h {r} {at} {r₁} e b a s =

@@ -91,6 +91,7 @@ unfolding tallying inQuarter
 quarter-totals a b d p r = rw (p, r, d .calm)
 
 -- and its mark
-pub marked-is : (m : List Span) (s : ℤ) (j q : ℕ) {t : Totals} {n : ℕ} → Tallied.Seconds t ≡ Tallied.Seconds (inQuarter m s q) → n ≡ rowOf t j → ltb 0 n ≡ marked m s j q
+pub marked-is : (m : List Span) (s : ℤ) (j q : ℕ) {t : Totals} {n : ℕ} → Tallied.Seconds t ≡ Tallied.Seconds (inQuarter m s q) → n ≡ rowOf t j
+    → ltb 0 n ≡ marked m s j q
 unfolding marked
 marked-is m s j q {t} e r = let u : t ≡ inQuarter m s q = cc in rw (r, u)

@@ -18,7 +18,8 @@ use Rattle.range_text.specs.RangeText.{rangeLine, resultLine, rangesText
 use Rattle.range_text.specs.InnerRoom.{rangeLineRoom, resultLineRoom}
 
 -- an i64 that code passes on
-pub signed-within : {z : ℤ} {out out₁ : List ℕ} {at r : ℕ} → SFits w64 z → Adds (signedText (toZ w64 (ofZ w64 z))) out at out₁ r → AddsWithin 20 (signedText z) out at out₁ r
+pub signed-within : {z : ℤ} {out out₁ : List ℕ} {at r : ℕ} → SFits w64 z → Adds (signedText (toZ w64 (ofZ w64 z))) out at out₁ r
+    → AddsWithin 20 (signedText z) out at out₁ r
 signed-within {z} f a = in-room (length-signed z f) (rw (toZ-ofZ f) at a)
 
 -- NO LINE, and one line more
@@ -26,7 +27,8 @@ pub ranges-none : (ss es : List ℤ) (vs out : List ℕ) → AddsWithin 0 (range
 unfolding rangesText
 ranges-none ss es vs out = series-none _ out 0
 
-pub ranges-more : (ss es : List ℤ) (vs : List ℕ) (i : ℕ) {s e : ℤ} {v m r₁ r₂ : ℕ} {out out₁ out₂ : List ℕ} → s ≡ getD ss i (pos 0) → e ≡ getD es i (pos 0) → v ≡ getD vs i 0
+pub ranges-more : (ss es : List ℤ) (vs : List ℕ) (i : ℕ) {s e : ℤ} {v m r₁ r₂ : ℕ} {out out₁ out₂ : List ℕ} → s ≡ getD ss i (pos 0)
+    → e ≡ getD es i (pos 0) → v ≡ getD vs i 0
     → AddsWithin m (rangesText (stored i ss es vs)) out 0 out₁ r₁ → AddsWithin rangeLineRoom (rangeLine s e v) out₁ r₁ out₂ r₂ → AddsWithin (m + rangeLineRoom) (rangesText (stored (i + 1) ss es vs)) out 0 out₂ r₂
 unfolding rangesText
 ranges-more ss es vs i p q w a b = series-more (λ k. rangeLine (getD ss k (pos 0)) (getD es k (pos 0)) (getD vs k 0)) i a (rw (p, q, w) at b)

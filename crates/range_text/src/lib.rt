@@ -9,7 +9,7 @@ ghost use Prim.Native.Nat.{_+_, _*_, _≤_};
 ghost use lib.ListN.{length};
 ghost use Rattle.outcomes.specs.Stored.{places, stored};
 ghost use Rattle.filling.specs.Filling.{AddsWithin};
-ghost use Rattle.range_text.specs.RangeText.{rangeText, rangeLine, resultLine, rangesText, resultText};
+ghost use Rattle.range_text.specs.RangeText.{rangeText, rangeLine, resultLine, rangesText, results, resultText};
 ghost use Rattle.range_text.specs.InnerRoom.{rangeRoom, rangeLineRoom, resultLineRoom, RangesRoom, ResultsRoom};
 
 // The most bytes that a line takes: two numbers of 20 bytes, two dots, and a value of at most 20 bytes with what stands around it.
@@ -17,6 +17,12 @@ pub const LINE_ROOM: usize = 65;
 
 // The most bytes that the ranges of a map take.
 pub const RANGES_ROOM: usize = PLACES * LINE_ROOM;
+
+// The most ranges of a query's result over two maps.
+pub const RESULTS: usize = 2 * PLACES + 1;
+
+// The most bytes that they take: a line has no value.
+pub const RESULTS_ROOM: usize = RESULTS * 43;
 
 // A range, START..END.
 fn put_range(out: &mut [u8], at: usize, start: i64, end: i64) -> usize
@@ -75,8 +81,8 @@ pub fn ranges_text(
     put_ranges(count, starts, ends, values, out)
 }
 
-// THE FIRST n RANGES of a query's result.
-pub fn result_text(starts: &[i64], ends: &[i64], n: usize, out: &mut [u8]) -> usize
+// The lines of the first n places of a result.
+fn put_results(n: usize, starts: &[i64], ends: &[i64], out: &mut [u8]) -> usize
     requires { ⌜ ResultsRoom n (now starts) (now ends) (now out) ⌝ }
     ensures { λ r. ⌜ AddsWithin (resultLineRoom * n) (resultText (now (starts .entry)) (now (ends .entry)) n) (now (out .entry)) 0 (now (out .exit)) r ⌝ }
 {
@@ -87,4 +93,17 @@ pub fn result_text(starts: &[i64], ends: &[i64], n: usize, out: &mut [u8]) -> us
         i += 1;
     }
     to
+}
+
+// THE FIRST n RANGES of a query's result.
+pub fn result_text(
+    n: usize,
+    starts: &[i64; RESULTS],
+    ends: &[i64; RESULTS],
+    out: &mut [u8; RESULTS_ROOM],
+) -> usize
+    requires { ⌜ n ≤ results ⌝ }
+    ensures { λ r. ⌜ AddsWithin (resultLineRoom * n) (resultText (now (starts .entry)) (now (ends .entry)) n) (now (out .entry)) 0 (now (out .exit)) r ⌝ }
+{
+    put_results(n, starts, ends, out)
 }

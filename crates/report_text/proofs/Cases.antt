@@ -8,7 +8,8 @@ use Rattle.decimal.specs.Decimal.{digitsText, spelled, decimalText, signedText}
 use Rattle.filling.specs.Filling.{ascii, series}
 use Rattle.report_text.specs.Rows.{rowName, rowOf, sumSeconds}
 use Rattle.report_text.specs.Times.{pairText, clockText, tenThousandths, hoursText}
-use Rattle.report_text.specs.ReportText.{nameColumn, keyLine, secondsColumn, clockColumn, hoursColumn, timesText, secondsLine, rowLines, dayLines, reportText}
+use Rattle.report_text.specs.ReportText.{nameColumn, keyLine, secondsColumn, clockColumn, hoursColumn}
+use Rattle.report_text.specs.ReportText.{timesText, secondsLine, rowLines, dayLines, reportText}
 
 unfoldable all : Unit {0}
 unfolding place bitRank rightOf leftOf digitsText spelled decimalText signedText series rowName rowOf sumSeconds pairText clockText tenThousandths hoursText nameColumn keyLine secondsColumn clockColumn hoursColumn timesText secondsLine rowLines dayLines reportText

@@ -32,7 +32,8 @@ unfolding rightOf
 right-long w t h = let n : w - length t ≡ 0 = omega arith in rw n
 
 -- NUMBERS take at most 20 bytes, and their columns
-pub number-within : {w n : ℕ} {out out₁ : List ℕ} {at r : ℕ} → w ≤ 20 → n < 2 ^ 64 → Adds (rightOf w (decimalText n)) out at out₁ r → AddsWithin 20 (rightOf w (decimalText n)) out at out₁ r
+pub number-within : {w n : ℕ} {out out₁ : List ℕ} {at r : ℕ} → w ≤ 20 → n < 2 ^ 64 → Adds (rightOf w (decimalText n)) out at out₁ r
+    → AddsWithin 20 (rightOf w (decimalText n)) out at out₁ r
 number-within {w} {n} h f a = in-room (omega (arith, length-right w (decimalText n), length-u64 n f)) a
 
 pub key-within : {w : ℕ} {z : ℤ} {out out₁ : List ℕ} {at r : ℕ} → w ≤ 20 → SFits w64 z → Adds (rightOf w (signedText (toZ w64 (ofZ w64 z)))) out at out₁ r
@@ -74,7 +75,8 @@ hours-right n =
     append-assoc (rightOf 2 d) (46 ∷ []) t ∙ right-append 2 d (46 ∷ t) ∙ rw l
 
 -- NAMES
-pub name-within : (name : List ℕ) {out out₁ : List ℕ} {at r : ℕ} → length name ≤ nameRoom → Adds (leftOf 14 name) out at out₁ r → AddsWithin nameRoom (nameColumn name) out at out₁ r
+pub name-within : (name : List ℕ) {out out₁ : List ℕ} {at r : ℕ} → length name ≤ nameRoom → Adds (leftOf 14 name) out at out₁ r
+    → AddsWithin nameRoom (nameColumn name) out at out₁ r
 unfolding nameColumn
 name-within name h a = in-room (omega (arith, length-left 14 name)) a
 

@@ -12,7 +12,8 @@ use Rattle.filling.specs.Filling.{ascii, pieceOf, leftBy, filled, series}
 use Rattle.report_text.specs.Rows.{rowName, rowOf}
 use Rattle.report_text.specs.Times.{pairText, clockText}
 use Rattle.graph_text.specs.Grid.{clockHour, inQuarter, marked}
-use Rattle.svg_text.specs.SvgText.{headSvg, hourRule, hourRules, rowRule, rowRules, hourSvg, nameSvg, totalSvg, inkOf, markAt, markSvg, inkSvg, marksSvg, footSvg}
+use Rattle.svg_text.specs.SvgText.{headSvg, hourRule, hourRules, rowRule, rowRules, hourSvg, nameSvg}
+use Rattle.svg_text.specs.SvgText.{totalSvg, inkOf, markAt, markSvg, inkSvg, marksSvg, footSvg}
 
 unfoldable all : Unit {0}
 unfolding inside keep before after joins push joined given history cuts gaps within total place bitRank dutyOf those secondsOf unrecordedOf totalsOf digitsText spelled decimalText pieceOf leftBy filled series rowName rowOf pairText clockText clockHour inQuarter marked headSvg hourRule hourRules rowRule rowRules hourSvg nameSvg totalSvg inkOf markAt markSvg inkSvg marksSvg footSvg

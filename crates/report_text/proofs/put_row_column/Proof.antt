@@ -5,7 +5,7 @@ use Rattle.report_text.proofs.put_row_column.Statement.{statement}
 use Rattle.report_text.proofs.put_row_column.Tie as tie
 
 put-name-requires : tie.Need-put-name-requires
-put-name-requires c κs = (c .before .before .pre .0, omega arith)
+put-name-requires c κs = (omega arith, omega arith)
 
 add-put-spaces : tie.Need-add-put-spaces
 add-put-spaces c = omega arith

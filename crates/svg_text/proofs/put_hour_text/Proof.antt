@@ -7,7 +7,7 @@ use Rattle.svg_text.proofs.put_hour_text.Statement.{statement}
 use Rattle.svg_text.proofs.put_hour_text.Tie as tie
 
 clock-hour-requires : tie.Need-clock-hour-requires
-clock-hour-requires c κs = (c .before .pre .0, c .before .pre .1)
+clock-hour-requires c κs = (omega arith, omega arith)
 
 mul-t10 : tie.Need-mul-t10
 mul-t10 c = omega arith
