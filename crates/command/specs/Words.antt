@@ -9,6 +9,7 @@ use Rattle.decimal.specs.declared.Numeral.{Numeral}
 use Rattle.decimal.specs.declared.Numeral.the-variants as Numeral
 use Rattle.decimal.specs.declared.Signed.{Signed}
 use Rattle.decimal.specs.declared.Signed.the-variants as Signed
+use Rattle.filling.specs.Filling.{ascii, filled}
 use Rattle.command.specs.declared.Command.{Command}
 use Rattle.command.specs.declared.Command.the-variants as Command
 use Rattle.command.specs.declared.View.{View}
@@ -16,25 +17,25 @@ use Rattle.command.specs.declared.View.the-variants as View
 
 -- ranges, day, graph, query, make, --svg, --help
 abbrev pub rangesWord : List ℕ
-rangesWord = 0x72 ∷ 0x61 ∷ 0x6E ∷ 0x67 ∷ 0x65 ∷ 0x73 ∷ []
+rangesWord = ascii "ranges"
 
 abbrev pub dayWord : List ℕ
-dayWord = 0x64 ∷ 0x61 ∷ 0x79 ∷ []
+dayWord = ascii "day"
 
 abbrev pub graphWord : List ℕ
-graphWord = 0x67 ∷ 0x72 ∷ 0x61 ∷ 0x70 ∷ 0x68 ∷ []
+graphWord = ascii "graph"
 
 abbrev pub queryWord : List ℕ
-queryWord = 0x71 ∷ 0x75 ∷ 0x65 ∷ 0x72 ∷ 0x79 ∷ []
+queryWord = ascii "query"
 
 abbrev pub makeWord : List ℕ
-makeWord = 0x6D ∷ 0x61 ∷ 0x6B ∷ 0x65 ∷ []
+makeWord = ascii "make"
 
 abbrev pub svgWord : List ℕ
-svgWord = 0x2D ∷ 0x2D ∷ 0x73 ∷ 0x76 ∷ 0x67 ∷ []
+svgWord = ascii "--svg"
 
 abbrev pub helpWord : List ℕ
-helpWord = 0x2D ∷ 0x2D ∷ 0x68 ∷ 0x65 ∷ 0x6C ∷ 0x70 ∷ []
+helpWord = ascii "--help"
 
 -- are all of these digits
 unfoldable pub digits : List ℕ → Bool
@@ -90,3 +91,7 @@ commandOf (w ∷ a ∷ b ∷ c ∷ d ∷ []) =
 commandOf (w ∷ a ∷ b ∷ c ∷ d ∷ e ∷ []) =
     cond (same w queryWord) (queryIn (readSigned a) (readSigned b)) (cond (same w graphWord && same e svgWord) (datedBy View.Picture a b c d) Command.Other)
 commandOf (w ∷ a ∷ b ∷ c ∷ d ∷ e ∷ f ∷ ws) = Command.Other
+
+-- A REFUSAL: its number, and a newline
+unfoldable pub refusalText : ℕ → List ℕ
+refusalText n = filled (ascii "{\n") (n ∷ [])

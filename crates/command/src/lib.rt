@@ -1,5 +1,6 @@
 // The words of the command line: which command they are.
 mod number;
+pub mod said;
 
 use check::same;
 use decimal::Numeral;

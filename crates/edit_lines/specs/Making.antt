@@ -13,6 +13,7 @@ use Rattle.decimal.specs.declared.Numeral.{Numeral}
 use Rattle.decimal.specs.declared.Numeral.the-variants as Numeral
 use Rattle.decimal.specs.declared.Signed.{Signed}
 use Rattle.decimal.specs.declared.Signed.the-variants as Signed
+use Rattle.filling.specs.Filling.{ascii, filled}
 use Rattle.edit_lines.specs.Parts.{linesOf, wordsOf}
 use Rattle.edit_lines.specs.declared.Line.{Line}
 use Rattle.edit_lines.specs.declared.Line.the-variants as Line
@@ -21,11 +22,11 @@ use Rattle.edit_lines.specs.declared.Made.the-variants as Made
 
 -- the word insert
 abbrev pub insertWord : List ℕ
-insertWord = 0x69 ∷ 0x6E ∷ 0x73 ∷ 0x65 ∷ 0x72 ∷ 0x74 ∷ []
+insertWord = ascii "insert"
 
 -- the word remove
 abbrev pub removeWord : List ℕ
-removeWord = 0x72 ∷ 0x65 ∷ 0x6D ∷ 0x6F ∷ 0x76 ∷ 0x65 ∷ []
+removeWord = ascii "remove"
 
 -- insert START END VALUE: the value is 0 to 255
 abbrev pub insertOf : Signed → Signed → Numeral → Line
@@ -82,3 +83,9 @@ makes n m (l ∷ ls) = lineDone (suc n) m (changeOf (lineOf l)) (λ (left : Stor
 -- WHAT A TEXT MAKES, from nothing
 unfoldable pub madeOf : List ℕ → Making
 madeOf text = makes 0 (cleared halfOpen) (linesOf text)
+
+-- what is said of a text that makes nothing: its line, and the answer of document 01's table or that it is no edit
+unfoldable pub toldText : Made → List ℕ
+toldText Made.Done = []
+toldText (Made.Refused n a) = filled (ascii "line {: {\n") (n ∷ a ∷ [])
+toldText (Made.NotAnEdit n) = filled (ascii "line {: not an edit\n") (n ∷ [])

@@ -1,4 +1,5 @@
 // The lines of `make`: a text of edits, done in order on a map that holds nothing at first.
+pub mod said;
 mod words;
 
 use bytes::scan::find;
