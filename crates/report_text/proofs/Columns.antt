@@ -12,7 +12,7 @@ use Rattle.text.specs.Text.{space, Adds, rightOf, leftOf}
 use Rattle.text.proofs.Laws.{length-right, length-left, adds-left}
 use Rattle.decimal.specs.Decimal.{digitsText, decimalText, signedText}
 use Rattle.decimal.proofs.Digits.{length-u64, length-digits}
-use Rattle.decimal.proofs.Signed.{length-signed}
+use Rattle.decimal.proofs.Signs.{length-signed}
 use Rattle.filling.specs.Filling.{AddsWithin}
 use Rattle.filling.proofs.Laws.{in-room}
 use Rattle.report_text.specs.Times.{pairText, clockText, tenThousandths, hoursText}
