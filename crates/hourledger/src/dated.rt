@@ -6,13 +6,17 @@ use crate::output::print;
 use crate::output::refuse;
 use command::View;
 use duty::Totals;
+use graph_text::GRAPH_ROOM;
+use graph_text::graph_text;
 use libc::STDIN_FILENO;
 use libc::STDOUT_FILENO;
-use log_day::Day;
 use outcomes::PLACES;
 use report::Reported;
 use report_text::REPORT_ROOM;
 use report_text::report_text;
+ghost use Rattle.key.specs.Range.{halfOpen};
+ghost use Rattle.outcomes.specs.Stored.{stored, lent, Sound};
+ghost use Rattle.graph_text.specs.Grid.{Day};
 
 fn show_report(start: i64, end: i64, t: Totals) {
     let mut out = [0u8; REPORT_ROOM];
@@ -20,20 +24,59 @@ fn show_report(start: i64, end: i64, t: Totals) {
     print(STDOUT_FILENO, &out, n);
 }
 
-fn of_map(
+fn show_graph(
+    count: usize,
+    starts: &[i64; PLACES],
+    ends: &[i64; PLACES],
+    values: &[u8; PLACES],
+    start: i64,
+    end: i64,
+    t: Totals,
+)
+    requires { ⌜ Day (stored count (now starts) (now ends) (now values)) start end ⌝ }
+{
+    let mut out = [0u8; GRAPH_ROOM];
+    let n = graph_text(count, starts, ends, values, start, end, t, &mut out);
+    print(STDOUT_FILENO, &out, n);
+}
+
+fn show(
     view: View,
     count: usize,
     starts: &[i64; PLACES],
     ends: &[i64; PLACES],
     values: &[u8; PLACES],
+    start: i64,
+    end: i64,
+    t: Totals,
+)
+    requires { ⌜ Day (stored count (now starts) (now ends) (now values)) start end ⌝ }
+{
+    match view {
+        View::Report => show_report(start, end, t),
+        View::Graph => show_graph(count, starts, ends, values, start, end, t),
+        View::Picture => show_graph(count, starts, ends, values, start, end, t),
+    }
+}
+
+fn of_map<'a>(
+    view: View,
+    count: &'a usize,
+    starts: &'a [i64; PLACES],
+    ends: &'a [i64; PLACES],
+    values: &'a [u8; PLACES],
     zone: u8,
     year: u16,
     month: u8,
     day: u8,
-) {
-    let told = report::checked(&count, starts, ends, values, zone, year, month, day);
+)
+    requires { ⌜ Sound halfOpen (lent count starts ends values) ⌝ }
+{
+    let told = report::checked(count, starts, ends, values, zone, year, month, day);
     match told {
-        Reported::Totals(start, end, t) => show_report(start, end, t),
+        Reported::Totals(start, end, t) => {
+            show(view, *count, starts, ends, values, start, end, t)
+        }
         Reported::Refused(n) => refuse(n),
     }
 }
@@ -48,14 +91,24 @@ fn of_form(form: &[u8], view: View, zone: u8, year: u16, month: u8, day: u8) {
         refuse(answer);
         return;
     }
-    of_map(view, count, &starts, &ends, &values, zone, year, month, day);
+    of_map(
+        view,
+        &count,
+        &starts,
+        &ends,
+        &values,
+        zone,
+        year,
+        month,
+        day,
+    );
 }
 
 pub fn run(view: View, zone: u8, year: u16, month: u8, day: u8) {
     let judged = log_day::day_of(zone, year, month, day);
     match judged {
-        Day::Refused(n) => refuse(n),
-        Day::Span(_, _) => {
+        log_day::Day::Refused(n) => refuse(n),
+        log_day::Day::Span(_, _) => {
             let mut bytes = [0u8; ROOM];
             let n = read_form(STDIN_FILENO, &mut bytes);
             of_form(&bytes[..n], view, zone, year, month, day);

@@ -4,8 +4,8 @@ use crate::input::read_all;
 use outcomes::PLACES;
 ghost use mathlib.Core.Path.{_≡_};
 ghost use Rattle.io.specs.Counts.{Counts};
-ghost use Rattle.key.specs.Range.{halfOpen};
-ghost use Rattle.outcomes.specs.Stored.{lent, Sound};
+ghost use Rattle.outcomes.specs.Stored.{lent};
+ghost use Rattle.hourledger.specs.InnerInput.{Loaded};
 
 // The longest form, and a byte more.
 pub const ROOM: usize = 8 + 17 * PLACES + 1;
@@ -22,7 +22,7 @@ pub fn read_form(fd: i32, bytes: &mut [u8; ROOM]) -> usize
     }
 }
 
-// Loads a form: 0 and a sound map, or 6.
+// Loads a form: 0 and its map, or 6.
 pub fn load(
     form: &[u8],
     count: &mut usize,
@@ -30,7 +30,7 @@ pub fn load(
     ends: &mut [i64; PLACES],
     values: &mut [u8; PLACES],
 ) -> u8
-    ensures { λ r. ⌜ (r ≡ 0 → Sound halfOpen (lent (count .exit) (starts .exit) (ends .exit) (values .exit))) ⌝ }
+    ensures { λ r. ⌜ (r ≡ 0 → Loaded (lent (count .exit) (starts .exit) (ends .exit) (values .exit))) ⌝ }
 {
     byte_read::read(count, starts, ends, values, form)
 }

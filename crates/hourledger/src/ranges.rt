@@ -9,11 +9,11 @@ use libc::STDOUT_FILENO;
 use outcomes::PLACES;
 use range_text::RANGES_ROOM;
 use range_text::ranges_text;
-ghost use Rattle.key.specs.Range.{halfOpen};
-ghost use Rattle.outcomes.specs.Stored.{stored, Sound};
+ghost use Prim.Native.Nat.{_≤_};
+ghost use Rattle.outcomes.specs.Stored.{places};
 
 fn show(count: usize, starts: &[i64; PLACES], ends: &[i64; PLACES], values: &[u8; PLACES])
-    requires { ⌜ Sound halfOpen (stored count (now starts) (now ends) (now values)) ⌝ }
+    requires { ⌜ count ≤ places ⌝ }
 {
     let mut out = [0u8; RANGES_ROOM];
     let n = ranges_text(count, starts, ends, values, &mut out);

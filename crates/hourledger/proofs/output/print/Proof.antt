@@ -1,3 +1,5 @@
+use native.Mathlib.Omega.{arith}
+use lib.ListN.{length-take}
 use borrow.Author.Needs.{needs}
 use Rattle.hourledger.proofs.output.print.Statement.{statement}
 use Rattle.hourledger.proofs.output.print.Tie as tie
@@ -7,7 +9,7 @@ use Rattle.io.proofs.write_all.Reads as write-all-reads
 
 -- src/output.rt:12:23
 slice-aggregate-write-all : tie.Need-slice-aggregate-write-all
-slice-aggregate-write-all c = ?
+slice-aggregate-write-all c = simp length-take (omega arith)
 
 -- src/output.rt:12:5
 write-all-requires : tie.Need-write-all-requires

@@ -1,3 +1,5 @@
+use native.Mathlib.Omega.{arith}
+use Rattle.filling.proofs.Laws.{within-length}
 use borrow.Author.Needs.{needs}
 use Rattle.hourledger.proofs.output.refuse.Statement.{statement}
 use Rattle.hourledger.proofs.output.refuse.Tie as tie
@@ -12,11 +14,11 @@ refusal-text-requires c κs = search needs
 
 -- src/output.rt:19:26
 slice-aggregate-print : tie.Need-slice-aggregate-print
-slice-aggregate-print c = ?
+slice-aggregate-print c = omega (arith, within-length (c .before .refusal-text .ensures))
 
 -- src/output.rt:19:5
 print-requires : tie.Need-print-requires
-print-requires c κs = ?
+print-requires c κs = omega (arith, within-length (c .before .refusal-text .ensures), c .before .refusal-text .ensures .within)
 
 -- src/output.rt:16:1
 returns : tie.Need-returns
