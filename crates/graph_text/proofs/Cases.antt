@@ -11,14 +11,14 @@ use Rattle.duty.specs.declared.Totals.{Totals}
 use Rattle.text.specs.Text.{rightOf, leftOf}
 use Rattle.decimal.specs.Decimal.{digitsText, spelled, decimalText, signedText}
 use Rattle.filling.specs.Filling.{ascii, pieceOf, leftBy, filled, series}
-use Rattle.report_text.specs.Rows.{rowName, rowOf, sumOf}
+use Rattle.report_text.specs.Rows.{rowName, rowOf, sumSeconds}
 use Rattle.report_text.specs.Times.{pairText, clockText}
 use Rattle.report_text.specs.ReportText.{nameColumn, clockColumn}
 use Rattle.graph_text.specs.Grid.{clockHour, inQuarter, marked, markOf, blankOf, shown, cell}
 use Rattle.graph_text.specs.GraphText.{hourColumn, hoursLine, totalColumn, rowLine, sumLine, graphText}
 
 unfoldable all : Unit {0}
-unfolding inside keep before after joins push joined given history cuts gaps within total any place bitRank dutyOf those secondsOf unrecordedOf totalsOf rightOf leftOf digitsText spelled decimalText signedText pieceOf leftBy filled series rowName rowOf sumOf pairText clockText nameColumn clockColumn clockHour inQuarter marked markOf blankOf shown cell hourColumn hoursLine totalColumn rowLine sumLine graphText
+unfolding inside keep before after joins push joined given history cuts gaps within total any place bitRank dutyOf those secondsOf unrecordedOf totalsOf rightOf leftOf digitsText spelled decimalText signedText pieceOf leftBy filled series rowName rowOf sumSeconds pairText clockText nameColumn clockColumn clockHour inQuarter marked markOf blankOf shown cell hourColumn hoursLine totalColumn rowLine sumLine graphText
 all = tt
 
 -- THE HOURS of the three kinds of day: 2 is missing, all are there, 1 stands twice
@@ -41,7 +41,7 @@ held = span (rank (pos 1730606400)) (rank (pos 1730628000)) 1 ∷ span (rank (po
 abbrev totals : Totals
 totals = record { «off_duty» = 64800; «sleeper_berth» = 0; driving = 25200; «on_duty» = 0; unrecorded = 0 }
 
-pub november : graphText held (pos 1730606400) (pos 1730696400) totals ≡
+pub november-grid : graphText held (pos 1730606400) (pos 1730696400) totals ≡
     ascii "              0   1   1   2   3   4   5   6   7   8   9   10  11  12  13  14  15  16  17  18  19  20  21  22  23  \n" ++
     ascii "off duty      ########################:...:...:...:...:...:...:...################################################  18:00:00\n" ++
     ascii "sleeper berth :...:...:...:...:...:...:...:...:...:...:...:...:...:...:...:...:...:...:...:...:...:...:...:...:...   0:00:00\n" ++
@@ -50,4 +50,4 @@ pub november : graphText held (pos 1730606400) (pos 1730696400) totals ≡
     ascii "unrecorded    :...:...:...:...:...:...:...:...:...:...:...:...:...:...:...:...:...:...:...:...:...:...:...:...:...   0:00:00\n" ++
     ascii "sum                                                                                                                 25:00:00\n"
 unfolding all
-november = refl
+november-grid = refl

@@ -1,4 +1,5 @@
--- WHAT A MARK SAYS: a quarter has a mark in a row exactly where the map holds that status at some instant of it, or nothing at some instant, in the row of unrecorded time.
+-- WHAT A MARK SAYS: a quarter has a mark in a row exactly where the map holds that status at some instant of it.
+-- In the row of unrecorded time it has one exactly where the map holds nothing at some instant.
 use Prim.Native.Nat.{ℕ, zero, suc, _+_, _*_, _≤_, _<_}
 use native.Mathlib.Omega.{arith}
 use native.Mathlib.Decide.{decLt}
@@ -31,18 +32,18 @@ pub record Holds (d : ℕ) (m : List Span) (k : ℕ) : Type 0 where
   pub status : dutyOf value ≡ d
 
 -- COUNTS: one that is not 0 has counted an instant, and an instant is counted
-record Found (f : ℕ → Option ℕ) (n : ℕ) : Type 0 where
+record CountedAt (f : ℕ → Option ℕ) (n : ℕ) : Type 0 where
   k : ℕ
   below : k < n
   value : ℕ
   is : f k ≡ some value
 
-found : (f : ℕ → Option ℕ) (n : ℕ) → 0 < count f n → Found f n
+found : (f : ℕ → Option ℕ) (n : ℕ) → 0 < count f n → CountedAt f n
 unfolding count
 found f zero h = absurd (omega arith)
 found f (suc n) h = look (f n) refl (found f n)
   where
-    look : (o : Option ℕ) → f n ≡ o → (0 < count f n → Found f n) → Found f (suc n)
+    look : (o : Option ℕ) → f n ≡ o → (0 < count f n → CountedAt f n) → CountedAt f (suc n)
     look none e ih = let r = ih (omega (arith, h, ap tally e)) in record { k = r .k; below = omega (arith, r .below); value = r .value; is = r .is }
     look (some v) e ih = record { k = n; below = omega arith; value = v; is = e }
 

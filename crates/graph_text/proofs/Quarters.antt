@@ -21,7 +21,7 @@ use Rattle.duty.specs.declared.Totals.{Totals}
 use Rattle.duty.specs.declared.Tallied.the-variants as Tallied
 use Rattle.duty.proofs.Laws.{within-cons, strange-cons, strange-alike, strange-none}
 use Rattle.report_text.specs.Rows.{rowOf}
-use Rattle.graph_text.specs.Grid.{quarters, inQuarter, marked, Day}
+use Rattle.graph_text.specs.Grid.{quartersIn, inQuarter, marked, Drawable}
 use Rattle.graph_text.specs.InnerRoom.{Quarters, Quarter}
 
 -- A SPAN OFF A WINDOW counts for nothing there
@@ -73,9 +73,9 @@ quarter-in {m} {s} {n} {q} d h = record {
   calm = calm-part (rank s) (rank s + 900 * n) (rank s + 900 * q) (rank s + 900 * (q + 1)) (ranges halfOpen m) (omega arith) (omega arith) (d .calm);
 }
 
-pub day-quarters : {m : Stored} {s e : ℤ} → Day m s e → Quarters m s (quarters s e)
+pub day-quarters : {m : Stored} {s e : ℤ} → Drawable m s e → Quarters m s (quartersIn s e)
 day-quarters {m} {s} {e} d =
-    let n : ℕ = quarters s e in
+    let n : ℕ = quartersIn s e in
     let upto : rank s + 900 * n ≤ rank e = omega (arith, d .real) in
     record {
       sound = d .sound;

@@ -8,9 +8,9 @@ use Rattle.duty.specs.declared.Totals.{Totals}
 use Rattle.text.specs.Text.{space, leftOf}
 use Rattle.decimal.specs.Decimal.{decimalText}
 use Rattle.filling.specs.Filling.{ascii, series}
-use Rattle.report_text.specs.Rows.{rows, rowName, rowOf, sumOf}
+use Rattle.report_text.specs.Rows.{rows, rowName, rowOf, sumSeconds}
 use Rattle.report_text.specs.ReportText.{nameColumn, clockColumn}
-use Rattle.graph_text.specs.Grid.{quarters, hours, clockHour, cell}
+use Rattle.graph_text.specs.Grid.{quartersIn, hoursIn, clockHour, cell}
 
 -- an hour of n as the clock shows it, in 4 columns
 unfoldable pub hourColumn : ℕ → ℕ → List ℕ
@@ -30,8 +30,8 @@ rowLine m s n t j = nameColumn (rowName j) ++ series (cell m s j) n ++ totalColu
 
 -- the line of the sum: a space for each quarter
 unfoldable pub sumLine : ℕ → Totals → List ℕ
-sumLine n t = nameColumn (ascii "sum") ++ replicate n space ++ totalColumn (sumOf t)
+sumLine n t = nameColumn (ascii "sum") ++ replicate n space ++ totalColumn (sumSeconds t)
 
 -- THE GRID of the day from s up to e, in which the map holds m, and whose totals are t
 unfoldable pub graphText : List Span → ℤ → ℤ → Totals → List ℕ
-graphText m s e t = hoursLine (hours s e) ++ series (rowLine m s (quarters s e) t) rows ++ sumLine (quarters s e) t
+graphText m s e t = hoursLine (hoursIn s e) ++ series (rowLine m s (quartersIn s e) t) rows ++ sumLine (quartersIn s e) t

@@ -16,8 +16,8 @@ abbrev pub mostHours : ℕ
 mostHours = 25
 
 -- a line: a name, the quarters, a total
-abbrev pub lineRoom : ℕ
-lineRoom = 150
+abbrev pub graphLineRoom : ℕ
+graphLineRoom = 150
 
 -- all seven lines
 abbrev pub graphRoom : ℕ

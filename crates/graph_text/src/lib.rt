@@ -19,9 +19,9 @@ ghost use Rattle.key.specs.Range.{halfOpen};
 ghost use Rattle.outcomes.specs.Stored.{stored, ranges};
 ghost use Rattle.filling.specs.Filling.{series, AddsWithin};
 ghost use Rattle.report_text.specs.Rows.{rows};
-ghost use Rattle.graph_text.specs.Grid.{quarters, hours, clockHour, marked, markOf, blankOf, shown, cell, Day};
+ghost use Rattle.graph_text.specs.Grid.{quartersIn, clockHour, marked, markOf, blankOf, shown, cell, Drawable};
 ghost use Rattle.graph_text.specs.GraphText.{hourColumn, hoursLine, totalColumn, rowLine, sumLine, graphText};
-ghost use Rattle.graph_text.specs.InnerRoom.{mostQuarters, mostHours, lineRoom, graphRoom, Quarters, Quarter};
+ghost use Rattle.graph_text.specs.InnerRoom.{mostQuarters, mostHours, graphLineRoom, graphRoom, Quarters, Quarter};
 
 // The seconds of a quarter of an hour.
 const QUARTER: usize = 900;
@@ -34,7 +34,7 @@ pub const GRAPH_ROOM: usize = 1050;
 
 // How many quarters of an hour a day has.
 pub fn quarters_of(start: i64, end: i64) -> usize
-    ensures { λ r. ⌜ r ≡ quarters start end ⌝ }
+    ensures { λ r. ⌜ r ≡ quartersIn start end ⌝ }
 {
     (seconds_between(start, end) / 900) as usize
 }
@@ -166,8 +166,8 @@ fn put_row(
     out: &mut [u8],
     at: usize,
 ) -> usize
-    requires { ⌜ Quarters (stored count (now starts) (now ends) (now values)) start n × (row < rows) × (at + lineRoom ≤ length (now out)) ⌝ }
-    ensures { λ r. ⌜ AddsWithin lineRoom (rowLine (ranges halfOpen (stored count (now (starts .entry)) (now (ends .entry)) (now (values .entry)))) start n t row) (now (out .entry)) at (now (out .exit)) r ⌝ }
+    requires { ⌜ Quarters (stored count (now starts) (now ends) (now values)) start n × (row < rows) × (at + graphLineRoom ≤ length (now out)) ⌝ }
+    ensures { λ r. ⌜ AddsWithin graphLineRoom (rowLine (ranges halfOpen (stored count (now (starts .entry)) (now (ends .entry)) (now (values .entry)))) start n t row) (now (out .entry)) at (now (out .exit)) r ⌝ }
 {
     let cells = put_row_column(out, at, row);
     let total = put_cells(count, starts, ends, values, start, n, row, out, cells);
@@ -186,8 +186,8 @@ fn put_rows(
     out: &mut [u8],
     at: usize,
 ) -> usize
-    requires { ⌜ Quarters (stored count (now starts) (now ends) (now values)) start n × (at + 750 ≤ length (now out)) ⌝ }
-    ensures { λ r. ⌜ AddsWithin 750 (series (rowLine (ranges halfOpen (stored count (now (starts .entry)) (now (ends .entry)) (now (values .entry)))) start n t) rows) (now (out .entry)) at (now (out .exit)) r ⌝ }
+    requires { ⌜ Quarters (stored count (now starts) (now ends) (now values)) start n × (at + rows * graphLineRoom ≤ length (now out)) ⌝ }
+    ensures { λ r. ⌜ AddsWithin (rows * graphLineRoom) (series (rowLine (ranges halfOpen (stored count (now (starts .entry)) (now (ends .entry)) (now (values .entry)))) start n t) rows) (now (out .entry)) at (now (out .exit)) r ⌝ }
 {
     let mut to = at;
     let mut row = 0;
@@ -223,8 +223,8 @@ fn put_hours(out: &mut [u8], at: usize, n: usize) -> usize
 
 // The line of the hours.
 fn put_hours_line(out: &mut [u8], at: usize, n: usize) -> usize
-    requires { ⌜ (n ≤ mostHours) × (at + lineRoom ≤ length (now out)) ⌝ }
-    ensures { λ r. ⌜ AddsWithin lineRoom (hoursLine n) (now (out .entry)) at (now (out .exit)) r ⌝ }
+    requires { ⌜ (n ≤ mostHours) × (at + graphLineRoom ≤ length (now out)) ⌝ }
+    ensures { λ r. ⌜ AddsWithin graphLineRoom (hoursLine n) (now (out .entry)) at (now (out .exit)) r ⌝ }
 {
     let first = put_name_column(out, at, b"");
     let to = put_hours(out, first, n);
@@ -233,8 +233,8 @@ fn put_hours_line(out: &mut [u8], at: usize, n: usize) -> usize
 
 // The line of the sum.
 fn put_sum_line(out: &mut [u8], at: usize, n: usize, t: Totals) -> usize
-    requires { ⌜ (n ≤ mostQuarters) × (at + lineRoom ≤ length (now out)) ⌝ }
-    ensures { λ r. ⌜ AddsWithin lineRoom (sumLine n t) (now (out .entry)) at (now (out .exit)) r ⌝ }
+    requires { ⌜ (n ≤ mostQuarters) × (at + graphLineRoom ≤ length (now out)) ⌝ }
+    ensures { λ r. ⌜ AddsWithin graphLineRoom (sumLine n t) (now (out .entry)) at (now (out .exit)) r ⌝ }
 {
     let blank = put_name_column(out, at, b"sum");
     let total = put_spaces(out, blank, n);
@@ -252,7 +252,7 @@ pub fn graph_text(
     t: Totals,
     out: &mut [u8; GRAPH_ROOM],
 ) -> usize
-    requires { ⌜ Day (stored count (now starts) (now ends) (now values)) start end ⌝ }
+    requires { ⌜ Drawable (stored count (now starts) (now ends) (now values)) start end ⌝ }
     ensures { λ r. ⌜ AddsWithin graphRoom (graphText (ranges halfOpen (stored count (now (starts .entry)) (now (ends .entry)) (now (values .entry)))) start end t) (now (out .entry)) 0 (now (out .exit)) r ⌝ }
 {
     let n = quarters_of(start, end);

@@ -4,7 +4,6 @@ use native.Mathlib.Omega.{arith}
 use mathlib.Core.Path.{refl}
 use mir.Facts.{toZ-ofZ}
 use Rattle.filling.proofs.Laws.{then-within}
-use Rattle.graph_text.specs.Grid.{quarters}
 use Rattle.graph_text.specs.GraphText.{graphText}
 use Rattle.graph_text.proofs.Quarters.{day-quarters}
 use Rattle.graph_text.proofs.graph_text.Statement.{statement}

@@ -14,7 +14,7 @@ put-cells-requires : tie.Need-put-cells-requires
 put-cells-requires c κs = rw (toZ-ofZ (c .before .before .before .before .before .before .before .fits .start)) (c .before .before .before .before .before .before .before .pre .0, c .before .before .before .before .before .before .before .pre .1, omega (arith, c .before .before .before .before .before .before .before .pre .0 .few))
 
 seconds-of-requires : tie.Need-seconds-of-requires
-seconds-of-requires c κs = c .before .before .before .before .before .before .before .before .before .before .before .pre .1
+seconds-of-requires c κs = omega (arith, c .before .before .before .before .before .before .before .before .before .before .before .pre .1)
 
 cast-put-total : tie.Need-cast-put-total
 cast-put-total c = omega arith

@@ -11,12 +11,12 @@ use Rattle.filling.specs.Filling.{series, AddsWithin}
 use Rattle.filling.proofs.Laws.{as-within, within-length, series-none, series-more}
 use Rattle.report_text.specs.Rows.{rows}
 use Rattle.graph_text.specs.GraphText.{rowLine}
-use Rattle.graph_text.specs.InnerRoom.{lineRoom}
+use Rattle.graph_text.specs.InnerRoom.{graphLineRoom}
 use Rattle.graph_text.proofs.put_rows.Statement.{statement}
 use Rattle.graph_text.proofs.put_rows.Tie as tie
 
 abbrev Inv-loop : tie.InvT-loop
-Inv-loop count starts ends values start n t out₀ at to₀ row₀ out to row = (row ≤ rows) × AddsWithin (lineRoom * row) (series (rowLine (ranges halfOpen (stored count starts ends values)) (toZ w64 start) n t) row) out₀ at out to
+Inv-loop count starts ends values start n t out₀ at to₀ row₀ out to row = (row ≤ rows) × AddsWithin (graphLineRoom * row) (series (rowLine (ranges halfOpen (stored count starts ends values)) (toZ w64 start) n t) row) out₀ at out to
 
 abbrev μ-loop : tie.MeasureT-loop
 μ-loop count starts ends values start n t out₀ at to₀ row₀ out to row = rows - row

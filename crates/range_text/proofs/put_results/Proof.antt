@@ -1,4 +1,4 @@
--- `range_text::result_text` meets its contract.
+-- `range_text::put_results` meets its contract.
 use Prim.Native.Nat.{_*_, _-_, _≤_}
 use native.Mathlib.Omega.{arith}
 use mathlib.Core.Path.{_≡_, refl}
@@ -7,16 +7,16 @@ use borrow.Author.Needs.{sfits-of}
 use Rattle.filling.specs.Filling.{AddsWithin}
 use Rattle.filling.proofs.Laws.{as-within, within-length}
 use Rattle.range_text.specs.RangeText.{resultText}
-use Rattle.range_text.specs.InnerRoom.{resultRoom}
+use Rattle.range_text.specs.InnerRoom.{resultLineRoom}
 use Rattle.range_text.proofs.Laws.{results-none, results-more}
-use Rattle.range_text.proofs.result_text.Statement.{statement}
-use Rattle.range_text.proofs.result_text.Tie as tie
+use Rattle.range_text.proofs.put_results.Statement.{statement}
+use Rattle.range_text.proofs.put_results.Tie as tie
 
 abbrev Inv-loop : tie.InvT-loop
-Inv-loop starts ends n out₀ to₀ i₀ out to i = (i ≤ n) × AddsWithin (resultRoom * i) (resultText starts ends i) out₀ 0 out to
+Inv-loop n starts ends out₀ to₀ i₀ out to i = (i ≤ n) × AddsWithin (resultLineRoom * i) (resultText starts ends i) out₀ 0 out to
 
 abbrev μ-loop : tie.MeasureT-loop
-μ-loop starts ends n out₀ to₀ i₀ out to i = n - i
+μ-loop n starts ends out₀ to₀ i₀ out to i = n - i
 
 loop-holds : tie.Need-loop-holds Inv-loop μ-loop
 loop-holds c = let a = c .before .args in (omega arith, as-within refl (omega arith) (results-none (a .starts .now) (a .ends .now) (a .out .now)))
@@ -54,5 +54,5 @@ same-length c = within-length (c .before .loop .inv .1)
 returns : tie.Need-returns Inv-loop μ-loop
 returns c = let e : c .before .loop .i ≡ c .before .before .before .args .n = omega arith in rw e at (c .before .loop .inv .1)
 
-pub result-text-spec : {M : Type 1} → statement M
-result-text-spec = tie.close (tie.spec Inv-loop μ-loop loop-holds mul-put-result-line shared-slice-copy-out-put-result-line mul-put-result-line-2 shared-slice-copy-out-put-result-line-2 put-result-line-requires add-i loop-less loop-again same-length returns)
+pub put-results-spec : {M : Type 1} → statement M
+put-results-spec = tie.close (tie.spec Inv-loop μ-loop loop-holds mul-put-result-line shared-slice-copy-out-put-result-line mul-put-result-line-2 shared-slice-copy-out-put-result-line-2 put-result-line-requires add-i loop-less loop-again same-length returns)
