@@ -1,4 +1,4 @@
--- `query::instant::told` meets its contract.
+-- `query::instant::by_table` meets its contract.
 use native.Mathlib.Omega.{arith}
 use native.Mathlib.Nat.{le-refl}
 use mathlib.Core.Path.{_≡_, sym, ap, _∙_}
@@ -8,8 +8,8 @@ use Rattle.key.specs.Range.{halfOpen}
 use Rattle.outcomes.specs.Stored.{stored, ranges}
 use Rattle.outcomes.specs.Outcomes.{yesNo}
 use Rattle.query.specs.InnerWalk.{saysAt}
-use Rattle.query.proofs.instant.told.Statement.{statement}
-use Rattle.query.proofs.instant.told.Tie as tie
+use Rattle.query.proofs.instant.by_table.Statement.{statement}
+use Rattle.query.proofs.instant.by_table.Tie as tie
 
 walk-at-requires : tie.Need-walk-at-requires
 walk-at-requires c κs = let s = c .before .before in (s .pre .0, s .pre .1)
@@ -38,5 +38,5 @@ returns c = sym (ap yesNo (at-once (c .before) ∙ c .if1 .taken))
 returns-2 : tie.Need-returns-2
 returns-2 c = sym (ap yesNo (at-once (c .before) ∙ c .if1 .left))
 
-pub told-spec : {M : Type 1} → statement M
-told-spec = tie.close (tie.spec walk-at-requires cell-at-requires returns returns-2)
+pub by-table-spec : {M : Type 1} → statement M
+by-table-spec = tie.close (tie.spec walk-at-requires cell-at-requires returns returns-2)
