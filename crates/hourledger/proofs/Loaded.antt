@@ -1,28 +1,28 @@
 -- What the program's functions ask of each other, from what is proved of the functions that they call.
-use Prim.Native.Nat.{ℕ, _≤_}
+use Prim.Native.Nat.{ℕ, _≤_, min}
 use native.Mathlib.Omega.{arith}
 use mathlib.Core.Path.{_≡_, refl, sym, ap, subst, _∙_}
-use mathlib.Core.Bool.{Bool, true, false, cond}
+use mathlib.Core.Bool.{Bool, true, false, _&&_, cond}
 use mathlib.Core.List.{List, _++_}
 use borrow.Author.Tests.{ltb-false}
 use lib.Dec.{ltb}
 use lib.ListN.{length, drop}
 use lib.IntN.{ℤ}
+use Rattle.key.specs.Rank.{rank}
 use Rattle.key.specs.Range.{halfOpen}
 use Rattle.outcomes.specs.Stored.{places, Stored, wellFormed, Sound}
-use Rattle.outcomes.specs.Outcomes.{formed, leaving}
+use Rattle.outcomes.specs.Outcomes.{formed, leaving, Written, writing}
+use Rattle.outcomes.specs.Sets.{notWritten}
 use Rattle.outcomes.specs.declared.Counted.{Counted}
 use Rattle.outcomes.specs.declared.Counted.the-variants as Counted
 use Rattle.outcomes.proofs.Formed as well
 use Rattle.bytes_of.specs.Bytes.{Bytes}
-use Rattle.byte_form.specs.Form.{formOf, Output, output, put, writing, reading}
-use Rattle.byte_form.proofs.Forms.{Read, read-write}
-use Rattle.duty.specs.declared.Totals.{Totals}
-use Rattle.report.specs.Report.{reporting}
-use Rattle.report.specs.declared.Reported.the-variants as Reported
-use Rattle.report.proofs.Laws.{Told, told}
-use Rattle.report.proofs.Returns.{Window, day-window}
-use Rattle.graph_text.specs.Grid.{Day}
+use Rattle.byte_form.specs.Form.{formOf, Output, output, put, reading}
+use Rattle.byte_form.specs.Form as form
+use Rattle.byte_form.proofs.Forms.{read-write}
+use Rattle.lists.specs.Lists.{wrote}
+use Rattle.query_text.specs.Reader.{Read, got, bad, queryOf}
+use Rattle.query.specs.Answers.{byQuery, resultOf, queried, querying}
 use Rattle.hourledger.specs.InnerInput.{Loaded}
 
 -- a form that was read
@@ -42,9 +42,9 @@ read-loaded old {m} bs bytes is e =
     }
 
 -- a form that is written has room
-pub written-within : (m : Stored) (out : List ℕ) {out₁ : List ℕ} {r : Counted} {n : ℕ} → output r out₁ ≡ writing m out → r ≡ Counted.Count n
+pub written-within : (m : Stored) (out : List ℕ) {out₁ : List ℕ} {r : Counted} {n : ℕ} → output r out₁ ≡ form.writing m out → r ≡ Counted.Count n
     → n ≤ length out
-unfolding writing put
+unfolding form.writing put
 written-within m out {out₁} {r} {n} is e =
     go (formed halfOpen m) (ltb (length out) (length (formOf m))) refl (sym (ap (λ (o : Output). o .answer) is) ∙ e)
   where
@@ -59,10 +59,23 @@ written-within m out {out₁} {r} {n} is e =
     go true false h q = let z : n ≡ length (formOf m) = cc in omega (arith, ltb-false (length out) (length (formOf m)) h)
     go false u h q = absurd (let z : _≡_ {A = ℕ} 0 1 = cc in omega arith)
 
--- a day that is reported can be drawn
-pub told-day : (m : Stored) (z y mo d : ℕ) {s e : ℤ} {t : Totals} → Sound halfOpen m
-    → Reported.Totals s e t ≡ reporting m z y mo d → Day m s e
-told-day m z y mo d {s} {e} {t} sound is =
-    let r = told m z y mo d {s = s} {e = e} {t = t} (sym is) in
-    let w = day-window z y mo d (r .day) in
-    record { sound = sound; real = w .real; short = w .at-most; calm = r .calm }
+-- the ranges of a query that were written have room
+pub queried-within : (a b : Stored) (s e : ℤ) (bytes : List ℕ) (os oe : List ℤ) {os₁ oe₁ : List ℤ} {r : Counted} {n : ℕ}
+    → wrote r os₁ oe₁ ≡ querying a b s e bytes os oe → r ≡ Counted.Count n → n ≤ length os
+unfolding querying queried writing
+queried-within a b s e bytes os oe {r = r} {n = n} is q =
+    any (formed halfOpen a && formed halfOpen b) (ltb (rank s) (rank e)) (queryOf bytes) (sym (ap (λ (w : Written). w .answer) is) ∙ q)
+  where
+    one : (x : ℕ) (u : Bool) (w : Written) → ltb (min (length os) (length oe)) x ≡ u → w .answer ≡ Counted.Count x
+        → cond u (notWritten 3 os oe) w .answer ≡ Counted.Count n → n ≤ length os
+    one x true w h i q = absurd (let z : _≡_ {A = ℕ} 0 1 = cc in omega arith)
+    one x false w h i q = let z : n ≡ x = cc in omega (arith, ltb-false (min (length os) (length oe)) x h)
+
+    any : (t u : Bool) (x : Read)
+        → cond t (cond u (byQuery x (λ y. writing halfOpen (resultOf a b s e y) os oe) (notWritten 7 os oe)) (notWritten 1 os oe)) (notWritten 4 os oe) .answer
+        ≡ Counted.Count n
+        → n ≤ length os
+    any true true (got y rest) q = one (length (resultOf a b s e y)) (ltb (min (length os) (length oe)) (length (resultOf a b s e y))) _ refl refl q
+    any true true bad q = absurd (let z : _≡_ {A = ℕ} 0 1 = cc in omega arith)
+    any true false x q = absurd (let z : _≡_ {A = ℕ} 0 1 = cc in omega arith)
+    any false u x q = absurd (let z : _≡_ {A = ℕ} 0 1 = cc in omega arith)

@@ -10,13 +10,16 @@ use graph_text::GRAPH_ROOM;
 use graph_text::graph_text;
 use libc::STDIN_FILENO;
 use libc::STDOUT_FILENO;
+use log_day::Day;
 use outcomes::PLACES;
 use report::Reported;
 use report_text::REPORT_ROOM;
 use report_text::report_text;
+use svg_text::SVG_ROOM;
+use svg_text::svg_text;
 ghost use Rattle.key.specs.Range.{halfOpen};
 ghost use Rattle.outcomes.specs.Stored.{stored, lent, Sound};
-ghost use Rattle.graph_text.specs.Grid.{Day};
+ghost use Rattle.graph_text.specs.Grid.{Drawable};
 
 fn show_report(start: i64, end: i64, t: Totals) {
     let mut out = [0u8; REPORT_ROOM];
@@ -33,10 +36,26 @@ fn show_graph(
     end: i64,
     t: Totals,
 )
-    requires { ⌜ Day (stored count (now starts) (now ends) (now values)) start end ⌝ }
+    requires { ⌜ Drawable (stored count (now starts) (now ends) (now values)) start end ⌝ }
 {
     let mut out = [0u8; GRAPH_ROOM];
     let n = graph_text(count, starts, ends, values, start, end, t, &mut out);
+    print(STDOUT_FILENO, &out, n);
+}
+
+fn show_picture(
+    count: usize,
+    starts: &[i64; PLACES],
+    ends: &[i64; PLACES],
+    values: &[u8; PLACES],
+    start: i64,
+    end: i64,
+    t: Totals,
+)
+    requires { ⌜ Drawable (stored count (now starts) (now ends) (now values)) start end ⌝ }
+{
+    let mut out = [0u8; SVG_ROOM];
+    let n = svg_text(count, starts, ends, values, start, end, t, &mut out);
     print(STDOUT_FILENO, &out, n);
 }
 
@@ -50,12 +69,12 @@ fn show(
     end: i64,
     t: Totals,
 )
-    requires { ⌜ Day (stored count (now starts) (now ends) (now values)) start end ⌝ }
+    requires { ⌜ Drawable (stored count (now starts) (now ends) (now values)) start end ⌝ }
 {
     match view {
         View::Report => show_report(start, end, t),
         View::Graph => show_graph(count, starts, ends, values, start, end, t),
-        View::Picture => show_graph(count, starts, ends, values, start, end, t),
+        View::Picture => show_picture(count, starts, ends, values, start, end, t),
     }
 }
 
@@ -107,8 +126,8 @@ fn of_form(form: &[u8], view: View, zone: u8, year: u16, month: u8, day: u8) {
 pub fn run(view: View, zone: u8, year: u16, month: u8, day: u8) {
     let judged = log_day::day_of(zone, year, month, day);
     match judged {
-        log_day::Day::Refused(n) => refuse(n),
-        log_day::Day::Span(_, _) => {
+        Day::Refused(n) => refuse(n),
+        Day::Span(_, _) => {
             let mut bytes = [0u8; ROOM];
             let n = read_form(STDIN_FILENO, &mut bytes);
             of_form(&bytes[..n], view, zone, year, month, day);

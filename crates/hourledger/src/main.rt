@@ -1,4 +1,5 @@
 // hourledger: docs/PROGRAM.md says what it does. It reads, calls what is proved, and writes.
+mod asked;
 mod dated;
 mod form;
 mod input;
@@ -28,7 +29,7 @@ fn main() {
     match command {
         Command::Ranges => ranges::run(),
         Command::Dated(view, zone, year, month, day) => dated::run(view, zone, year, month, day),
-        Command::Query(_, _) => usage(STDERR_FILENO),
+        Command::Query(start, end) => asked::run(start, end),
         Command::Make => made::run(),
         Command::Help => usage(STDOUT_FILENO),
         Command::Other => usage(STDERR_FILENO),

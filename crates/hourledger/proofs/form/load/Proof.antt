@@ -1,17 +1,13 @@
+-- `hourledger::form::load` meets its contract.
 use Rattle.hourledger.proofs.Loaded.{read-loaded}
 use native.Mathlib.Omega.{arith}
 use borrow.Author.Needs.{needs}
 use Rattle.hourledger.proofs.form.load.Statement.{statement}
 use Rattle.hourledger.proofs.form.load.Tie as tie
-use Rattle.hourledger.proofs.form.load.Reads as reads
-use Rattle.hourledger.proofs.form.load.Lts as lts
-use Rattle.byte_read.proofs.read.Reads as read-reads
 
--- src/form.rt:35:5
 read-requires : tie.Need-read-requires
 read-requires c κs = search needs
 
--- src/form.rt:26:1
 returns : tie.Need-returns
 returns c =
     let bytes = c .before .before .before .before .before .shared-slice-known .given in

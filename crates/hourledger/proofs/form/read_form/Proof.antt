@@ -1,39 +1,30 @@
+-- `hourledger::form::read_form` meets its contract.
 use native.Mathlib.Omega.{arith}
 use lib.ListN.{length-take}
 use borrow.Author.Needs.{needs}
 use Rattle.hourledger.proofs.form.read_form.Statement.{statement}
 use Rattle.hourledger.proofs.form.read_form.Tie as tie
-use Rattle.hourledger.proofs.form.read_form.Reads as reads
-use Rattle.hourledger.proofs.form.read_form.Lts as lts
-use Rattle.hourledger.proofs.input.read_all.Reads as read-all-reads
 
--- src/form.rt:17:9
 read-all-requires : tie.Need-read-all-requires
 read-all-requires c κs = search needs
 
--- src/form.rt:19:22
 enum-known-got : tie.Need-enum-known-got
 enum-known-got c = search needs
 
--- src/form.rt:20:27
 enum-told : tie.Need-enum-told
 enum-told c = search needs
 
--- src/form.rt:21:26
 enum-told-2 : tie.Need-enum-told-2
 enum-told-2 c = search needs
 
--- src/form.rt:14:1
 returns : tie.Need-returns
 returns c =
     let held = rw (c .before .got .given .1) at (c .before .before .before .read-all .ensures) in
     (held, simp length-take (omega (arith, held)))
 
--- src/form.rt:14:1
 returns-2 : tie.Need-returns-2
 returns-2 c = (omega arith, simp length-take (omega arith))
 
--- src/form.rt:14:1
 returns-3 : tie.Need-returns-3
 returns-3 c = (omega arith, simp length-take (omega arith))
 

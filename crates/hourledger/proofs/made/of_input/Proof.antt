@@ -1,61 +1,45 @@
+-- `hourledger::made::of_input` meets its contract.
 use native.Mathlib.Omega.{arith}
 use lib.ListN.{length-take}
 use borrow.Author.Needs.{needs}
 use Rattle.hourledger.proofs.made.of_input.Statement.{statement}
 use Rattle.hourledger.proofs.made.of_input.Tie as tie
-use Rattle.hourledger.proofs.made.of_input.Reads as reads
-use Rattle.hourledger.proofs.made.of_input.Lts as lts
-use Rattle.hourledger.proofs.made.of_text.Reads as of-text-reads
-use Rattle.io.proofs.write_all.Reads as write-all-reads
-use Rattle.os.proofs.fail.Reads as fail-reads
 
--- src/made.rt:63:22
 enum-known-got : tie.Need-enum-known-got
 enum-known-got c = search needs
 
--- src/made.rt:63:36
 slice-aggregate-of-text : tie.Need-slice-aggregate-of-text
 slice-aggregate-of-text c =
     let held = rw (c .before .before .got .given .1) at (c .before .before .before .before .before .pre) in
     simp length-take (omega (arith, held))
 
--- src/made.rt:63:28
 of-text-requires : tie.Need-of-text-requires
 of-text-requires c κs = search needs
 
--- src/made.rt:65:42
 enum-told : tie.Need-enum-told
 enum-told c = search needs
 
--- src/made.rt:65:42
 slice-aggregate-write-all : tie.Need-slice-aggregate-write-all
 slice-aggregate-write-all c = search needs
 
--- src/made.rt:65:13
 write-all-requires : tie.Need-write-all-requires
 write-all-requires c κs = search needs
 
--- src/made.rt:67:35
 enum-told-2 : tie.Need-enum-told-2
 enum-told-2 c = search needs
 
--- src/made.rt:67:35
 slice-aggregate-fail : tie.Need-slice-aggregate-fail
 slice-aggregate-fail c = search needs
 
--- src/made.rt:67:26
 fail-requires : tie.Need-fail-requires
 fail-requires c κs = search needs
 
--- src/made.rt:59:1
 returns : tie.Need-returns
 returns c = search needs
 
--- src/made.rt:59:1
 returns-2 : tie.Need-returns-2
 returns-2 c = search needs
 
--- src/made.rt:59:1
 returns-3 : tie.Need-returns-3
 returns-3 c = search needs
 
