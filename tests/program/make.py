@@ -43,7 +43,8 @@ def case(name, words, stdin=None, feed=None, closed=False, folder=False, stdout=
         put("stdin/a_folder", b"")
     out, err = answer(words, lambda: given, contents)
     for kind, second, paper in [("stdout", out, stdout), ("stderr", err, stderr)]:
-        if paper is not None and paper.encode() != second:
+        paper = paper.encode() if isinstance(paper, str) else paper
+        if paper is not None and paper != second:
             sys.exit(f"{name}: second.py writes {second!r} on {kind}")
         if second:
             put(kind, second)
@@ -62,6 +63,7 @@ os.mkdir(FORMS)
 NOVEMBER, MARCH, PLAIN = (0, 2024, 11, 3), (0, 2024, 3, 10), (3, 2025, 7, 4)
 LEAP, NO_LEAP, FIRST, LAST = (1, 2024, 2, 29), (1, 2023, 2, 29), (4, 2007, 1, 1), (5, 2099, 12, 31)
 november = form([(1730606400, 1730628000, 1), (1730628000, 1730653200, 3), (1730653200, 1730696400, 1)])
+SAMPLE = "cat ../../../../samples/november."
 march = form(at(MARCH, (0, 6, 2), (6, 6.3, 1), (7.9, 12, 3), (12, 14, 4), (14, 14.1, 3), (14.1, 18, 1), (20, 23, 2)))
 plain = form(at(PLAIN, (-3, 5.5, 2), (5.5, 6, 4), (6, 10.75, 3), (10.75, 11.25, 1), (11.25, 17, 3), (17, 17.5, 4), (17.5, 30, 1)))
 ends = form([(LEAST, LEAST + 1, 255), (-2, 5, 7), (GREATEST - 1, GREATEST, 0)])
@@ -130,7 +132,7 @@ for name, words in {
 case(
     "day_november",
     of("day", NOVEMBER),
-    november,
+    feed=SAMPLE + "form",
     stdout="""\
 start          1730606400
 end            1730696400
@@ -261,10 +263,9 @@ for name, word in {
     query("bad_" + name, (0, 5), word, stdout="7\n")
 
 # Made forms
-EDITS = "insert 1730606400 1730696400 1\ninsert 1730628000 1730653200 3\n"
-case("make_november", ["make"], EDITS.encode())
+case("make_november", ["make"], feed=SAMPLE + "lines", stdout=november)
 case("make_of_nothing", ["make"], b"")
-case("make_with_no_last_newline", ["make"], EDITS[:-1].encode())
+case("make_with_no_last_newline", ["make"], b"insert 0 5 1\ninsert 5 8 2")
 case("make_splits", ["make"], b"insert 0 8 1\ninsert 2 4 2\n")
 case("make_joins", ["make"], b"insert 0 5 1\ninsert 5 8 1\n")
 case("make_removes", ["make"], b"insert 0 8 1\nremove 3 6\n")
@@ -296,6 +297,8 @@ for name, line in {
     "value_minus_1": "insert 0 5 -1",
     "leading_zero": "insert 0 05 1",
     "minus_zero": "insert -0 5 1",
+    "key_2_63": f"insert 0 {2**63} 1",
+    "key_below_all": f"remove {LEAST - 1} 0",
     "as_ranges_prints": "0..5>1",
     "nul": "insert 0 5 1\0",
 }.items():
