@@ -112,7 +112,7 @@ for name, words in {
     "day_two_zeros": ["day", "00", "2024", "11", "3"],
     "day_minus_zero": ["day", "-0", "2024", "11", "3"],
     "day_minus": ["day", "-", "2024", "11", "3"],
-    "day_plus": ["day", "+0", "2024", "11", "3"],
+    "day_plus": ["day", "0", "+2024", "11", "3"],
     "day_space": ["day", "0", "2024", "11", "3 "],
     "day_hex": ["day", "0", "0x7e8", "11", "3"],
     "day_bad_zone_and_no_number": ["day", "7", "2024", "11", "x"],
@@ -231,6 +231,7 @@ query("16_not", (0, 50), "!" * 16 + "A3", stdout="0..10\n30..40\n")
 query("16_parentheses", (0, 50), "(" * 16 + "A3" + ")" * 16, stdout="0..10\n30..40\n")
 query("8_of_each", (0, 50), "!(" * 8 + "A3" + ")" * 8, stdout="0..10\n30..40\n")
 query("21_not_one_after_the_other", (0, 50), "|".join(["!!!A3", "!!!A3"] + ["!A3"] * 13), stdout="10..30\n40..50\n")
+query("18_parentheses_one_after_the_other", (0, 50), "&".join(["((A3))"] * 9), stdout="0..10\n30..40\n")
 query("64_bytes", (0, 50), "A3&" * 20 + "!!A3", stdout="0..10\n30..40\n")
 query("empty_window", (5, 5), "A3", stdout="1\n")
 query("reversed_window", (6, 5), "A3", stdout="1\n")

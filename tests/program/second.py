@@ -346,7 +346,6 @@ def command(words, content, file):
         numbers = [number(word) for word in words[1:5]]
         if None in numbers:
             raise Usage
-        log_day(*numbers)
         day = Day(numbers, content())
         return text(report(day) if words[0] == b"day" else svg(day) if drawn else grid(day))
     if words[0] == b"query" and len(words) == 6:
