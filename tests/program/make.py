@@ -3,6 +3,7 @@
 
 A case has args (a word a line), and its standard input: stdin, or feed, a script that writes it, or closed, where there is none to read.
 A stdin that is a folder can be opened and not read. stdout and stderr are what has to be written; one that is missing says that nothing may be.
+With one_line it is a line on standard error, whatever it says.
 The expected text is second.py's, but for what the papers write out: that stands here, and second.py has to agree."""
 import os
 import shutil
@@ -21,7 +22,7 @@ def put(name, content, executable=False):
         os.chmod(name, 0o755)
 
 
-def case(name, words, stdin=None, feed=None, closed=False, folder=False, stdout=None, stderr=None):
+def case(name, words, stdin=None, feed=None, closed=False, folder=False, stdout=None, stderr=None, one_line=False):
     """Writes a case. stdout and stderr are given where a paper writes them out."""
     os.makedirs(os.path.join(CASES, name))
     os.chdir(os.path.join(CASES, name))
@@ -46,7 +47,9 @@ def case(name, words, stdin=None, feed=None, closed=False, folder=False, stdout=
         paper = paper.encode() if isinstance(paper, str) else paper
         if paper is not None and paper != second:
             sys.exit(f"{name}: second.py writes {second!r} on {kind}")
-        if second:
+        if one_line and kind == "stderr":
+            put("one_line", b"")
+        elif second:
             put(kind, second)
 
 
@@ -210,8 +213,8 @@ for name, content in {
     put(os.path.join(FORMS, name), content)
 
 
-def query(name, window, word, files="a b", stdout=None):
-    case("query_" + name, ["query", str(window[0]), str(window[1]), word, *("../../forms/" + file for file in files.split())], stdout=stdout)
+def query(name, window, word, files="a b", **written):
+    case("query_" + name, ["query", str(window[0]), str(window[1]), word, *("../../forms/" + file for file in files.split())], **written)
 
 
 query("driving_and_not_b_off_duty", (0, 100), "A3&!B1", stdout="0..5\n8..10\n35..40\n")
@@ -240,6 +243,8 @@ query("first_is_no_form", (0, 5), "A3", "no_form b", stdout="6\n")
 query("second_is_no_form", (0, 5), "A3", "a no_form", stdout="6\n")
 query("8713_bytes", (0, 5), "A3", "spare_byte b", stdout="6\n")
 query("a_folder", (0, 5), "A3", "a .", stdout="6\n")
+query("first_is_missing", (0, 5), "A3", "missing b", stdout="", one_line=True)
+query("second_is_missing", (0, 5), "A3", "a missing", stdout="", one_line=True)
 query("6_before_7", (0, 5), "A", "a no_form", stdout="6\n")
 for name, word in {
     "empty": "",
