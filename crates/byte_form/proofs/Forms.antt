@@ -146,7 +146,7 @@ form-map bs b t l =
 
 -- THE READER
 
-same-is : (bs cs : List ℕ) → same bs cs ≡ true → bs ≡ cs
+pub same-is : (bs cs : List ℕ) → same bs cs ≡ true → bs ≡ cs
 unfolding same
 same-is [] [] e = refl
 same-is [] (c ∷ cs) e = never e
@@ -157,6 +157,15 @@ pub is-same : (bs : List ℕ) → same bs bs ≡ true
 unfolding same
 is-same [] = refl
 is-same (b ∷ bs) = and-yes (eq-eqb b b refl) (is-same bs)
+
+-- what a comparison of bytes answers, as a function of bytes says it
+pub told-same : (r : Bool) (a b : List ℕ) → (r ≡ true → a ≡ b) × (a ≡ b → r ≡ true) → same a b ≡ r
+told-same true a b (is, _) = rw (is refl) (is-same b)
+told-same false a b (_, is) = go (same a b) (λ e. is (same-is a b e))
+  where
+    go : (t : Bool) → (t ≡ true → false ≡ true) → t ≡ false
+    go true f = sym (f refl)
+    go false f = refl
 
 -- what bytes are that are the form of a well-formed map
 pub record Form (bs : List ℕ) : Type 0 where

@@ -1,0 +1,13 @@
+-- `edit_lines::told` meets its contract.
+use borrow.Author.Tests.{eq-eqb, ne-eqb}
+use Rattle.edit_lines.proofs.told.Statement.{statement}
+use Rattle.edit_lines.proofs.told.Tie as tie
+
+returns : tie.Need-returns
+returns c = rw (eq-eqb _ _ (c .if1 .taken))
+
+returns-2 : tie.Need-returns-2
+returns-2 c = rw (ne-eqb _ _ (c .if1 .left))
+
+pub told-spec : {M : Type 1} → statement M
+told-spec = tie.close (tie.spec returns returns-2)

@@ -1,0 +1,73 @@
+// One instant of a query of two maps.
+use map::RangeMap;
+use outcomes::PLACES;
+use outcomes::Told;
+use outcomes::told_of;
+ghost use mathlib.Core.Path.{_≡_};
+ghost use Rattle.outcomes.specs.Stored.{lent};
+ghost use Rattle.outcomes.specs.Numbers.{toldOf};
+ghost use Rattle.map.specs.Map.{held};
+ghost use Rattle.query.specs.Answers.{queryingAt};
+
+// The answer in numbers, over the fields of both maps.
+fn in_numbers<'a, 'b>(
+    count_a: &'a usize,
+    starts_a: &'a [i64; PLACES],
+    ends_a: &'a [i64; PLACES],
+    values_a: &'a [u8; PLACES],
+    count_b: &'b usize,
+    starts_b: &'b [i64; PLACES],
+    ends_b: &'b [i64; PLACES],
+    values_b: &'b [u8; PLACES],
+    start: i64,
+    end: i64,
+    bytes: &[u8],
+    key: i64,
+) -> Told
+    ensures { λ r. ⌜ r ≡ toldOf (queryingAt (lent («count_a» .entry) («starts_a» .entry) («ends_a» .entry) («values_a» .entry))
+        (lent («count_b» .entry) («starts_b» .entry) («ends_b» .entry) («values_b» .entry)) start end (now (bytes .entry)) key) ⌝ }
+{
+    told_of(query::instant::query_at(
+        count_a,
+        starts_a,
+        ends_a,
+        values_a,
+        count_b,
+        starts_b,
+        ends_b,
+        values_b,
+        start,
+        end,
+        bytes,
+        key,
+    ))
+}
+
+// Whether one instant is in the result of a query in the window start..end. Outside the window it is not.
+// Refusals: 4 a map, 1 the window, 7 the bytes.
+#[no_mangle]
+pub extern "C" fn range_map_query_at(
+    a: &RangeMap,
+    b: &RangeMap,
+    start: i64,
+    end: i64,
+    bytes: &[u8],
+    key: i64,
+) -> Told
+    ensures { λ r. ⌜ r ≡ toldOf (queryingAt (held (now (a .entry))) (held (now (b .entry))) start end (now (bytes .entry)) key) ⌝ }
+{
+    in_numbers(
+        &a.count,
+        &a.starts,
+        &a.ends,
+        &a.values,
+        &b.count,
+        &b.starts,
+        &b.ends,
+        &b.values,
+        start,
+        end,
+        bytes,
+        key,
+    )
+}

@@ -1,0 +1,75 @@
+// The inner door of one instant of a query.
+use map::RangeMap;
+use outcomes::PLACES;
+use outcomes::Told;
+use outcomes::told_of;
+ghost use mathlib.Core.Path.{_≡_};
+ghost use Rattle.key.specs.Range.{halfOpen};
+ghost use Rattle.outcomes.specs.Stored.{lent, Sound};
+ghost use Rattle.outcomes.specs.Numbers.{toldOf};
+ghost use Rattle.map.specs.Map.{held};
+ghost use Rattle.query.specs.Answers.{queriedAt};
+
+// The answer in numbers, over the fields of both maps.
+fn in_numbers<'a, 'b>(
+    count_a: &'a usize,
+    starts_a: &'a [i64; PLACES],
+    ends_a: &'a [i64; PLACES],
+    values_a: &'a [u8; PLACES],
+    count_b: &'b usize,
+    starts_b: &'b [i64; PLACES],
+    ends_b: &'b [i64; PLACES],
+    values_b: &'b [u8; PLACES],
+    start: i64,
+    end: i64,
+    bytes: &[u8],
+    key: i64,
+) -> Told
+    requires { ⌜ Sound halfOpen (lent «count_a» «starts_a» «ends_a» «values_a») × Sound halfOpen (lent «count_b» «starts_b» «ends_b» «values_b») ⌝ }
+    ensures { λ r. ⌜ r ≡ toldOf (queriedAt (lent («count_a» .entry) («starts_a» .entry) («ends_a» .entry) («values_a» .entry))
+        (lent («count_b» .entry) («starts_b» .entry) («ends_b» .entry) («values_b» .entry)) start end (now (bytes .entry)) key) ⌝ }
+{
+    told_of(query::instant::query_at_unchecked(
+        *count_a,
+        starts_a,
+        ends_a,
+        values_a,
+        *count_b,
+        starts_b,
+        ends_b,
+        values_b,
+        start,
+        end,
+        bytes,
+        key,
+    ))
+}
+
+// The same of one instant, of maps that must be well formed.
+#[no_mangle]
+pub extern "C" fn range_map_query_at_unchecked(
+    a: &RangeMap,
+    b: &RangeMap,
+    start: i64,
+    end: i64,
+    bytes: &[u8],
+    key: i64,
+) -> Told
+    requires { ⌜ Sound halfOpen (held (now a)) × Sound halfOpen (held (now b)) ⌝ }
+    ensures { λ r. ⌜ r ≡ toldOf (queriedAt (held (now (a .entry))) (held (now (b .entry))) start end (now (bytes .entry)) key) ⌝ }
+{
+    in_numbers(
+        &a.count,
+        &a.starts,
+        &a.ends,
+        &a.values,
+        &b.count,
+        &b.starts,
+        &b.ends,
+        &b.values,
+        start,
+        end,
+        bytes,
+        key,
+    )
+}

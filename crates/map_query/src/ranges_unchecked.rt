@@ -1,0 +1,80 @@
+// The inner door of the ranges of a query.
+use map::RangeMap;
+use outcomes::Count;
+use outcomes::PLACES;
+use outcomes::count_of;
+ghost use Rattle.key.specs.Range.{halfOpen};
+ghost use Rattle.outcomes.specs.Stored.{lent, Sound};
+ghost use Rattle.outcomes.specs.Outcomes.{Listed};
+ghost use Rattle.map.specs.Map.{held};
+ghost use Rattle.query.specs.Answers.{queried};
+
+// The answer in numbers, over the fields of both maps.
+fn in_numbers<'a, 'b>(
+    count_a: &'a usize,
+    starts_a: &'a [i64; PLACES],
+    ends_a: &'a [i64; PLACES],
+    values_a: &'a [u8; PLACES],
+    count_b: &'b usize,
+    starts_b: &'b [i64; PLACES],
+    ends_b: &'b [i64; PLACES],
+    values_b: &'b [u8; PLACES],
+    start: i64,
+    end: i64,
+    bytes: &[u8],
+    out_starts: &mut [i64],
+    out_ends: &mut [i64],
+) -> Count
+    requires { ⌜ Sound halfOpen (lent «count_a» «starts_a» «ends_a» «values_a») × Sound halfOpen (lent «count_b» «starts_b» «ends_b» «values_b») ⌝ }
+    ensures { λ r. ⌜ Listed r (now («out_starts» .exit)) (now («out_ends» .exit)) (queried (lent («count_a» .entry) («starts_a» .entry) («ends_a» .entry) («values_a» .entry))
+        (lent («count_b» .entry) («starts_b» .entry) («ends_b» .entry) («values_b» .entry)) start end (now (bytes .entry))
+        (now («out_starts» .entry)) (now («out_ends» .entry))) ⌝ }
+{
+    count_of(query::ranges::query_unchecked(
+        *count_a,
+        starts_a,
+        ends_a,
+        values_a,
+        *count_b,
+        starts_b,
+        ends_b,
+        values_b,
+        start,
+        end,
+        bytes,
+        out_starts,
+        out_ends,
+    ))
+}
+
+// The same ranges, of maps that must be well formed.
+#[no_mangle]
+pub extern "C" fn range_map_query_unchecked(
+    a: &RangeMap,
+    b: &RangeMap,
+    start: i64,
+    end: i64,
+    bytes: &[u8],
+    out_starts: &mut [i64],
+    out_ends: &mut [i64],
+) -> Count
+    requires { ⌜ Sound halfOpen (held (now a)) × Sound halfOpen (held (now b)) ⌝ }
+    ensures { λ r. ⌜ Listed r (now («out_starts» .exit)) (now («out_ends» .exit)) (queried (held (now (a .entry))) (held (now (b .entry))) start end (now (bytes .entry))
+        (now («out_starts» .entry)) (now («out_ends» .entry))) ⌝ }
+{
+    in_numbers(
+        &a.count,
+        &a.starts,
+        &a.ends,
+        &a.values,
+        &b.count,
+        &b.starts,
+        &b.ends,
+        &b.values,
+        start,
+        end,
+        bytes,
+        out_starts,
+        out_ends,
+    )
+}

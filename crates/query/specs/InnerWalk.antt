@@ -1,0 +1,37 @@
+-- A walk along the instants of two maps: where it stands in both, and how far what the table says there goes on.
+use Prim.Native.Nat.{ℕ, _≤_, _<_}
+use mathlib.Core.Path.{_≡_}
+use mathlib.Core.Bool.{Bool, not}
+use mathlib.Core.List.{List}
+use Rattle.span.specs.Span.{Span, at}
+use Rattle.key.specs.Rank.{rank}
+use Rattle.query_text.specs.InnerClasses.{classOf}
+use Rattle.query_text.specs.InnerTable.{says}
+use Rattle.query_text.specs.declared.truth.Truth.{Truth}
+use Rattle.query.specs.InnerSeen.{Standing}
+use Rattle.query.specs.declared.walk.Walk.{Walk}
+use Rattle.query.specs.declared.walk.Cell.{Cell}
+
+-- what a table says of what two maps hold at k
+abbrev pub saysAt : Truth → List Span → List Span → ℕ → Bool
+saysAt t xs ys k = says t (classOf (at xs k)) (classOf (at ys k))
+
+-- a walk stands in two maps
+pub record Stands (xs ys : List Span) (w : Walk) : Type 0 where
+  pub a : Standing xs (w .a) (rank (w .key))
+  pub b : Standing ys (w .b) (rank (w .key))
+
+-- from p up to where the next walk stands the table says one thing
+pub record Cells (t : Truth) (xs ys : List Span) (p e : ℕ) (c : Cell) : Type 0 where
+  pub on : p < rank (c .next .key)
+  pub within : rank (c .next .key) ≤ e
+  pub same : (k : ℕ) → p ≤ k → k < rank (c .next .key) → saysAt t xs ys k ≡ c .yes
+  pub stands : Stands xs ys (c .next)
+
+-- the walk r stands at the first instant from p on, before e, where the table says so, and at e where there is none
+pub record Edges (t : Truth) (xs ys : List Span) (p e : ℕ) (so : Bool) (r : Walk) : Type 0 where
+  pub on : p ≤ rank (r .key)
+  pub within : rank (r .key) ≤ e
+  pub before-it : (k : ℕ) → p ≤ k → k < rank (r .key) → saysAt t xs ys k ≡ not so
+  pub there : rank (r .key) < e → saysAt t xs ys (rank (r .key)) ≡ so
+  pub stands : Stands xs ys r

@@ -1,0 +1,51 @@
+-- The true instants that are still to come: how many ranges they are, and how these are written.
+use Prim.Native.Nat.{ℕ, _+_, _≤_}
+use mathlib.Core.Path.{_≡_}
+use mathlib.Core.Bool.{_&&_, cond}
+use mathlib.Core.List.{List}
+use mathlib.Core.Option.{Option, none}
+use lib.Dec.{leb, ltb}
+use lib.ListN.{length}
+use lib.IntN.{ℤ}
+use Rattle.span.specs.Span.{Span, Means}
+use Rattle.key.specs.Rank.{rank}
+use Rattle.key.specs.Range.{halfOpen}
+use Rattle.outcomes.specs.Stored.{Stored, ranges}
+use Rattle.outcomes.specs.Outcomes.{Written, writing}
+use Rattle.lists.specs.Lists.{Room, Puts}
+use Rattle.query_text.specs.declared.truth.Truth.{Truth}
+use Rattle.query.specs.Result.{marked}
+use Rattle.query.specs.InnerWalk.{saysAt}
+
+-- what is held at k: 0 where it is before e and the table says so
+abbrev pub trueBefore : Truth → List Span → List Span → ℕ → ℕ → Option ℕ
+trueBefore t xs ys e k = marked (ltb k e && saysAt t xs ys k)
+
+-- zs is the tidy list of the instants from p on, before e, where the table says so
+abbrev pub ToCome : Truth → List Span → List Span → ℕ → ℕ → List Span → Type 0
+ToCome t xs ys p e zs = Means zs (λ k. cond (leb p k) (trueBefore t xs ys e k) none)
+
+-- n is how many spans that list has
+pub record Counts (t : Truth) (xs ys : List Span) (p e n : ℕ) : Type 0 where
+  pub room : n + p ≤ e
+  pub many : (zs : List Span) → ToCome t xs ys p e zs → n ≡ length zs
+
+-- two lent lists have room for that list from place n on
+pub record Fits (t : Truth) (xs ys : List Span) (p e n : ℕ) (os oe : List ℤ) : Type 0 where
+  pub list : List Span
+  pub to-come : ToCome t xs ys p e list
+  pub room : Room n list os oe
+
+-- that list is written from place n on, and r is the place behind it
+pub record Writes (t : Truth) (xs ys : List Span) (p e n : ℕ) (os oe : List ℤ) (r : ℕ) (os₁ oe₁ : List ℤ) : Type 0 where
+  pub upto : (zs : List Span) → ToCome t xs ys p e zs → r ≡ n + length zs
+  pub puts : (zs : List Span) → ToCome t xs ys p e zs → Puts halfOpen n zs os oe os₁ oe₁
+
+-- there is a list of what the table says in the window: the caller has it
+pub record Known (t : Truth) (a b : Stored) (s e : ℤ) : Type 0 where
+  pub list : List Span
+  pub to-come : ToCome t (ranges halfOpen a) (ranges halfOpen b) (rank s) (rank e) list
+
+-- what is written is that list
+abbrev pub WritesAll : Truth → Stored → Stored → ℤ → ℤ → List ℤ → List ℤ → Written → Type 0
+WritesAll t a b s e os oe w = (zs : List Span) → ToCome t (ranges halfOpen a) (ranges halfOpen b) (rank s) (rank e) zs → w ≡ writing halfOpen zs os oe

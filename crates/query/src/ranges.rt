@@ -1,0 +1,181 @@
+// THE RANGES of a query: the true instants of a window, as maximal ranges, ascending.
+use crate::BAD_QUERY;
+use crate::formed::are_formed;
+use crate::walk::walk_at;
+use crate::written;
+use lists::shorter;
+use outcomes::Counted;
+use outcomes::EMPTY_RANGE;
+use outcomes::NOT_FORMED;
+use outcomes::PLACES;
+use outcomes::TOO_SHORT;
+use query_text::reader::Reading;
+use query_text::reader::read_query;
+use query_text::truth::Truth;
+ghost use mathlib.Core.Path.{_≡_};
+ghost use Prim.Native.Nat.{_<_};
+ghost use Rattle.key.specs.Rank.{rank};
+ghost use Rattle.key.specs.Range.{halfOpen};
+ghost use Rattle.outcomes.specs.Stored.{lent, Sound};
+ghost use Rattle.lists.specs.Lists.{wrote};
+ghost use Rattle.query.specs.InnerColumns.{columns};
+ghost use Rattle.query.specs.Answers.{queried, querying};
+ghost use Rattle.query.specs.InnerWritten.{Known, WritesAll};
+
+// What the table says in the window, counted first and then written.
+fn found(
+    count_a: usize,
+    starts_a: &[i64],
+    ends_a: &[i64],
+    values_a: &[u8],
+    count_b: usize,
+    starts_b: &[i64],
+    ends_b: &[i64],
+    values_b: &[u8],
+    start: i64,
+    end: i64,
+    t: Truth,
+    out_starts: &mut [i64],
+    out_ends: &mut [i64],
+) -> Counted
+    requires { ⌜ Sound halfOpen (columns «count_a» «starts_a» «ends_a» «values_a») × Sound halfOpen (columns «count_b» «starts_b» «ends_b» «values_b»)
+        × (rank start < rank end) × Known t (columns «count_a» «starts_a» «ends_a» «values_a») (columns «count_b» «starts_b» «ends_b» «values_b») start end ⌝ }
+    ensures { λ r. ⌜ WritesAll t (columns «count_a» («starts_a» .entry) («ends_a» .entry) («values_a» .entry)) (columns «count_b» («starts_b» .entry) («ends_b» .entry) («values_b» .entry))
+        start end (now («out_starts» .entry)) (now («out_ends» .entry)) (wrote r (now («out_starts» .exit)) (now («out_ends» .exit))) ⌝ }
+{
+    let w = walk_at(
+        count_a,
+        starts_a,
+        ends_a,
+        values_a,
+        count_b,
+        starts_b,
+        ends_b,
+        values_b,
+        start,
+    );
+    let n = written::count(
+        count_a,
+        starts_a,
+        ends_a,
+        values_a,
+        count_b,
+        starts_b,
+        ends_b,
+        values_b,
+        t,
+        w,
+        end,
+    );
+    if shorter(out_starts.len(), out_ends.len()) < n {
+        return Counted::Refused(TOO_SHORT);
+    }
+    Counted::Count(written::write(
+        count_a,
+        starts_a,
+        ends_a,
+        values_a,
+        count_b,
+        starts_b,
+        ends_b,
+        values_b,
+        t,
+        w,
+        end,
+        out_starts,
+        out_ends,
+    ))
+}
+
+// THE INNER DOOR: the maps must be sound.
+pub fn query_unchecked(
+    count_a: usize,
+    starts_a: &[i64],
+    ends_a: &[i64],
+    values_a: &[u8],
+    count_b: usize,
+    starts_b: &[i64],
+    ends_b: &[i64],
+    values_b: &[u8],
+    start: i64,
+    end: i64,
+    bytes: &[u8],
+    out_starts: &mut [i64],
+    out_ends: &mut [i64],
+) -> Counted
+    requires { ⌜ Sound halfOpen (columns «count_a» «starts_a» «ends_a» «values_a») × Sound halfOpen (columns «count_b» «starts_b» «ends_b» «values_b») ⌝ }
+    ensures { λ r. ⌜ wrote r (now («out_starts» .exit)) (now («out_ends» .exit))
+        ≡ queried (columns «count_a» («starts_a» .entry) («ends_a» .entry) («values_a» .entry)) (columns «count_b» («starts_b» .entry) («ends_b» .entry) («values_b» .entry))
+        start end (now (bytes .entry)) (now («out_starts» .entry)) (now («out_ends» .entry)) ⌝ }
+{
+    if start >= end {
+        return Counted::Refused(EMPTY_RANGE);
+    }
+    let Reading::Got(_, t) = read_query(bytes) else {
+        return Counted::Refused(BAD_QUERY);
+    };
+    found(
+        count_a,
+        starts_a,
+        ends_a,
+        values_a,
+        count_b,
+        starts_b,
+        ends_b,
+        values_b,
+        start,
+        end,
+        t,
+        out_starts,
+        out_ends,
+    )
+}
+
+// Any two maps are taken.
+pub fn query<'a, 'b>(
+    count_a: &'a usize,
+    starts_a: &'a [i64; PLACES],
+    ends_a: &'a [i64; PLACES],
+    values_a: &'a [u8; PLACES],
+    count_b: &'b usize,
+    starts_b: &'b [i64; PLACES],
+    ends_b: &'b [i64; PLACES],
+    values_b: &'b [u8; PLACES],
+    start: i64,
+    end: i64,
+    bytes: &[u8],
+    out_starts: &mut [i64],
+    out_ends: &mut [i64],
+) -> Counted
+    ensures { λ r. ⌜ wrote r (now («out_starts» .exit)) (now («out_ends» .exit))
+        ≡ querying (lent («count_a» .entry) («starts_a» .entry) («ends_a» .entry) («values_a» .entry)) (lent («count_b» .entry) («starts_b» .entry) («ends_b» .entry) («values_b» .entry))
+        start end (now (bytes .entry)) (now («out_starts» .entry)) (now («out_ends» .entry)) ⌝ }
+{
+    if !are_formed(
+        *count_a,
+        starts_a,
+        ends_a,
+        values_a,
+        *count_b,
+        starts_b,
+        ends_b,
+        values_b,
+    ) {
+        return Counted::Refused(NOT_FORMED);
+    }
+    query_unchecked(
+        *count_a,
+        starts_a,
+        ends_a,
+        values_a,
+        *count_b,
+        starts_b,
+        ends_b,
+        values_b,
+        start,
+        end,
+        bytes,
+        out_starts,
+        out_ends,
+    )
+}

@@ -1,0 +1,28 @@
+-- How many bytes the lines take at most, and what the functions that put them are given.
+use Prim.Native.Nat.{ℕ, _+_, _*_, _≤_}
+use mathlib.Core.List.{List}
+use lib.ListN.{length}
+use lib.IntN.{ℤ}
+
+-- two numbers and two dots; the value and what stands around it; the newline
+abbrev pub rangeRoom : ℕ
+rangeRoom = 42
+
+abbrev pub lineRoom : ℕ
+lineRoom = 65
+
+abbrev pub resultRoom : ℕ
+resultRoom = 43
+
+-- the first n places are there in three columns, and so is the room for their lines
+pub record Room (n : ℕ) (ss es : List ℤ) (vs out : List ℕ) : Type 0 where
+  pub starts : n ≤ length ss
+  pub ends : n ≤ length es
+  pub values : n ≤ length vs
+  pub bytes : lineRoom * n ≤ length out
+
+-- the same of a result
+pub record ResultRoom (n : ℕ) (ss es : List ℤ) (out : List ℕ) : Type 0 where
+  pub starts : n ≤ length ss
+  pub ends : n ≤ length es
+  pub bytes : resultRoom * n ≤ length out

@@ -1,0 +1,90 @@
+// Ranges as text, line by line, put into lent bytes from their start on. Each function answers how many bytes it put.
+use decimal::put_i64;
+use filling::fill;
+use outcomes::PLACES;
+use text::put;
+use text::put_byte;
+ghost use mathlib.Core.Path.{_≡_};
+ghost use Prim.Native.Nat.{_+_, _*_, _≤_};
+ghost use lib.ListN.{length};
+ghost use Rattle.outcomes.specs.Stored.{places, stored};
+ghost use Rattle.filling.specs.Filling.{AddsWithin};
+ghost use Rattle.range_text.specs.RangeText.{rangeText, rangeLine, resultLine, rangesText, resultText};
+ghost use Rattle.range_text.specs.InnerRoom.{rangeRoom, lineRoom, resultRoom, Room, ResultRoom};
+
+// The most bytes that a line takes: two numbers of 20 bytes, two dots, and a value of at most 20 bytes with what stands around it.
+pub const LINE_ROOM: usize = 65;
+
+// The most bytes that the ranges of a map take.
+pub const RANGES_ROOM: usize = PLACES * LINE_ROOM;
+
+// A range, START..END.
+fn put_range(out: &mut [u8], at: usize, start: i64, end: i64) -> usize
+    requires { ⌜ at + rangeRoom ≤ length (now out) ⌝ }
+    ensures { λ r. ⌜ AddsWithin rangeRoom (rangeText start end) (now (out .entry)) at (now (out .exit)) r ⌝ }
+{
+    let dots = put_i64(out, at, start);
+    let to = put(out, dots, b"..");
+    put_i64(out, to, end)
+}
+
+// The line of a range of a map.
+fn put_line(out: &mut [u8], at: usize, start: i64, end: i64, value: u8) -> usize
+    requires { ⌜ at + lineRoom ≤ length (now out) ⌝ }
+    ensures { λ r. ⌜ AddsWithin lineRoom (rangeLine start end value) (now (out .entry)) at (now (out .exit)) r ⌝ }
+{
+    let to = put_range(out, at, start, end);
+    let numbers = [value as u64];
+    fill(out, to, b">{\n", &numbers)
+}
+
+// The line of a range of a result.
+fn put_result_line(out: &mut [u8], at: usize, start: i64, end: i64) -> usize
+    requires { ⌜ at + resultRoom ≤ length (now out) ⌝ }
+    ensures { λ r. ⌜ AddsWithin resultRoom (resultLine start end) (now (out .entry)) at (now (out .exit)) r ⌝ }
+{
+    let to = put_range(out, at, start, end);
+    put_byte(out, to, b'\n')
+}
+
+// The lines of the first `count` places.
+fn put_ranges(count: usize, starts: &[i64], ends: &[i64], values: &[u8], out: &mut [u8]) -> usize
+    requires { ⌜ Room count (now starts) (now ends) (now values) (now out) ⌝ }
+    ensures { λ r. ⌜ AddsWithin (lineRoom * count) (rangesText (stored count (now (starts .entry)) (now (ends .entry)) (now (values .entry)))) (now (out .entry)) 0 (now (out .exit)) r ⌝ }
+{
+    let mut to = 0;
+    let mut i = 0;
+    while i < count {
+        to = put_line(out, to, starts[i], ends[i], values[i]);
+        i += 1;
+    }
+    to
+}
+
+// THE RANGES OF A MAP.
+pub fn ranges_text(
+    count: usize,
+    starts: &[i64; PLACES],
+    ends: &[i64; PLACES],
+    values: &[u8; PLACES],
+    out: &mut [u8; RANGES_ROOM],
+) -> usize
+    requires { ⌜ count ≤ places ⌝ }
+    ensures { λ r. ⌜ AddsWithin (lineRoom * count) (rangesText (stored count (now (starts .entry)) (now (ends .entry)) (now (values .entry)))) (now (out .entry)) 0 (now (out .exit)) r ⌝ }
+{
+    put_ranges(count, starts, ends, values, out)
+}
+
+// THE FIRST n RANGES of a query's result.
+pub fn result_text(starts: &[i64], ends: &[i64], n: usize, out: &mut [u8]) -> usize
+    requires { ⌜ ResultRoom n (now starts) (now ends) (now out) ⌝ }
+    ensures { λ r. ⌜ AddsWithin (resultRoom * n) (resultText (now (starts .entry)) (now (ends .entry)) n) (now (out .entry)) 0 (now (out .exit)) r ⌝ }
+{
+    let mut to = 0;
+    let mut i = 0;
+    while i < n {
+        to = put_result_line(out, to, starts[i], ends[i]);
+        i += 1;
+    }
+    to
+}

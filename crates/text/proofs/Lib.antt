@@ -1,0 +1,2 @@
+-- Laws: of text put into lent bytes.
+pub mod Laws
