@@ -11,7 +11,7 @@ use mir.Facts.{toZ-ofZ}
 use Rattle.outcomes.specs.Stored.{stored}
 use Rattle.text.specs.Text.{Adds}
 use Rattle.decimal.specs.Decimal.{signedText}
-use Rattle.decimal.proofs.Signed.{length-signed}
+use Rattle.decimal.proofs.Signs.{length-signed}
 use Rattle.filling.specs.Filling.{AddsWithin}
 use Rattle.filling.proofs.Laws.{in-room, as-within, series-none, series-more}
 use Rattle.range_text.specs.RangeText.{rangeLine, resultLine, rangesText, resultText}
