@@ -127,6 +127,8 @@ for name, words in {
     "query_and_more": ["query", "0", "5", "A1", "args", "args", "args"],
     "query_leading_zero": ["query", "0", "05", "A1", "args", "args"],
     "query_no_number": ["query", "now", "5", "A1", "args", "args"],
+    "query_key_2_63": ["query", "0", str(2**63), "A1", "args", "args"],
+    "query_key_below_all": ["query", str(LEAST - 1), "0", "A1", "args", "args"],
     "make_and_more": ["make", "form"],
 }.items():
     case("words_" + name, words, stdout="")
