@@ -101,7 +101,8 @@ one-too-large-signed = refl
 -- NUMBERS
 
 -- -9223372036854775808
-pub read-least : readSigned (45 ∷ 57 ∷ 50 ∷ 50 ∷ 51 ∷ 51 ∷ 55 ∷ 50 ∷ 48 ∷ 51 ∷ 54 ∷ 56 ∷ 53 ∷ 52 ∷ 55 ∷ 55 ∷ 53 ∷ 56 ∷ 48 ∷ 56 ∷ []) ≡ Signed.Is (negsuc (2 ^ 63 - 1))
+pub read-least : readSigned (45 ∷ 57 ∷ 50 ∷ 50 ∷ 51 ∷ 51 ∷ 55 ∷ 50 ∷ 48 ∷ 51 ∷ 54 ∷ 56 ∷ 53 ∷ 52 ∷ 55 ∷ 55 ∷ 53 ∷ 56 ∷ 48 ∷ 56 ∷ [])
+    ≡ Signed.Is (negsuc (2 ^ 63 - 1))
 unfolding all
 read-least = refl
 

@@ -1,14 +1,12 @@
 -- Numbers put into lent bytes, digit by digit.
-use Prim.Native.Nat.{ℕ, zero, suc, _+_, _-_, _/_, _%_, _^_, _≤_, _<_}
-use native.Mathlib.Omega.{arith}
+use Prim.Native.Nat.{ℕ, zero, suc, _+_, _-_, _/_, _%_, _<_}
 use native.Mathlib.Nat.{add-suc, lt-irrefl}
 use native.Mathlib.Numerals.{sub-one}
-use mathlib.Core.Path.{_≡_, refl, sym, ap, _∙_}
+use mathlib.Core.Path.{_≡_, sym, ap, _∙_}
 use mathlib.Core.List.{List, [], _∷_, _++_, append-assoc, append-nil}
-use lib.ListN.{length, set, drop}
+use lib.ListN.{set, drop}
 use lib.Seq.{sets, drop-at, drop-length}
 use Rattle.splice.proofs.Sets.{sets-front}
-use Rattle.text.specs.Text.{Adds}
 use Rattle.decimal.specs.Decimal.{digit, digitsText}
 use Rattle.decimal.proofs.Digits.{length-digits}
 
@@ -16,10 +14,11 @@ use Rattle.decimal.proofs.Digits.{length-digits}
 abbrev pub Left : List ℕ → ℕ → ℕ → Type 0
 Left ds i rest = ds ≡ digitsText i rest ++ drop i ds
 
+pub none-put : (k n : ℕ) → drop k (digitsText k n) ≡ []
+none-put k n = ap (λ (i : ℕ). drop i (digitsText k n)) (sym (length-digits k n)) ∙ drop-length (digitsText k n)
+
 pub all-left : (k n : ℕ) → Left (digitsText k n) k n
-all-left k n =
-    let e : drop k (digitsText k n) ≡ [] = ap (λ (i : ℕ). drop i (digitsText k n)) (sym (length-digits k n)) ∙ drop-length (digitsText k n) in
-    rw e (sym (append-nil (digitsText k n)))
+all-left k n = rw (none-put k n) (sym (append-nil (digitsText k n)))
 
 -- one digit fewer is left
 pub left-less : (ds : List ℕ) (i rest : ℕ) → Left ds (suc i) rest → Left ds i (rest / 10) × (drop i ds ≡ digit (rest % 10) ∷ drop (suc i) ds)

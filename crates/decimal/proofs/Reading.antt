@@ -1,21 +1,19 @@
 -- A number is read from its text, and from no other.
 use Prim.Native.Nat.{ℕ, zero, suc, _+_, _-_, _*_, _/_, _%_, _^_, _≤_, _<_}
 use native.Mathlib.Omega.{arith}
-use native.Mathlib.Nat.{div-add-mod}
 use native.Mathlib.Decide.{decLt, ℕ-discrete}
 use mathlib.Core.Path.{_≡_, refl, sym, ap, _∙_}
 use mathlib.Core.Bool.{Bool, true, false, cond, not}
 use mathlib.Core.Logic.{_⊎_, inl, inr, ⊎-elim}
 use mathlib.Core.List.{List, [], _∷_, _++_, append-assoc, append-nil}
 use borrow.Author.Tests.{lt-ltb, le-ltb, le-leb, lt-leb, eq-eqb, ne-eqb, eqb-false, not-true, ltb-true}
-use lib.Dec.{ltb, leb, eqb}
-use lib.ListN.{length, getD, drop}
+use lib.Dec.{ltb, eqb}
+use lib.ListN.{getD}
 use lib.IntN.{ℤ, pos, negsuc}
 use mir.Syntax.{w64}
 use mir.Val.{SFits}
 use Rattle.decimal.specs.declared.Numeral.{Numeral}
 use Rattle.decimal.specs.declared.Numeral.the-variants as Numeral
-use Rattle.decimal.specs.declared.Signed.{Signed}
 use Rattle.decimal.specs.declared.Signed.the-variants as Signed
 use Rattle.decimal.specs.Decimal.{digit, minus, decimalText, signedText}
 use Rattle.decimal.specs.Reading.{plain, nextOf, readOn, readNumber, asNatural, asNegative, readSigned}
@@ -79,21 +77,24 @@ unfolding readOn
 on-none a = refl
 
 -- the digits of a number say it
-on-decimal : (n : ℕ) → n < 10 ^ 20 → n < 2 ^ 64 → readOn (Numeral.Is 0) (decimalText n) ≡ Numeral.Is n
-on-decimal = each-number (λ n. n < 2 ^ 64 → readOn (Numeral.Is 0) (decimalText n) ≡ Numeral.Is n) one more
+abbrev DigitsSay : ℕ → Type 0
+DigitsSay n = n < 2 ^ 64 → readOn (Numeral.Is 0) (decimalText n) ≡ Numeral.Is n
+
+digits-say : (n : ℕ) → n < 10 ^ 20 → DigitsSay n
+digits-say = each-number DigitsSay one more
   where
-    one : (n : ℕ) → n < 10 → n < 2 ^ 64 → readOn (Numeral.Is 0) (decimalText n) ≡ Numeral.Is n
+    one : (n : ℕ) → n < 10 → DigitsSay n
     one n h w =
         let e : 10 * 0 + (48 + n - 48) ≡ n = omega arith in
         rw (decimal-one n h, on-one (Numeral.Is 0) (48 + n) [], next-is 0 (48 + n) (omega arith) (omega arith) (omega arith), e, on-none (Numeral.Is n))
 
-    more : (n : ℕ) → 10 ≤ n → n < 10 ^ 20 → (n / 10 < 2 ^ 64 → readOn (Numeral.Is 0) (decimalText (n / 10)) ≡ Numeral.Is (n / 10)) → n < 2 ^ 64
-        → readOn (Numeral.Is 0) (decimalText n) ≡ Numeral.Is n
+    more : (n : ℕ) → 10 ≤ n → n < 10 ^ 20 → DigitsSay (n / 10) → DigitsSay n
     more n h b ih w =
-        let i = ih (omega arith) in
         let d : List ℕ = digit (n % 10) ∷ [] in
         let e : 10 * (n / 10) + (48 + n % 10 - 48) ≡ n = omega arith in
-        ap (readOn (Numeral.Is 0)) (decimal-more n h b) ∙ on-append (Numeral.Is 0) (decimalText (n / 10)) d ∙ ap (λ (a : Numeral). readOn a d) i
+        ap (readOn (Numeral.Is 0)) (decimal-more n h b)
+        ∙ on-append (Numeral.Is 0) (decimalText (n / 10)) d
+        ∙ ap (λ (a : Numeral). readOn a d) (ih (omega arith))
         ∙ on-one (Numeral.Is (n / 10)) (48 + n % 10) []
         ∙ on-none (nextOf (Numeral.Is (n / 10)) (48 + n % 10))
         ∙ next-is (n / 10) (48 + n % 10) (omega arith) (omega arith) (omega arith)
@@ -106,14 +107,16 @@ first-append k [] t h = absurd (omega arith)
 first-append k (b ∷ s) t h = refl
 
 -- a number begins with a digit, and one above 0 with another than 0
-first-digit : (n : ℕ) → n < 10 ^ 20 → (48 ≤ getD (decimalText n) 0 0) × (0 < n → 48 < getD (decimalText n) 0 0)
-first-digit = each-number (λ n. (48 ≤ getD (decimalText n) 0 0) × (0 < n → 48 < getD (decimalText n) 0 0)) one more
+abbrev Begins : ℕ → Type 0
+Begins n = (48 ≤ getD (decimalText n) 0 0) × (0 < n → 48 < getD (decimalText n) 0 0)
+
+first-digit : (n : ℕ) → n < 10 ^ 20 → Begins n
+first-digit = each-number Begins one more
   where
-    one : (n : ℕ) → n < 10 → (48 ≤ getD (decimalText n) 0 0) × (0 < n → 48 < getD (decimalText n) 0 0)
+    one : (n : ℕ) → n < 10 → Begins n
     one n h = rw (decimal-one n h) (omega arith, λ p. omega arith)
 
-    more : (n : ℕ) → 10 ≤ n → n < 10 ^ 20 → (48 ≤ getD (decimalText (n / 10)) 0 0) × (0 < n / 10 → 48 < getD (decimalText (n / 10)) 0 0)
-        → (48 ≤ getD (decimalText n) 0 0) × (0 < n → 48 < getD (decimalText n) 0 0)
+    more : (n : ℕ) → 10 ≤ n → n < 10 ^ 20 → Begins (n / 10) → Begins n
     more n h b ih =
         let i = ih .1 (omega arith) in
         let e : getD (decimalText n) 0 0 ≡ getD (decimalText (n / 10)) 0 0 =
@@ -141,7 +144,7 @@ plain-decimal n b = elim (decLt n 10) [
 
 pub read-written : (n : ℕ) → n < 2 ^ 64 → readNumber (decimalText n) ≡ Numeral.Is n
 unfolding readNumber
-read-written n h = rw (plain-decimal n (omega arith)) (on-decimal n (omega arith) h)
+read-written n h = rw (plain-decimal n (omega arith)) (digits-say n (omega arith) h)
 
 -- no two numbers have the same text
 pub one-text : (m n : ℕ) → m < 2 ^ 64 → n < 2 ^ 64 → decimalText m ≡ decimalText n → m ≡ n
@@ -151,7 +154,7 @@ one-text m n h k e =
 
 -- NOTHING ELSE IS READ
 
--- a text that says n, and n has a u64
+-- a text that says n, a number below 2 ^ 64
 record Says (t : List ℕ) (n : ℕ) : Type 0 where
   pub below : n < 2 ^ 64
   pub is-text : t ≡ decimalText n
@@ -185,7 +188,8 @@ says-on (b ∷ t) m n p w e =
     ⊎-elim (λ x. never-on n (nextOf (Numeral.Is m) b) t x o)
     (λ x.
     let s = says-on t (10 * m + (b - 48)) n (omega arith) (x .fits) (rw (x .is) at o) in
-    let a : decimalText m ++ b ∷ t ≡ decimalText (10 * m + (b - 48)) ++ t = sym (append-assoc (decimalText m) (b ∷ []) t) ∙ ap (λ (u : List ℕ). u ++ t) (digit-behind m b p x) in
+    let d = ap (λ (u : List ℕ). u ++ t) (digit-behind m b p x) in
+    let a : decimalText m ++ b ∷ t ≡ decimalText (10 * m + (b - 48)) ++ t = sym (append-assoc (decimalText m) (b ∷ []) t) ∙ d in
     record { below = s .below; is-text = a ∙ s .is-text })
     (taken-or-not m b)
 
@@ -279,24 +283,23 @@ one-text-signed y z f g e =
     cc
 
 -- what is behind an i64 that was read
+below-says : (n : ℕ) (y z : ℤ) → cond (ltb n (2 ^ 63)) (Signed.Is y) Signed.Not ≡ Signed.Is z → (y ≡ z) × (n < 2 ^ 63)
+below-says n y z e = go (ltb n (2 ^ 63)) refl e
+  where
+    go : (t : Bool) → ltb n (2 ^ 63) ≡ t → cond t (Signed.Is y) Signed.Not ≡ Signed.Is z → (y ≡ z) × (n < 2 ^ 63)
+    go true l e = let p : y ≡ z = cc in (p, ltb-true n (2 ^ 63) l)
+    go false l e = never-signed e
+
 natural-says : (a : Numeral) (z : ℤ) → asNatural a ≡ Signed.Is z → (n : ℕ) × (a ≡ Numeral.Is n) × (pos n ≡ z) × (n < 2 ^ 63)
 unfolding asNatural
 natural-says Numeral.Not z e = never-signed e
-natural-says (Numeral.Is n) z e = go (ltb n (2 ^ 63)) refl e
-  where
-    go : (t : Bool) → ltb n (2 ^ 63) ≡ t → cond t (Signed.Is (pos n)) Signed.Not ≡ Signed.Is z → (m : ℕ) × (Numeral.Is n ≡ Numeral.Is m) × (pos m ≡ z) × (m < 2 ^ 63)
-    go true l e = let p : pos n ≡ z = cc in (n, refl, p, ltb-true n (2 ^ 63) l)
-    go false l e = never-signed e
+natural-says (Numeral.Is n) z e = let w = below-says n (pos n) z e in (n, refl, w .0, w .1)
 
 negative-says : (a : Numeral) (z : ℤ) → asNegative a ≡ Signed.Is z → (n : ℕ) × (a ≡ Numeral.Is (suc n)) × (negsuc n ≡ z) × (n < 2 ^ 63)
 unfolding asNegative
 negative-says Numeral.Not z e = never-signed e
 negative-says (Numeral.Is zero) z e = never-signed e
-negative-says (Numeral.Is (suc n)) z e = go (ltb n (2 ^ 63)) refl e
-  where
-    go : (t : Bool) → ltb n (2 ^ 63) ≡ t → cond t (Signed.Is (negsuc n)) Signed.Not ≡ Signed.Is z → (m : ℕ) × (Numeral.Is (suc n) ≡ Numeral.Is (suc m)) × (negsuc m ≡ z) × (m < 2 ^ 63)
-    go true l e = let p : negsuc n ≡ z = cc in (n, refl, p, ltb-true n (2 ^ 63) l)
-    go false l e = never-signed e
+negative-says (Numeral.Is (suc n)) z e = let w = below-says n (negsuc n) z e in (n, refl, w .0, w .1)
 
 -- a text that says the i64 z
 record SaysSigned (t : List ℕ) (z : ℤ) : Type 0 where
@@ -311,8 +314,8 @@ says-signed (b ∷ t) z e = elim (ℕ-discrete b minus) [ yes p ↦ behind p | n
     behind : b ≡ minus → SaysSigned (b ∷ t) z
     behind p =
         let w = negative-says (readNumber t) z (sym (signed-minus b t p) ∙ e) in
-        let s : t ≡ decimalText (suc (w .0)) = written-read t (suc (w .0)) (w .1) in
-        let r : SaysSigned (b ∷ t) (negsuc (w .0)) = record { fits = record { sfits = w .3 }; is-text = ap (λ (x : ℕ). x ∷ t) p ∙ ap (λ (u : List ℕ). minus ∷ u) s } in
+        let s : b ∷ t ≡ minus ∷ decimalText (suc (w .0)) = ap (λ (x : ℕ). x ∷ t) p ∙ ap (λ (u : List ℕ). minus ∷ u) (written-read t (suc (w .0)) (w .1)) in
+        let r : SaysSigned (b ∷ t) (negsuc (w .0)) = record { fits = record { sfits = w .3 }; is-text = s } in
         rw (w .2) at r
 
     plainly : (b ≡ minus → ⊥) → SaysSigned (b ∷ t) z

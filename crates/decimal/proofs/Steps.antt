@@ -1,5 +1,5 @@
 -- What the steps of the readers find.
-use Prim.Native.Nat.{ℕ, zero, suc, _+_, _-_, _*_, _^_, _≤_, _<_}
+use Prim.Native.Nat.{ℕ, zero, suc, _+_, _-_, _^_, _≤_, _<_}
 use native.Mathlib.Omega.{arith}
 use native.Mathlib.Numerals.{add-one}
 use mathlib.Core.Path.{_≡_, refl, sym, ap, _∙_}
@@ -10,17 +10,16 @@ use borrow.Rule.Slice.PartMut.{midOf}
 use lib.Dec.{eqb}
 use lib.ListN.{length, getD, take, drop, drop-of-length-le}
 use lib.Seq.{drop-cons, take-length}
-use lib.IntN.{pos, negsuc, _+ℤ_}
+use lib.IntN.{negsuc, _+ℤ_}
 use mir.Syntax.{w64}
-use mir.Val.{SFits, toZ}
+use mir.Val.{toZ}
 use Rattle.bytes_of.proofs.Laws.{key-negative}
 use Rattle.decimal.specs.declared.Numeral.{Numeral}
 use Rattle.decimal.specs.declared.Numeral.the-variants as Numeral
-use Rattle.decimal.specs.declared.Signed.{Signed}
 use Rattle.decimal.specs.declared.Signed.the-variants as Signed
 use Rattle.decimal.specs.Decimal.{minus}
 use Rattle.decimal.specs.Reading.{plain, nextOf, readOn, readNumber, asNatural, asNegative, readSigned}
-use Rattle.decimal.proofs.Reading.{plain-two, on-not, on-one, on-none, signed-none, signed-minus, signed-other}
+use Rattle.decimal.proofs.Reading.{plain-two, on-one, on-none, signed-none, signed-minus, signed-other}
 
 -- PLAIN TEXT
 
@@ -83,7 +82,8 @@ pub minus-key : (n : ℕ) → 0 < n → n ≤ 2 ^ 63 → toZ w64 (2 ^ 63 - n) +�
 minus-key n p h =
     let e : 2 ^ 63 - n ≡ 2 ^ 64 - n - 2 ^ 63 = omega arith in
     let k : 2 ^ 64 - suc (2 ^ 64 - n) ≡ n - 1 = omega arith in
-    ap (λ (m : ℕ). toZ w64 m +ℤ negsuc (2 ^ 63 - 1)) e ∙ key-negative (2 ^ 64 - n) (omega arith) (omega arith) ∙ rw (le-ltb (2 ^ 64 - n) (2 ^ 63) (omega arith)) (ap negsuc k)
+    let z : toZ w64 (2 ^ 64 - n) ≡ negsuc (n - 1) = rw (le-ltb (2 ^ 64 - n) (2 ^ 63) (omega arith)) (ap negsuc k) in
+    ap (λ (m : ℕ). toZ w64 m +ℤ negsuc (2 ^ 63 - 1)) e ∙ key-negative (2 ^ 64 - n) (omega arith) (omega arith) ∙ z
 
 -- THE FIRST BYTE
 

@@ -5,7 +5,7 @@ ghost use Prim.Native.Nat.{_+_, _<_, _≤_, max};
 ghost use mathlib.Core.Path.{_≡_};
 ghost use lib.ListN.{length};
 ghost use Rattle.text.specs.Text.{Adds, rightOf};
-ghost use Rattle.decimal.specs.Decimal.{digit, digitsText, decimalText, signedText};
+ghost use Rattle.decimal.specs.Decimal.{longest, digit, digitsText, decimalText, signedText};
 ghost use Rattle.decimal.specs.Reading.{plain, nextOf, readNumber, asNatural, asNegative, readSigned};
 
 // What a text is as a u64.
@@ -20,7 +20,7 @@ pub enum Signed {
     Not,
 }
 
-// No number of 64 bits has more bytes of text than this, its sign among them.
+// No text of a number of 64 bits is longer, its sign counted.
 pub const LONGEST: usize = 20;
 
 // The rank of the key 0: how many keys are negative.
@@ -28,6 +28,8 @@ const ZERO: u64 = 9223372036854775808;
 
 // The greatest u64.
 const GREATEST: u64 = 18446744073709551615;
+
+// ---- writing
 
 // The byte of a digit.
 fn digit_byte(d: u64) -> u8
@@ -75,7 +77,7 @@ fn put_number(out: &mut [u8], at: usize, n: u64) -> usize
 
 // A number.
 pub fn put_u64(out: &mut [u8], at: usize, n: u64) -> usize
-    requires { ⌜ at + 20 ≤ length (now out) ⌝ }
+    requires { ⌜ at + longest ≤ length (now out) ⌝ }
     ensures { λ r. ⌜ Adds (decimalText n) (now (out .entry)) at (now (out .exit)) r ⌝ }
 {
     put_number(out, at, n)
@@ -83,7 +85,7 @@ pub fn put_u64(out: &mut [u8], at: usize, n: u64) -> usize
 
 // A number with a sign. The rank of a key tells how far it is from 0, and nothing overflows there.
 pub fn put_i64(out: &mut [u8], at: usize, n: i64) -> usize
-    requires { ⌜ at + 20 ≤ length (now out) ⌝ }
+    requires { ⌜ at + longest ≤ length (now out) ⌝ }
     ensures { λ r. ⌜ Adds (signedText n) (now (out .entry)) at (now (out .exit)) r ⌝ }
 {
     let rank = key::rank_of(n);
@@ -96,17 +98,17 @@ pub fn put_i64(out: &mut [u8], at: usize, n: i64) -> usize
 
 // A number at the right of its columns. One that is wider than they are stands whole.
 pub fn put_u64_right(out: &mut [u8], at: usize, width: usize, n: u64) -> usize
-    requires { ⌜ at + max width 20 ≤ length (now out) ⌝ }
+    requires { ⌜ at + max width longest ≤ length (now out) ⌝ }
     ensures { λ r. ⌜ Adds (rightOf width (decimalText n)) (now (out .entry)) at (now (out .exit)) r ⌝ }
 {
-    let mut text = [0u8; LONGEST];
-    let k = put_u64(&mut text, 0, n);
-    put_right(out, at, width, &text[..k])
+    let mut digits = [0u8; LONGEST];
+    let k = put_u64(&mut digits, 0, n);
+    put_right(out, at, width, &digits[..k])
 }
 
 // The same with a sign.
 pub fn put_i64_right(out: &mut [u8], at: usize, width: usize, n: i64) -> usize
-    requires { ⌜ at + max width 20 ≤ length (now out) ⌝ }
+    requires { ⌜ at + max width longest ≤ length (now out) ⌝ }
     ensures { λ r. ⌜ Adds (rightOf width (signedText n)) (now (out .entry)) at (now (out .exit)) r ⌝ }
 {
     let mut text = [0u8; LONGEST];

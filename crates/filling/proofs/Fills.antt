@@ -10,10 +10,10 @@ use lib.ListN.{length, getD, take, drop, drop-of-length-le, take-append-drop}
 use lib.Seq.{take-suc, drop-cons}
 use Rattle.text.specs.Text.{Adds}
 use Rattle.text.proofs.Laws.{adds-none, adds-then, adds-as, adds-length}
-use Rattle.decimal.specs.Decimal.{decimalText}
+use Rattle.decimal.specs.Decimal.{longest, decimalText}
 use Rattle.decimal.proofs.Digits.{length-u64}
-use Rattle.filling.specs.Filling.{hole, pieceOf, leftBy, filled, AddsWithin}
-use Rattle.filling.specs.InnerFill.{longest, leftAfter, Piece, Next}
+use Rattle.filling.specs.Filling.{hole, pieceOf, leftBy, filled, filledRoom, AddsWithin}
+use Rattle.filling.specs.InnerFill.{leftAfter, Piece, Next}
 
 -- one byte more
 filled-end : (t : List ℕ) (c : ℕ) (ns : List ℕ) → filled (t ++ (c ∷ [])) ns ≡ filled t ns ++ pieceOf c (leftAfter t ns)
@@ -27,19 +27,19 @@ after-end [] c ns = refl
 after-end (b ∷ t) c ns = after-end t c (leftBy b ns)
 
 -- WHAT THE LOOP KNOWS before the byte i, where k numbers are used
-pub record Filling (t ns out : List ℕ) (at i k : ℕ) (out₁ : List ℕ) (r : ℕ) : Type 0 where
+pub record FilledUpto (t ns out : List ℕ) (at i k : ℕ) (out₁ : List ℕ) (r : ℕ) : Type 0 where
   pub passed : i ≤ length t
   pub used : k ≤ length ns
   pub left : drop k ns ≡ leftAfter (take i t) ns
   pub adds : Adds (filled (take i t) ns) out at out₁ r
   pub room : r + longest * length (drop k ns) ≤ at + i + longest * length ns
 
-pub filling-none : (t ns out : List ℕ) (at : ℕ) → Filling t ns out at 0 0 out at
+pub filling-none : (t ns out : List ℕ) (at : ℕ) → FilledUpto t ns out at 0 0 out at
 unfolding filled leftAfter
 filling-none t ns out at = record { passed = omega arith; used = omega arith; left = refl; adds = adds-none out at; room = omega arith }
 
-pub filling-more : {t ns out out₁ out₂ : List ℕ} {at i k l r₁ r₂ : ℕ} → i < length t → Filling t ns out at i k out₁ r₁
-    → Piece (getD t i 0) (drop k ns) out₁ r₁ out₂ r₂ → Next (getD t i 0) k ns l → Filling t ns out at (i + 1) l out₂ r₂
+pub filling-more : {t ns out out₁ out₂ : List ℕ} {at i k l r₁ r₂ : ℕ} → i < length t → FilledUpto t ns out at i k out₁ r₁
+    → Piece (getD t i 0) (drop k ns) out₁ r₁ out₂ r₂ → Next (getD t i 0) k ns l → FilledUpto t ns out at (i + 1) l out₂ r₂
 filling-more {t} {ns} {out} {out₁} {out₂} {at} {i} {k} {l} {r₁} {r₂} h f p n =
     let c : ℕ = getD t i 0 in
     let s : take (i + 1) t ≡ take i t ++ (c ∷ []) = rw (add-one i) (take-suc t i 0 h) in
@@ -52,7 +52,7 @@ filling-more {t} {ns} {out} {out₁} {out₂} {at} {i} {k} {l} {r₁} {r₂} h f
       room = omega (arith, f .room, p .room, ap length (n .left));
     }
 
-pub filling-done : {t ns out out₁ : List ℕ} {at i k r : ℕ} → length t ≤ i → Filling t ns out at i k out₁ r → AddsWithin (length t + longest * length ns) (filled t ns) out at out₁ r
+pub filling-done : {t ns out out₁ : List ℕ} {at i k r : ℕ} → length t ≤ i → FilledUpto t ns out at i k out₁ r → AddsWithin (filledRoom t ns) (filled t ns) out at out₁ r
 filling-done {t} {ns} {i = i} h f =
     let w : take i t ≡ t = rw (drop-of-length-le t {i = i} h, append-nil) at (take-append-drop i t) in
     record { adds = adds-as (ap (λ (u : List ℕ). filled u ns) w) (f .adds); within = omega (arith, f .room, f .passed) }

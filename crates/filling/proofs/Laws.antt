@@ -4,9 +4,9 @@ use native.Mathlib.Omega.{arith}
 use native.Mathlib.Numerals.{add-one}
 use mathlib.Core.Path.{_≡_, refl, sym, ap, _∙_}
 use mathlib.Core.List.{List, [], _++_}
-use lib.ListN.{length}
+use lib.ListN.{length, take}
 use Rattle.text.specs.Text.{Adds}
-use Rattle.text.proofs.Laws.{adds-none, adds-then, adds-as, adds-length}
+use Rattle.text.proofs.Laws.{adds-none, adds-then, adds-as, adds-length, text-first}
 use Rattle.filling.specs.Filling.{series, AddsWithin}
 
 -- a text that was put takes its own length, and whatever is more
@@ -34,3 +34,11 @@ pub series-more : (f : ℕ → List ℕ) (i : ℕ) {m n : ℕ} {out out₁ out�
     → AddsWithin (m + n) (series f (i + 1)) out at out₂ r₂
 unfolding series
 series-more f i a b = as-within (sym (ap (series f) (add-one i))) (omega arith) (then-within a b)
+
+-- THE ONE OUTCOME: the text decides the bytes and the place behind it
+pub within-one : {m : ℕ} {s out o p : List ℕ} {at q r : ℕ} → AddsWithin m s out at o q → AddsWithin m s out at p r → (o ≡ p) × (q ≡ r)
+within-one a b = (a .adds .puts ∙ sym (b .adds .puts), a .adds .upto ∙ sym (b .adds .upto))
+
+-- what a caller writes of lent bytes with room for the text: the first r of them
+pub within-first : {m : ℕ} {s out out₁ : List ℕ} {r : ℕ} → AddsWithin m s out 0 out₁ r → m ≤ length out → take r out₁ ≡ s
+within-first a h = text-first (a .adds) (omega (arith, a .within, a .adds .upto))

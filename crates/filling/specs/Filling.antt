@@ -1,12 +1,13 @@
 -- Text that is written out, text with numbers filled in, and one text after another.
-use Prim.Native.Nat.{ℕ, zero, suc, _+_, _≤_}
+use Prim.Native.Nat.{ℕ, zero, suc, _+_, _*_, _≤_}
 use Prim.Native.Char.{code}
 use Prim.Native.String.{String, [] as nothing, _∷_ as _before_}
 use mathlib.Core.Bool.{cond}
 use mathlib.Core.List.{List, [], _∷_, _++_}
 use lib.Dec.{eqb}
+use lib.ListN.{length}
 use Rattle.text.specs.Text.{Adds}
-use Rattle.decimal.specs.Decimal.{decimalText}
+use Rattle.decimal.specs.Decimal.{longest, decimalText}
 
 -- the bytes of a text that is written out: the code of each of its characters
 abbrev pub ascii : String → List ℕ
@@ -31,6 +32,10 @@ leftBy c (n ∷ ns) = cond (eqb c hole) ns (n ∷ ns)
 unfoldable pub filled : List ℕ → List ℕ → List ℕ
 filled [] ns = []
 filled (c ∷ t) ns = pieceOf c ns ++ filled t (leftBy c ns)
+
+-- the most bytes that it takes
+abbrev pub filledRoom : List ℕ → List ℕ → ℕ
+filledRoom t ns = length t + longest * length ns
 
 -- the texts of 0, of 1, and so on, of each number below n, one after another
 unfoldable pub series : (ℕ → List ℕ) → ℕ → List ℕ

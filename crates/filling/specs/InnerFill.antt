@@ -4,11 +4,8 @@ use mathlib.Core.Path.{_≡_}
 use mathlib.Core.List.{List, [], _∷_}
 use lib.ListN.{length, drop}
 use Rattle.text.specs.Text.{Adds}
+use Rattle.decimal.specs.Decimal.{longest}
 use Rattle.filling.specs.Filling.{pieceOf, leftBy}
-
--- a number takes at most 20 bytes
-abbrev pub longest : ℕ
-longest = 20
 
 -- the numbers that are left behind a text
 unfoldable pub leftAfter : List ℕ → List ℕ → List ℕ

@@ -3,8 +3,9 @@ use decimal::put_u64;
 use text::put_byte;
 ghost use Prim.Native.Nat.{_+_, _-_, _*_, _≤_};
 ghost use lib.ListN.{length, drop};
-ghost use Rattle.filling.specs.Filling.{filled, AddsWithin};
-ghost use Rattle.filling.specs.InnerFill.{longest, Piece, Next};
+ghost use Rattle.filling.specs.Filling.{filled, filledRoom, AddsWithin};
+ghost use Rattle.filling.specs.InnerFill.{Piece, Next};
+ghost use Rattle.decimal.specs.Decimal.{longest};
 
 // What one byte of a text becomes before the numbers from the place k on.
 fn put_piece(out: &mut [u8], at: usize, byte: u8, numbers: &[u64], k: usize) -> usize
@@ -36,8 +37,8 @@ fn next_number(byte: u8, numbers: &[u64], k: usize) -> usize
 
 // A text with numbers filled in at its holes, `{`.
 pub fn fill(out: &mut [u8], at: usize, text: &[u8], numbers: &[u64]) -> usize
-    requires { ⌜ at + (length (now text) + longest * length (now numbers)) ≤ length (now out) ⌝ }
-    ensures { λ r. ⌜ AddsWithin (length (now (text .entry)) + longest * length (now (numbers .entry))) (filled (now (text .entry)) (now (numbers .entry))) (now (out .entry)) at (now (out .exit)) r ⌝ }
+    requires { ⌜ at + filledRoom (now text) (now numbers) ≤ length (now out) ⌝ }
+    ensures { λ r. ⌜ AddsWithin (filledRoom (now (text .entry)) (now (numbers .entry))) (filled (now (text .entry)) (now (numbers .entry))) (now (out .entry)) at (now (out .exit)) r ⌝ }
 {
     let mut to = at;
     let mut k = 0;

@@ -24,7 +24,8 @@ fn in_numbers<'a, 'b>(
     out_starts: &mut [i64],
     out_ends: &mut [i64],
 ) -> Count
-    ensures { λ r. ⌜ Listed r (now («out_starts» .exit)) (now («out_ends» .exit)) (querying (lent («count_a» .entry) («starts_a» .entry) («ends_a» .entry) («values_a» .entry))
+    ensures { λ r. ⌜ Listed r (now («out_starts» .exit)) (now («out_ends» .exit))
+        (querying (lent («count_a» .entry) («starts_a» .entry) («ends_a» .entry) («values_a» .entry))
         (lent («count_b» .entry) («starts_b» .entry) («ends_b» .entry) («values_b» .entry)) start end (now (bytes .entry))
         (now («out_starts» .entry)) (now («out_ends» .entry))) ⌝ }
 {
@@ -57,7 +58,8 @@ pub extern "C" fn range_map_query(
     out_starts: &mut [i64],
     out_ends: &mut [i64],
 ) -> Count
-    ensures { λ r. ⌜ Listed r (now («out_starts» .exit)) (now («out_ends» .exit)) (querying (held (now (a .entry))) (held (now (b .entry))) start end (now (bytes .entry))
+    ensures { λ r. ⌜ Listed r (now («out_starts» .exit)) (now («out_ends» .exit))
+        (querying (held (now (a .entry))) (held (now (b .entry))) start end (now (bytes .entry))
         (now («out_starts» .entry)) (now («out_ends» .entry))) ⌝ }
 {
     in_numbers(

@@ -26,7 +26,8 @@ fn in_numbers<'a, 'b>(
     out_ends: &mut [i64],
 ) -> Count
     requires { ⌜ Sound halfOpen (lent «count_a» «starts_a» «ends_a» «values_a») × Sound halfOpen (lent «count_b» «starts_b» «ends_b» «values_b») ⌝ }
-    ensures { λ r. ⌜ Listed r (now («out_starts» .exit)) (now («out_ends» .exit)) (queried (lent («count_a» .entry) («starts_a» .entry) («ends_a» .entry) («values_a» .entry))
+    ensures { λ r. ⌜ Listed r (now («out_starts» .exit)) (now («out_ends» .exit))
+        (queried (lent («count_a» .entry) («starts_a» .entry) («ends_a» .entry) («values_a» .entry))
         (lent («count_b» .entry) («starts_b» .entry) («ends_b» .entry) («values_b» .entry)) start end (now (bytes .entry))
         (now («out_starts» .entry)) (now («out_ends» .entry))) ⌝ }
 {
@@ -59,7 +60,8 @@ pub extern "C" fn range_map_query_unchecked(
     out_ends: &mut [i64],
 ) -> Count
     requires { ⌜ Sound halfOpen (held (now a)) × Sound halfOpen (held (now b)) ⌝ }
-    ensures { λ r. ⌜ Listed r (now («out_starts» .exit)) (now («out_ends» .exit)) (queried (held (now (a .entry))) (held (now (b .entry))) start end (now (bytes .entry))
+    ensures { λ r. ⌜ Listed r (now («out_starts» .exit)) (now («out_ends» .exit))
+        (queried (held (now (a .entry))) (held (now (b .entry))) start end (now (bytes .entry))
         (now («out_starts» .entry)) (now («out_ends» .entry))) ⌝ }
 {
     in_numbers(

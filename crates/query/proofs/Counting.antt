@@ -59,7 +59,8 @@ module _ (t : Truth) (xs ys : List Span) (e : ℕ) where
   nothing-at r le h = elim (decLt (rank (r .key)) e) [ yes q ↦ no-there (rank (r .key)) q (h q) | no q ↦ no-more (rank (r .key)) (omega arith) ]
 
   -- from an edge to the next is the first span
-  pub one-more : (p : ℕ) (s r : Walk) (zs : List Span) → Edges t xs ys p e true s → rank (s .key) < e → Edges t xs ys (rank (s .key)) e false r → ToCome t xs ys p e zs
+  pub one-more : (p : ℕ) (s r : Walk) (zs : List Span) → Edges t xs ys p e true s → rank (s .key) < e → Edges t xs ys (rank (s .key)) e false r
+      → ToCome t xs ys p e zs
       → Taken (rank (s .key)) (rank (r .key)) (trueBefore t xs ys e) zs
   one-more p s r zs d h g c =
       take-first (rank (s .key)) (rank (r .key)) (trueBefore t xs ys e) zs (grows s r (d .there h) h g)
@@ -80,7 +81,7 @@ module _ (t : Truth) (xs ys : List Span) (e : ℕ) where
   }
 
 -- n spans are counted from p on, up to the edge s: with m more there are n + m
-pub record Counted (t : Truth) (xs ys : List Span) (p e n : ℕ) (s : Walk) : Type 0 where
+pub record CountedSoFar (t : Truth) (xs ys : List Span) (p e n : ℕ) (s : Walk) : Type 0 where
   pub edge : Edges t xs ys (rank (s .key)) e true s
   pub room : n + p ≤ rank (s .key)
   pub rest : (m : ℕ) → Counts t xs ys (rank (s .key)) e m → Counts t xs ys p e (n + m)
@@ -89,15 +90,15 @@ module _ (t : Truth) (xs ys : List Span) (e : ℕ) where
   pub counts-to : (p n : ℕ) (s : Walk) → Edges t xs ys p e true s → Counts t xs ys (rank (s .key)) e n → Counts t xs ys p e n
   counts-to p n s d k = record { room = omega (arith, d .on, k .room); many = λ zs c. k .many zs (come-to t xs ys e p s zs d c) }
 
-  pub counted-first : (p : ℕ) (s : Walk) → Edges t xs ys p e true s → Counted t xs ys (rank (s .key)) e 0 s
+  pub counted-first : (p : ℕ) (s : Walk) → Edges t xs ys p e true s → CountedSoFar t xs ys (rank (s .key)) e 0 s
   counted-first p s d = record {
     edge = at-edge t xs ys e p s d;
     room = omega arith;
     rest = λ m k. let a : m ≡ 0 + m = omega arith in subst (Counts t xs ys (rank (s .key)) e) a k;
   }
 
-  pub counted-on : (p n : ℕ) (s r z : Walk) → Counted t xs ys p e n s → rank (s .key) < e → Edges t xs ys (rank (s .key)) e false r
-      → Edges t xs ys (rank (r .key)) e true z → Counted t xs ys p e (n + 1) z
+  pub counted-on : (p n : ℕ) (s r z : Walk) → CountedSoFar t xs ys p e n s → rank (s .key) < e → Edges t xs ys (rank (s .key)) e false r
+      → Edges t xs ys (rank (r .key)) e true z → CountedSoFar t xs ys p e (n + 1) z
   counted-on p n s r z c h g d = record {
     edge = at-edge t xs ys e (rank (r .key)) z d;
     room = omega (arith, c .room, grows t xs ys e s r (c .edge .there h) h g, d .on);
@@ -106,5 +107,5 @@ module _ (t : Truth) (xs ys : List Span) (e : ℕ) where
         subst (Counts t xs ys p e) a (c .rest (1 + m) (counts-more t xs ys e (rank (s .key)) m s r (c .edge) h g (counts-to (rank (r .key)) m z d k)));
   }
 
-  pub counted-all : (p n : ℕ) (s : Walk) → Counted t xs ys p e n s → e ≤ rank (s .key) → Counts t xs ys p e n
+  pub counted-all : (p n : ℕ) (s : Walk) → CountedSoFar t xs ys p e n s → e ≤ rank (s .key) → Counts t xs ys p e n
   counted-all p n s c h = let a : n + 0 ≡ n = omega arith in subst (Counts t xs ys p e) a (c .rest 0 (counts-none t xs ys e (rank (s .key)) s (c .edge) h))

@@ -28,7 +28,8 @@ module _ (t : Truth) (m n : Stored) (sm : Sound halfOpen m) (sn : Sound halfOpen
   ys = ranges halfOpen n
 
   pub cell-made : (w : Walk) (e : ℕ) (ux uy key : ℤ) (cx cy a b : ℕ) (so : Bool) → Stands xs ys w
-      → Sees xs (w .a) (rank (w .key)) (rank ux) cx → rank ux ≤ e → Sees ys (w .b) (rank (w .key)) (rank uy) cy → rank uy ≤ e → rank key ≡ min (rank ux) (rank uy)
+      → Sees xs (w .a) (rank (w .key)) (rank ux) cx → rank ux ≤ e → Sees ys (w .b) (rank (w .key)) (rank uy) cy → rank uy ≤ e
+      → rank key ≡ min (rank ux) (rank uy)
       → Passes (m .count) (m .ends) (w .a) key a → Passes (n .count) (n .ends) (w .b) key b → so ≡ says t cx cy
       → Cells t xs ys (rank (w .key)) e (record { yes = so; next = record { key = key; a = a; b = b } })
   cell-made w e ux uy key cx cy a b so z sx lx sy ly k pa pb s =
@@ -73,7 +74,8 @@ module _ (t : Truth) (xs ys : List Span) (e : ℕ) (so : Bool) where
     stands = z;
   }
 
-  pub sought-on : (p : ℕ) (w : Walk) (c : Cell) → Sought t xs ys p e so w → Cells t xs ys (rank (w .key)) e c → c .yes ≡ not so → Sought t xs ys p e so (c .next)
+  pub sought-on : (p : ℕ) (w : Walk) (c : Cell) → Sought t xs ys p e so w → Cells t xs ys (rank (w .key)) e c → c .yes ≡ not so
+      → Sought t xs ys p e so (c .next)
   sought-on p w c s g h = record {
     on = omega (arith, s .on, g .on);
     within = g .within;

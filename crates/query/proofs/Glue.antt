@@ -1,5 +1,5 @@
 -- From the search to the walk, and from the walk to the result.
-use Prim.Native.Nat.{ℕ, zero, suc, _≤_, _<_}
+use Prim.Native.Nat.{ℕ, zero, suc, _+_, _≤_, _<_}
 use native.Mathlib.Omega.{arith}
 use mathlib.Core.Path.{_≡_, refl, _∙_}
 use mathlib.Core.Bool.{Bool, true, false, _&&_, cond}
@@ -29,6 +29,7 @@ use Rattle.query.proofs.Result.{result-means}
 use Rattle.query.specs.InnerSeen.{none-there, Standing}
 use Rattle.query.specs.InnerWalk.{saysAt}
 use Rattle.query.specs.InnerWritten.{ToCome}
+use Rattle.query.proofs.Few.{query-few}
 use Rattle.query.proofs.Looks.{many, range-here}
 
 -- ranges that end by p hold nothing from p on
@@ -77,6 +78,12 @@ result-comes m n sm sn lo hi h bytes q rest e t s =
     let ys = ranges halfOpen n in
     reworded (result-means lo hi xs ys h (good sm .tidy) (good sn .tidy) q) (λ k.
     rw (says-truth bytes q rest e t s xs ys k) (windowed (leb lo k) (ltb k hi) (truth q (at xs k) (at ys k))))
+
+-- it has at most one range more than the maps together
+pub sound-few : (m n : Stored) → Sound halfOpen m → Sound halfOpen n → (lo hi : ℕ) → lo < hi → (q : Query)
+    → length (result lo hi (ranges halfOpen m) (ranges halfOpen n) q) ≤ m .count + n .count + 1
+sound-few m n sm sn lo hi h q =
+    omega (arith, query-few lo hi (ranges halfOpen m) (ranges halfOpen n) h (good sm .tidy) (good sn .tidy) q, many m sm, many n sn)
 
 -- outside the window no instant is in the result; inside, the query decides
 module _ (lo hi : ℕ) (xs ys : List Span) (q : Query) (k : ℕ) where

@@ -28,7 +28,8 @@ module _ (m : Stored) (sound : Sound halfOpen m) where
   pub in-order : Ordered 0 xs
   in-order = good sound .tidy .ordered
 
-  pub range-here : (i : ℕ) → i < m .count → getD xs i none-there ≡ span (rank (getD (m .starts) i (pos 0))) (rank (getD (m .ends) i (pos 0))) (getD (m .values) i 0)
+  pub range-here : (i : ℕ) → i < m .count → getD xs i none-there ≡ span (rank (getD (m .starts) i (pos 0))) (rank (getD (m .ends) i (pos 0)))
+      (getD (m .values) i 0)
   range-here i h = getD-ranges halfOpen (length (m .starts)) m (shape sound) held i none-there h
 
   module _ (i p : ℕ) (s : Standing xs i p) where
@@ -38,7 +39,8 @@ module _ (m : Stored) (sound : Sound halfOpen m) where
     pub look-before : (e : ℕ) → i < m .count → p < e → e ≤ rank (getD (m .starts) i (pos 0)) → Sees xs i p e 10
     look-before e h on le = sees-before xs i p in-order s e (omega (arith, many)) on (rw (range-here i h) le)
 
-    pub look-in : (e n : ℕ) → i < m .count → rank (getD (m .starts) i (pos 0)) ≤ p → p < e → e ≤ rank (getD (m .ends) i (pos 0)) → n ≡ min (getD (m .values) i 0) 10 → Sees xs i p e n
+    pub look-in : (e n : ℕ) → i < m .count → rank (getD (m .starts) i (pos 0)) ≤ p → p < e → e ≤ rank (getD (m .ends) i (pos 0))
+        → n ≡ min (getD (m .values) i 0) 10 → Sees xs i p e n
     look-in e n h lo on le v =
         let r = range-here i h in
         let w : min (getD xs i none-there .label) 10 ≡ n = ap (λ (x : Span). min (x .label) 10) r ∙ sym v in
@@ -51,11 +53,14 @@ module _ (m : Stored) (sound : Sound halfOpen m) where
     pub stands : (e : ℤ) (n r : ℕ) → Sees xs i p (rank e) n → Passes (m .count) (m .ends) i e r → Standing xs r (rank e)
     stands e n r v w = elim (decLt i (m .count)) [
       | yes h ↦ elim (decLt (rank e) (rank (getD (m .ends) i (pos 0)))) [
-        | yes q ↦ subst (λ (k : ℕ). Standing xs k (rank e)) (sym (w .still h q)) (stands-still xs i p in-order s (rank e) (omega (arith, v .on)) (λ l. rw (range-here i h) q))
+        | yes q ↦ subst (λ (k : ℕ). Standing xs k (rank e)) (sym (w .still h q))
+            (stands-still xs i p in-order s (rank e) (omega (arith, v .on)) (λ l. rw (range-here i h) q))
         | no q ↦
             let t : rank e ≤ getD xs i none-there .hi = v .stays (omega (arith, many)) in
             let u : getD xs i none-there .hi ≡ rank (getD (m .ends) i (pos 0)) = ap (λ (x : Span). x .hi) (range-here i h) in
-            subst (λ (k : ℕ). Standing xs k (rank e)) (sym (w .next h (omega arith))) (stands-next xs i p in-order s (rank e) (omega (arith, v .on)) (omega (arith, many)) (omega arith))
+            subst (λ (k : ℕ). Standing xs k (rank e)) (sym (w .next h (omega arith)))
+            (stands-next xs i p in-order s (rank e) (omega (arith, v .on)) (omega (arith, many)) (omega arith))
       ]
-      | no h ↦ subst (λ (k : ℕ). Standing xs k (rank e)) (sym (w .last (omega arith))) (stands-still xs i p in-order s (rank e) (omega (arith, v .on)) (λ l. absurd (omega (arith, many))))
+      | no h ↦ subst (λ (k : ℕ). Standing xs k (rank e)) (sym (w .last (omega arith)))
+          (stands-still xs i p in-order s (rank e) (omega (arith, v .on)) (λ l. absurd (omega (arith, many))))
     ]

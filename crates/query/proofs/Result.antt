@@ -58,7 +58,8 @@ module _ (lo hi : ℕ) (a b : List Span) (real : lo < hi) (ta : Tidy 0 a) (tb : 
   result-means (second d) = atom-means d b tb
   result-means (no q) =
       let p = result-means q in
-      reworded (gaps-means lo hi 0 (result lo hi a b q) real (p .tidy .ordered)) (λ k. rw (p .holds k) (unless-mark (inside lo hi k) (truth q (at a k) (at b k))))
+      reworded (gaps-means lo hi 0 (result lo hi a b q) real (p .tidy .ordered))
+      (λ k. rw (p .holds k) (unless-mark (inside lo hi k) (truth q (at a k) (at b k))))
   result-means (both p q) =
       let x = result-means p in
       let y = result-means q in

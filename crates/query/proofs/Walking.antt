@@ -44,7 +44,8 @@ module _ (xs : List Span) (i p : ℕ) (o : Ordered 0 xs) (s : Standing xs i p) w
       record {
         on = on;
         class = omega arith;
-        holds = λ k lo hi. ap classOf (s .gone k lo ∙ ap (λ (l : List Span). at l k) (split h) ∙ at-below {b = here .lo} (here ∷ drop (suc i) xs) k (omega arith, g .1, g .2) (omega arith));
+        holds = λ k lo hi. ap classOf (s .gone k lo ∙ ap (λ (l : List Span). at l k) (split h)
+            ∙ at-below {b = here .lo} (here ∷ drop (suc i) xs) k (omega arith, g .1, g .2) (omega arith));
         stays = λ l. omega (arith, g .1);
       }
 
@@ -53,7 +54,8 @@ module _ (xs : List Span) (i p : ℕ) (o : Ordered 0 xs) (s : Standing xs i p) w
   sees-in e h on lo-le le = record {
     on = on;
     class = omega arith;
-    holds = λ k lo hi. ap classOf (s .gone k lo ∙ ap (λ (l : List Span). at l k) (split h) ∙ at-in here (drop (suc i) xs) k (record { from = omega arith; to = omega arith }));
+    holds = λ k lo hi. ap classOf (s .gone k lo ∙ ap (λ (l : List Span). at l k) (split h)
+        ∙ at-in here (drop (suc i) xs) k (record { from = omega arith; to = omega arith }));
     stays = λ l. le;
   }
 

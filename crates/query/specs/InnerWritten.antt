@@ -1,7 +1,7 @@
 -- The true instants that are still to come: how many ranges they are, and how these are written.
 use Prim.Native.Nat.{ℕ, _+_, _≤_}
 use mathlib.Core.Path.{_≡_}
-use mathlib.Core.Bool.{_&&_, cond}
+use mathlib.Core.Bool.{Bool, _&&_, cond}
 use mathlib.Core.List.{List}
 use mathlib.Core.Option.{Option, none}
 use lib.Dec.{leb, ltb}
@@ -10,6 +10,7 @@ use lib.IntN.{ℤ}
 use Rattle.span.specs.Span.{Span, Means}
 use Rattle.key.specs.Rank.{rank}
 use Rattle.key.specs.Range.{halfOpen}
+use Rattle.key.specs.Decides.{Decides}
 use Rattle.outcomes.specs.Stored.{Stored, ranges}
 use Rattle.outcomes.specs.Outcomes.{Written, writing}
 use Rattle.lists.specs.Lists.{Room, Puts}
@@ -31,7 +32,7 @@ pub record Counts (t : Truth) (xs ys : List Span) (p e n : ℕ) : Type 0 where
   pub many : (zs : List Span) → ToCome t xs ys p e zs → n ≡ length zs
 
 -- two lent lists have room for that list from place n on
-pub record Fits (t : Truth) (xs ys : List Span) (p e n : ℕ) (os oe : List ℤ) : Type 0 where
+pub record HasRoom (t : Truth) (xs ys : List Span) (p e n : ℕ) (os oe : List ℤ) : Type 0 where
   pub list : List Span
   pub to-come : ToCome t xs ys p e list
   pub room : Room n list os oe
@@ -41,10 +42,15 @@ pub record Writes (t : Truth) (xs ys : List Span) (p e n : ℕ) (os oe : List �
   pub upto : (zs : List Span) → ToCome t xs ys p e zs → r ≡ n + length zs
   pub puts : (zs : List Span) → ToCome t xs ys p e zs → Puts halfOpen n zs os oe os₁ oe₁
 
--- there is a list of what the table says in the window: the caller has it
+-- there is a list of what the table says in the window, and it has at most one span more than the maps together: the caller knows that
 pub record Known (t : Truth) (a b : Stored) (s e : ℤ) : Type 0 where
   pub list : List Span
   pub to-come : ToCome t (ranges halfOpen a) (ranges halfOpen b) (rank s) (rank e) list
+  pub few : length list ≤ a .count + b .count + 1
+
+-- r says whether so many places are enough for that list
+abbrev pub Measures : Truth → List Span → List Span → ℕ → ℕ → ℕ → Bool → Type 0
+Measures t xs ys p e room r = (zs : List Span) → ToCome t xs ys p e zs → Decides r (length zs ≤ room)
 
 -- what is written is that list
 abbrev pub WritesAll : Truth → Stored → Stored → ℤ → ℤ → List ℤ → List ℤ → Written → Type 0

@@ -21,7 +21,7 @@ ghost use Rattle.query.specs.InnerColumns.{columns, spansOf};
 ghost use Rattle.query.specs.Answers.{queriedAt, queryingAt};
 
 // What the table says of what the two maps hold at a key. The key is before `end`: so far the walk may look.
-fn told(
+fn by_table(
     count_a: usize,
     starts_a: &[i64],
     ends_a: &[i64],
@@ -85,7 +85,8 @@ pub fn query_at_unchecked(
     key: i64,
 ) -> Asked
     requires { ⌜ Sound halfOpen (columns «count_a» «starts_a» «ends_a» «values_a») × Sound halfOpen (columns «count_b» «starts_b» «ends_b» «values_b») ⌝ }
-    ensures { λ r. ⌜ r ≡ queriedAt (columns «count_a» («starts_a» .entry) («ends_a» .entry) («values_a» .entry)) (columns «count_b» («starts_b» .entry) («ends_b» .entry) («values_b» .entry))
+    ensures { λ r. ⌜ r ≡ queriedAt (columns «count_a» («starts_a» .entry) («ends_a» .entry) («values_a» .entry))
+        (columns «count_b» («starts_b» .entry) («ends_b» .entry) («values_b» .entry))
         start end (now (bytes .entry)) key ⌝ }
 {
     if start >= end {
@@ -100,7 +101,7 @@ pub fn query_at_unchecked(
     if key >= end {
         return Asked::No;
     }
-    told(
+    by_table(
         count_a,
         starts_a,
         ends_a,

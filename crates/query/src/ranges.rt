@@ -22,8 +22,8 @@ ghost use Rattle.query.specs.InnerColumns.{columns};
 ghost use Rattle.query.specs.Answers.{queried, querying};
 ghost use Rattle.query.specs.InnerWritten.{Known, WritesAll};
 
-// What the table says in the window, counted first and then written.
-fn found(
+// What the table says in the window. Nothing is written before it is known that the lent lists are long enough.
+fn by_table(
     count_a: usize,
     starts_a: &[i64],
     ends_a: &[i64],
@@ -40,7 +40,8 @@ fn found(
 ) -> Counted
     requires { ⌜ Sound halfOpen (columns «count_a» «starts_a» «ends_a» «values_a») × Sound halfOpen (columns «count_b» «starts_b» «ends_b» «values_b»)
         × (rank start < rank end) × Known t (columns «count_a» «starts_a» «ends_a» «values_a») (columns «count_b» «starts_b» «ends_b» «values_b») start end ⌝ }
-    ensures { λ r. ⌜ WritesAll t (columns «count_a» («starts_a» .entry) («ends_a» .entry) («values_a» .entry)) (columns «count_b» («starts_b» .entry) («ends_b» .entry) («values_b» .entry))
+    ensures { λ r. ⌜ WritesAll t (columns «count_a» («starts_a» .entry) («ends_a» .entry) («values_a» .entry))
+        (columns «count_b» («starts_b» .entry) («ends_b» .entry) («values_b» .entry))
         start end (now («out_starts» .entry)) (now («out_ends» .entry)) (wrote r (now («out_starts» .exit)) (now («out_ends» .exit))) ⌝ }
 {
     let w = walk_at(
@@ -54,7 +55,8 @@ fn found(
         values_b,
         start,
     );
-    let n = written::count(
+    let room = shorter(out_starts.len(), out_ends.len());
+    if !written::fits(
         count_a,
         starts_a,
         ends_a,
@@ -66,8 +68,8 @@ fn found(
         t,
         w,
         end,
-    );
-    if shorter(out_starts.len(), out_ends.len()) < n {
+        room,
+    ) {
         return Counted::Refused(TOO_SHORT);
     }
     Counted::Count(written::write(
@@ -105,7 +107,8 @@ pub fn query_unchecked(
 ) -> Counted
     requires { ⌜ Sound halfOpen (columns «count_a» «starts_a» «ends_a» «values_a») × Sound halfOpen (columns «count_b» «starts_b» «ends_b» «values_b») ⌝ }
     ensures { λ r. ⌜ wrote r (now («out_starts» .exit)) (now («out_ends» .exit))
-        ≡ queried (columns «count_a» («starts_a» .entry) («ends_a» .entry) («values_a» .entry)) (columns «count_b» («starts_b» .entry) («ends_b» .entry) («values_b» .entry))
+        ≡ queried (columns «count_a» («starts_a» .entry) («ends_a» .entry) («values_a» .entry))
+        (columns «count_b» («starts_b» .entry) («ends_b» .entry) («values_b» .entry))
         start end (now (bytes .entry)) (now («out_starts» .entry)) (now («out_ends» .entry)) ⌝ }
 {
     if start >= end {
@@ -114,7 +117,7 @@ pub fn query_unchecked(
     let Reading::Got(_, t) = read_query(bytes) else {
         return Counted::Refused(BAD_QUERY);
     };
-    found(
+    by_table(
         count_a,
         starts_a,
         ends_a,
@@ -148,7 +151,8 @@ pub fn query<'a, 'b>(
     out_ends: &mut [i64],
 ) -> Counted
     ensures { λ r. ⌜ wrote r (now («out_starts» .exit)) (now («out_ends» .exit))
-        ≡ querying (lent («count_a» .entry) («starts_a» .entry) («ends_a» .entry) («values_a» .entry)) (lent («count_b» .entry) («starts_b» .entry) («ends_b» .entry) («values_b» .entry))
+        ≡ querying (lent («count_a» .entry) («starts_a» .entry) («ends_a» .entry) («values_a» .entry))
+        (lent («count_b» .entry) («starts_b» .entry) («ends_b» .entry) («values_b» .entry))
         start end (now (bytes .entry)) (now («out_starts» .entry)) (now («out_ends» .entry)) ⌝ }
 {
     if !are_formed(

@@ -47,7 +47,8 @@ pub fn walk_at(
 ) -> Walk
     requires { ⌜ Sound halfOpen (columns «count_a» «starts_a» «ends_a» «values_a») × Sound halfOpen (columns «count_b» «starts_b» «ends_b» «values_b») ⌝ }
     ensures { λ r. ⌜ (r .key ≡ key)
-        × Stands (spansOf «count_a» («starts_a» .entry) («ends_a» .entry) («values_a» .entry)) (spansOf «count_b» («starts_b» .entry) («ends_b» .entry) («values_b» .entry)) r ⌝ }
+        × Stands (spansOf «count_a» («starts_a» .entry) («ends_a» .entry) («values_a» .entry))
+        (spansOf «count_b» («starts_b» .entry) («ends_b» .entry) («values_b» .entry)) r ⌝ }
 {
     Walk {
         key,

@@ -44,7 +44,8 @@ unfolding digit
 digit-is make bytes i d = rw (drop-cons bytes i 0 (d .inside), le-leb 48 (getD bytes i 0) (d .low), le-leb (getD bytes i 0) 57 (d .high), add-one i) refl
 
 pub digit-found : (make : ℕ → Query) (bytes : List ℕ) (c z : Cursor) (v : ℕ) (t : Truth)
-    → DigitAt bytes (c .at) → z ≡ cursor (c .at + 1) (c .marks) → v ≡ getD bytes (c .at) 0 - 48 → Shows t (classTruth (make v)) → Finds bytes (c .marks) (digit make (drop (c .at) bytes)) z t
+    → DigitAt bytes (c .at) → z ≡ cursor (c .at + 1) (c .marks) → v ≡ getD bytes (c .at) 0 - 48 → Shows t (classTruth (make v))
+    → Finds bytes (c .marks) (digit make (drop (c .at) bytes)) z t
 digit-found make bytes c z v t d e i s =
     let at : z .at ≡ c .at + 1 = ap (λ (y : Cursor). y .at) e in
     record {
@@ -63,7 +64,8 @@ atom-first bytes c z r e i s =
     let x : atom (drop (c .at) bytes) ≡ digit first (drop (c .at + 1) bytes) = rw (e, past bytes (c .at) h) in
     as-is bytes (c .marks) _ _ r x (rw i at s)
 
-pub atom-second : (bytes : List ℕ) (c z : Cursor) (r : Reading) → starts 65 (drop (c .at) bytes) ≡ false → starts 66 (drop (c .at) bytes) ≡ true → z ≡ cursor (c .at + 1) (c .marks)
+pub atom-second : (bytes : List ℕ) (c z : Cursor) (r : Reading) → starts 65 (drop (c .at) bytes) ≡ false → starts 66 (drop (c .at) bytes) ≡ true
+    → z ≡ cursor (c .at + 1) (c .marks)
     → ReadAs bytes (z .marks) (digit second (drop (z .at) bytes)) r → ReadAs bytes (c .marks) (atom (drop (c .at) bytes)) r
 unfolding atom
 atom-second bytes c z r f e i s =
@@ -87,10 +89,12 @@ query-is bytes h = rw (le-leb (length bytes) longest h) refl
 pub no-sum : (bytes : List ℕ) → length bytes ≤ longest → read sum limit bytes ≡ bad → queryOf bytes ≡ bad
 no-sum bytes h e = query-is bytes h ∙ rw e refl
 
-pub not-all : (bytes : List ℕ) (d : Cursor) (t : Truth) → length bytes ≤ longest → Finds bytes 0 (read sum limit bytes) d t → d .at < length bytes → queryOf bytes ≡ bad
+pub not-all : (bytes : List ℕ) (d : Cursor) (t : Truth) → length bytes ≤ longest → Finds bytes 0 (read sum limit bytes) d t → d .at < length bytes
+    → queryOf bytes ≡ bad
 not-all bytes d t h f i = query-is bytes h ∙ rw (f .is, drop-cons bytes (d .at) 0 i) refl
 
-pub all-read : (bytes : List ℕ) (d : Cursor) (t : Truth) → length bytes ≤ longest → Finds bytes 0 (read sum limit bytes) d t → length bytes ≤ d .at → Finds bytes 0 (queryOf bytes) d t
+pub all-read : (bytes : List ℕ) (d : Cursor) (t : Truth) → length bytes ≤ longest → Finds bytes 0 (read sum limit bytes) d t → length bytes ≤ d .at
+    → Finds bytes 0 (queryOf bytes) d t
 all-read bytes d t h f i =
     let n : drop (d .at) bytes ≡ [] = drop-of-length-le bytes {i = d .at} i in
     record {

@@ -71,7 +71,8 @@ starts-with : (x : ℕ) (bs : List ℕ) → starts x bs ≡ true → bs ≡ x �
 starts-with x [] e = let z : _≡_ {A = ℕ} 0 1 = cc in absurd (omega arith)
 starts-with x (b ∷ bs) e = rw (eqb-true b x e)
 
-digit-sound : (n x : ℕ) (make : ℕ → Query) → ((d : ℕ) → d ≤ 9 → Spells factor n (x ∷ (48 + d) ∷ []) (make d)) → (bs : List ℕ) → OnlySpelt factor n (x ∷ bs) (digit make bs)
+digit-sound : (n x : ℕ) (make : ℕ → Query) → ((d : ℕ) → d ≤ 9 → Spells factor n (x ∷ (48 + d) ∷ []) (make d)) → (bs : List ℕ)
+    → OnlySpelt factor n (x ∷ bs) (digit make bs)
 unfolding digit
 digit-sound n x make s [] = tt
 digit-sound n x make s (b ∷ bs) = choose-ind (OnlySpelt factor n (x ∷ b ∷ bs)) (leb 48 b && leb b 57) _ _
@@ -86,9 +87,11 @@ digit-sound n x make s (b ∷ bs) = choose-ind (OnlySpelt factor n (x ∷ b ∷ 
 atom-sound : (n : ℕ) (bs : List ℕ) → OnlySpelt factor n bs (atom bs)
 unfolding atom
 atom-sound n bs = choose-ind (OnlySpelt factor n bs) (starts 65 bs) _ _
-    (λ e. subst (λ (l : List ℕ). OnlySpelt factor n l (digit first (behind bs))) (sym (starts-with 65 bs e)) (digit-sound n 65 first (λ d h. in-first h) (behind bs)))
+    (λ e. subst (λ (l : List ℕ). OnlySpelt factor n l (digit first (behind bs))) (sym (starts-with 65 bs e))
+    (digit-sound n 65 first (λ d h. in-first h) (behind bs)))
     (λ e. choose-ind (OnlySpelt factor n bs) (starts 66 bs) _ _
-    (λ e. subst (λ (l : List ℕ). OnlySpelt factor n l (digit second (behind bs))) (sym (starts-with 66 bs e)) (digit-sound n 66 second (λ d h. in-second h) (behind bs)))
+    (λ e. subst (λ (l : List ℕ). OnlySpelt factor n l (digit second (behind bs))) (sym (starts-with 66 bs e))
+    (digit-sound n 66 second (λ d h. in-second h) (behind bs)))
     (λ e. tt))
 
 pub reads-only : (k : ℕ) (l : Level) (n : ℕ) (bs : List ℕ) → OnlySpelt l n bs (reading k l n bs)
@@ -103,7 +106,8 @@ reads-only (suc k) factor n bs = choose-ind (OnlySpelt factor n bs) (starts 33 b
     let s : Spelt sum m (behind bs) q r = subst (OnlySpelt sum m (behind bs)) er (reads-only k sum m (behind bs)) in
     choose-ind (OnlySpelt factor n bs) (starts 41 r) _ _
     (λ c.
-    let a : s .word ++ r ≡ (s .word ++ (41 ∷ [])) ++ behind r = ap (λ (t : List ℕ). s .word ++ t) (starts-with 41 r c) ∙ sym (append-assoc (s .word) (41 ∷ []) (behind r)) in
+    let a : s .word ++ r ≡ (s .word ++ (41 ∷ [])) ++ behind r = ap (λ (t : List ℕ). s .word ++ t) (starts-with 41 r c)
+    ∙ sym (append-assoc (s .word) (41 ∷ []) (behind r)) in
     rw em (spelt (40 ∷ (s .word ++ (41 ∷ []))) (starts-with 40 bs o ∙ ap (λ (t : List ℕ). 40 ∷ t) (s .split ∙ a)) (grouped (s .spells))))
     (λ c. tt))))
     (λ o. atom-sound n bs))

@@ -18,7 +18,8 @@ same-test false true f g = g refl
 same-test false false f g = refl
 
 class-holds : (d : ℕ) (x : Option ℕ) → d ≤ 9 → eqb (classOf x) d ≡ holds d x
-class-holds d none h = same-test (eqb 10 d) false (λ e. let z = eqb-true 10 d e in absurd (omega arith)) (λ e. let z : _≡_ {A = ℕ} 0 1 = cc in absurd (omega arith))
+class-holds d none h = same-test (eqb 10 d) false (λ e. let z = eqb-true 10 d e in absurd (omega arith))
+    (λ e. let z : _≡_ {A = ℕ} 0 1 = cc in absurd (omega arith))
 class-holds d (some v) h = same-test (eqb (min v 10) d) (eqb v d)
     (λ e. let z = eqb-true (min v 10) d e in eq-eqb v d (omega arith))
     (λ e. let z = eqb-true v d e in eq-eqb (min v 10) d (omega arith))

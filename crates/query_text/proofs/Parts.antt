@@ -28,7 +28,8 @@ left bytes at k = 4 * (length bytes - at) + k
 -- a cursor goes on where something is found
 pub later : (l : Level) (bytes : List ℕ) (c d : Cursor) (m : ℕ) (t : Truth) → Finds bytes m (here l bytes c) d t → c .at < d .at
 later l bytes c d m t f =
-    let s : length (drop (d .at) bytes) < length (drop (c .at) bytes) = subst (Shrinks (drop (c .at) bytes)) (f .is) (read-shrinks l (limit - c .marks) (drop (c .at) bytes)) in
+    let s : length (drop (d .at) bytes) < length (drop (c .at) bytes) = subst (Shrinks (drop (c .at) bytes)) (f .is)
+    (read-shrinks l (limit - c .marks) (drop (c .at) bytes)) in
     let h = f .inside in
     omega (arith, length-drop (c .at) bytes, length-drop (d .at) bytes)
 
@@ -81,12 +82,14 @@ module _ (k : Chain) where
   pub none-behind : (bytes : List ℕ) (c d z : Cursor) (t : Truth) → Finds bytes (c .marks) (here (k .low) bytes c) d t
       → starts (k .byte) (drop (d .at) bytes) ≡ true → z ≡ cursor (d .at + 1) (d .marks) → here (k .high) bytes z ≡ bad → here (k .high) bytes c ≡ bad
   none-behind bytes c d z t f e i w =
-      let v : read (k .high) (limit - c .marks) (behind (drop (d .at) bytes)) ≡ bad = sym (behind-next bytes c d z (f .back) (seen bytes (d .at) (k .byte) e) i) ∙ w in
+      let v : read (k .high) (limit - c .marks) (behind (drop (d .at) bytes)) ≡ bad = sym
+      (behind-next bytes c d z (f .back) (seen bytes (d .at) (k .byte) e) i) ∙ w in
       k .step (limit - c .marks) (drop (c .at) bytes) ∙ rw (f .is, e, v) refl
 
   pub together : (bytes : List ℕ) (c d z g : Cursor) (t u v : Truth) → Finds bytes (c .marks) (here (k .low) bytes c) d t
       → starts (k .byte) (drop (d .at) bytes) ≡ true → z ≡ cursor (d .at + 1) (d .marks)
-      → Finds bytes (z .marks) (here (k .high) bytes z) g u → Shows v (λ a b. k .bop (says t a b) (says u a b)) → Finds bytes (c .marks) (here (k .high) bytes c) g v
+      → Finds bytes (z .marks) (here (k .high) bytes z) g u → Shows v (λ a b. k .bop (says t a b) (says u a b))
+      → Finds bytes (c .marks) (here (k .high) bytes c) g v
   together bytes c d z g t u v f e i w s =
       let r : read (k .high) (limit - c .marks) (behind (drop (d .at) bytes)) ≡ got (w .query) (drop (g .at) bytes) =
       sym (behind-next bytes c d z (f .back) (seen bytes (d .at) (k .byte) e) i) ∙ w .is in
@@ -123,7 +126,8 @@ past-of bytes c z i f e = record { inside = i; few = leb-false limit (c .marks) 
 past-mark : (l : Level) (bytes : List ℕ) (c z : Cursor) → Past bytes c z → read l (limit - (c .marks + 1)) (behind (drop (c .at) bytes)) ≡ here l bytes z
 past-mark l bytes c z p = rw (p .is, past bytes (c .at) (p .inside))
 
-negation-is : (bytes : List ℕ) (c z : Cursor) → Past bytes c z → negation (limit - c .marks) (drop (c .at) bytes) ≡ andThen (here factor bytes z) (λ q rest. got (no q) rest)
+negation-is : (bytes : List ℕ) (c z : Cursor) → Past bytes c z → negation (limit - c .marks) (drop (c .at) bytes) ≡ andThen (here factor bytes z)
+    (λ q rest. got (no q) rest)
 negation-is bytes c z p = room (c .marks) _ (p .few) ∙ rw (past-mark factor bytes c z p)
 
 grouping-is : (bytes : List ℕ) (c z : Cursor) → Past bytes c z → grouping (limit - c .marks) (drop (c .at) bytes) ≡ andThen (here sum bytes z) closed
@@ -157,7 +161,8 @@ pub not-closed : (bytes : List ℕ) (c z d : Cursor) (t : Truth) → Past bytes 
 unfolding closed
 not-closed bytes c z d t p f e = grouping-is bytes c z p ∙ rw (f .is, e) refl
 
-pub grouping-found : (bytes : List ℕ) (c z d y w : Cursor) (t : Truth) → Past bytes c z → Finds bytes (z .marks) (here sum bytes z) d t → starts 41 (drop (d .at) bytes) ≡ true
+pub grouping-found : (bytes : List ℕ) (c z d y w : Cursor) (t : Truth) → Past bytes c z → Finds bytes (z .marks) (here sum bytes z) d t
+    → starts 41 (drop (d .at) bytes) ≡ true
     → y ≡ cursor (d .at + 1) (d .marks) → w ≡ cursor (y .at) (y .marks - 1) → Finds bytes (c .marks) (grouping (limit - c .marks) (drop (c .at) bytes)) w t
 unfolding closed
 grouping-found bytes c z d y w t p f e i j =
@@ -173,14 +178,16 @@ grouping-found bytes c z d y w t p f e i j =
     }
 
 -- A FACTOR
-pub factor-negated : (bytes : List ℕ) (c : Cursor) → starts 33 (drop (c .at) bytes) ≡ true → here factor bytes c ≡ negation (limit - c .marks) (drop (c .at) bytes)
+pub factor-negated : (bytes : List ℕ) (c : Cursor) → starts 33 (drop (c .at) bytes) ≡ true
+    → here factor bytes c ≡ negation (limit - c .marks) (drop (c .at) bytes)
 factor-negated bytes c e = read-factor (limit - c .marks) (drop (c .at) bytes) ∙ rw e refl
 
 pub factor-grouped : (bytes : List ℕ) (c : Cursor) → starts 33 (drop (c .at) bytes) ≡ false → starts 40 (drop (c .at) bytes) ≡ true
     → here factor bytes c ≡ grouping (limit - c .marks) (drop (c .at) bytes)
 factor-grouped bytes c e g = read-factor (limit - c .marks) (drop (c .at) bytes) ∙ rw (e, g) refl
 
-pub factor-atom : (bytes : List ℕ) (c : Cursor) → starts 33 (drop (c .at) bytes) ≡ false → starts 40 (drop (c .at) bytes) ≡ false → here factor bytes c ≡ atom (drop (c .at) bytes)
+pub factor-atom : (bytes : List ℕ) (c : Cursor) → starts 33 (drop (c .at) bytes) ≡ false → starts 40 (drop (c .at) bytes) ≡ false
+    → here factor bytes c ≡ atom (drop (c .at) bytes)
 factor-atom bytes c e g = read-factor (limit - c .marks) (drop (c .at) bytes) ∙ rw (e, g) refl
 
 -- what an answer says, by its case

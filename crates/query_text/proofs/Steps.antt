@@ -53,7 +53,8 @@ shrinks (suc k) factor n bs =
     (λ q r er. let s : length r < length (behind bs) = subst (Shrinks (behind bs)) er (shrinks k factor m (behind bs)) in omega (arith, behind-le bs))))
     (λ e. choose-ind (Shrinks bs) (starts 40 bs) _ _
     (λ e. deeper-ind (Shrinks bs) n _ tt (λ m em. then-ind (Shrinks bs) (reading k sum m (behind bs)) _ tt
-    (λ q r er. let s : length r < length (behind bs) = subst (Shrinks (behind bs)) er (shrinks k sum m (behind bs)) in closed-shrinks q r bs (omega (arith, behind-le bs)))))
+    (λ q r er. let s : length r < length (behind bs) = subst (Shrinks (behind bs)) er (shrinks k sum m (behind bs)) in
+    closed-shrinks q r bs (omega (arith, behind-le bs)))))
     (λ e. atom-shrinks bs))
 shrinks (suc k) term n bs =
     then-ind (Shrinks bs) (reading k factor n bs) _ tt
@@ -96,14 +97,16 @@ steady (suc k) (suc j) term n bs a b =
     rw s (then-same (reading j factor n bs) _ _ (λ p r er.
     let u : length r < length bs = subst (Shrinks bs) er (shrinks j factor n bs) in
     choose-same (starts 38 r) _ _ _ _
-    (λ e. let v : reading k term n (behind r) ≡ reading j term n (behind r) = steady k j term n (behind r) (omega (arith, behind-lt 38 r e)) (omega (arith, behind-lt 38 r e)) in rw v refl)
+    (λ e. let v : reading k term n (behind r) ≡ reading j term n (behind r) = steady k j term n (behind r) (omega (arith, behind-lt 38 r e))
+    (omega (arith, behind-lt 38 r e)) in rw v refl)
     (λ e. refl)))
 steady (suc k) (suc j) sum n bs a b =
     let s : reading k term n bs ≡ reading j term n bs = steady k j term n bs (omega arith) (omega arith) in
     rw s (then-same (reading j term n bs) _ _ (λ p r er.
     let u : length r < length bs = subst (Shrinks bs) er (shrinks j term n bs) in
     choose-same (starts 124 r) _ _ _ _
-    (λ e. let v : reading k sum n (behind r) ≡ reading j sum n (behind r) = steady k j sum n (behind r) (omega (arith, behind-lt 124 r e)) (omega (arith, behind-lt 124 r e)) in rw v refl)
+    (λ e. let v : reading k sum n (behind r) ≡ reading j sum n (behind r) = steady k j sum n (behind r) (omega (arith, behind-lt 124 r e))
+    (omega (arith, behind-lt 124 r e)) in rw v refl)
     (λ e. refl)))
 
 pub read-shrinks : (l : Level) (n : ℕ) (bs : List ℕ) → Shrinks bs (read l n bs)
@@ -152,7 +155,8 @@ sum-step k n bs a =
     (λ e. refl)))
 
 -- EACH LEVEL FROM THE LEVEL BELOW
-pub read-factor : (n : ℕ) (bs : List ℕ) → read factor n bs ≡ choose (starts 33 bs) (λ u. negation n bs) (λ u. choose (starts 40 bs) (λ u. grouping n bs) (λ u. atom bs))
+pub read-factor : (n : ℕ) (bs : List ℕ) → read factor n bs ≡ choose (starts 33 bs) (λ u. negation n bs)
+    (λ u. choose (starts 40 bs) (λ u. grouping n bs) (λ u. atom bs))
 read-factor n bs = sym (enough (suc (3 * length bs)) factor n bs (omega arith)) ∙ factor-step (3 * length bs) n bs (omega arith)
 
 pub read-term : (n : ℕ) (bs : List ℕ) → read term n bs ≡ andThen (read factor n bs) (more term 38 both n)

@@ -12,11 +12,12 @@ pub data Read : Type 0 where
   got : Query → List ℕ → Read
   bad : Read
 
--- does the byte x come next, and what comes behind the next byte
+-- does the byte x come next
 abbrev pub starts : ℕ → List ℕ → Bool
 starts x [] = false
 starts x (b ∷ bs) = eqb b x
 
+-- what comes behind the next byte
 abbrev pub behind : List ℕ → List ℕ
 behind [] = []
 behind (b ∷ bs) = bs
@@ -26,6 +27,7 @@ abbrev pub choose : Bool → (Unit {0} → Read) → (Unit {0} → Read) → Rea
 choose true a b = a tt
 choose false a b = b tt
 
+-- what is read next, where a query was read
 abbrev pub andThen : Read → (Query → List ℕ → Read) → Read
 andThen bad k = bad
 andThen (got q bs) k = k q bs
@@ -70,6 +72,7 @@ height factor = 1
 height term = 2
 height sum = 3
 
+-- what is read at a level with room for n open marks
 unfoldable pub read : Level → ℕ → List ℕ → Read
 read l n bs = reading (3 * length bs + height l) l n bs
 

@@ -1,8 +1,7 @@
 // THE TABLE of a query: a bit for each pair of classes of what the first map and the second hold at an instant. What a map holds falls into 11 classes:
 // the values 0 to 9, and anything else or nothing. The bit of the classes a and b is bit 11 a + b of 128, the low 64 first.
 ghost use mathlib.Core.Path.{_≡_};
-ghost use mathlib.Core.Bool.{_&&_, _||_};
-ghost use mathlib.Core.Bool.{not as Bool·not};
+ghost use mathlib.Core.Bool.{_&&_, _||_, not as Bool·not};
 ghost use Prim.Native.Nat.{_≤_, _<_};
 ghost use Rattle.query_text.specs.InnerClasses.{atomOf, classTruth};
 ghost use Rattle.query_text.specs.InnerTable.{isOne, says as Table·says, Shows};
@@ -12,6 +11,7 @@ pub struct Truth {
     pub high: u64,
 }
 
+// The tables of `A0` to `A9`, and of `B0` to `B9`: their low words and their high words. The proof computes each bit.
 const LOW_FIRSTS: [u64; 10] = [
     0x7ff,
     0x3ff800,
@@ -82,6 +82,7 @@ impl Truth {
         }
     }
 
+    // Where a query is false.
     pub fn not(self) -> Self
         ensures { λ r. ⌜ Shows r (λ a b. Bool·not (Table·says self a b)) ⌝ }
     {
@@ -91,6 +92,7 @@ impl Truth {
         }
     }
 
+    // Where two queries are both true.
     pub fn and(self, other: Truth) -> Self
         ensures { λ r. ⌜ Shows r (λ a b. Table·says self a b && Table·says other a b) ⌝ }
     {
@@ -100,6 +102,7 @@ impl Truth {
         }
     }
 
+    // Where one of two queries is true.
     pub fn or(self, other: Truth) -> Self
         ensures { λ r. ⌜ Shows r (λ a b. Table·says self a b || Table·says other a b) ⌝ }
     {

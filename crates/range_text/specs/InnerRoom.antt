@@ -8,21 +8,21 @@ use lib.IntN.{ℤ}
 abbrev pub rangeRoom : ℕ
 rangeRoom = 42
 
-abbrev pub lineRoom : ℕ
-lineRoom = 65
+abbrev pub rangeLineRoom : ℕ
+rangeLineRoom = 65
 
-abbrev pub resultRoom : ℕ
-resultRoom = 43
+abbrev pub resultLineRoom : ℕ
+resultLineRoom = 43
 
 -- the first n places are there in three columns, and so is the room for their lines
-pub record Room (n : ℕ) (ss es : List ℤ) (vs out : List ℕ) : Type 0 where
+pub record RangesRoom (n : ℕ) (ss es : List ℤ) (vs out : List ℕ) : Type 0 where
   pub starts : n ≤ length ss
   pub ends : n ≤ length es
   pub values : n ≤ length vs
-  pub bytes : lineRoom * n ≤ length out
+  pub bytes : rangeLineRoom * n ≤ length out
 
 -- the same of a result
-pub record ResultRoom (n : ℕ) (ss es : List ℤ) (out : List ℕ) : Type 0 where
+pub record ResultsRoom (n : ℕ) (ss es : List ℤ) (out : List ℕ) : Type 0 where
   pub starts : n ≤ length ss
   pub ends : n ≤ length es
-  pub bytes : resultRoom * n ≤ length out
+  pub bytes : resultLineRoom * n ≤ length out

@@ -1,9 +1,9 @@
 -- Ranges as document 01 writes them: a line START..END>VALUE for each range of a map, and a line START..END for each range of a query's result.
-use Prim.Native.Nat.{ℕ}
+use Prim.Native.Nat.{ℕ, _+_, _*_}
 use mathlib.Core.List.{List, [], _∷_, _++_}
 use lib.ListN.{getD}
 use lib.IntN.{ℤ, pos}
-use Rattle.outcomes.specs.Stored.{Stored}
+use Rattle.outcomes.specs.Stored.{places, Stored}
 use Rattle.decimal.specs.Decimal.{signedText}
 use Rattle.filling.specs.Filling.{ascii, filled, series}
 
@@ -22,6 +22,10 @@ resultLine s e = rangeText s e ++ ascii "\n"
 -- THE RANGES OF A MAP, place by place
 unfoldable pub rangesText : Stored → List ℕ
 rangesText m = series (λ k. rangeLine (getD (m .starts) k (pos 0)) (getD (m .ends) k (pos 0)) (getD (m .values) k 0)) (m .count)
+
+-- the most ranges of a result: the instants that two maps tell apart lie between their starts and ends
+abbrev pub results : ℕ
+results = 2 * places + 1
 
 -- THE FIRST n RANGES of a result, place by place
 unfoldable pub resultText : List ℤ → List ℤ → ℕ → List ℕ

@@ -6,15 +6,15 @@ use Rattle.key.specs.Rank.{place, bitRank}
 use Rattle.text.specs.Text.{rightOf, leftOf}
 use Rattle.decimal.specs.Decimal.{digitsText, spelled, decimalText, signedText}
 use Rattle.filling.specs.Filling.{ascii, series}
-use Rattle.report_text.specs.Rows.{rowName, rowOf, sumOf}
+use Rattle.report_text.specs.Rows.{rowName, rowOf, sumSeconds}
 use Rattle.report_text.specs.Times.{pairText, clockText, tenThousandths, hoursText}
 use Rattle.report_text.specs.ReportText.{nameColumn, keyLine, secondsColumn, clockColumn, hoursColumn, timesText, secondsLine, rowLines, dayLines, reportText}
 
 unfoldable all : Unit {0}
-unfolding place bitRank rightOf leftOf digitsText spelled decimalText signedText series rowName rowOf sumOf pairText clockText tenThousandths hoursText nameColumn keyLine secondsColumn clockColumn hoursColumn timesText secondsLine rowLines dayLines reportText
+unfolding place bitRank rightOf leftOf digitsText spelled decimalText signedText series rowName rowOf sumSeconds pairText clockText tenThousandths hoursText nameColumn keyLine secondsColumn clockColumn hoursColumn timesText secondsLine rowLines dayLines reportText
 all = tt
 
-pub november : reportText (pos 1730606400) (pos 1730696400) (record { «off_duty» = 64800; «sleeper_berth» = 0; driving = 25200; «on_duty» = 0; unrecorded = 0 }) ≡
+pub november-text : reportText (pos 1730606400) (pos 1730696400) (record { «off_duty» = 64800; «sleeper_berth» = 0; driving = 25200; «on_duty» = 0; unrecorded = 0 }) ≡
     ascii "start          1730606400\n" ++
     ascii "end            1730696400\n" ++
     ascii "length              90000 s  25:00:00  25.0000 h\n" ++
@@ -25,7 +25,7 @@ pub november : reportText (pos 1730606400) (pos 1730696400) (record { «off_duty
     ascii "unrecorded              0 s   0:00:00   0.0000 h\n" ++
     ascii "sum                 90000 s  25:00:00  25.0000 h\n"
 unfolding all
-november = refl
+november-text = refl
 
 -- one second is 0.0003 hours
 pub one-second : hoursText 1 ≡ ascii "0.0003"

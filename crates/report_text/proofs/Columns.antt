@@ -43,7 +43,7 @@ pub digits-within : (k n : ℕ) {out out₁ : List ℕ} {at r : ℕ} → Adds (d
 digits-within k n a = in-room (omega (arith, length-digits k n)) a
 
 -- THE CLOCK
-length-pair : (n : ℕ) → length (pairText n) ≡ 3
+pub length-pair : (n : ℕ) → length (pairText n) ≡ 3
 unfolding pairText
 length-pair n = omega (arith, length-digits 2 n)
 

@@ -1,5 +1,5 @@
 -- How many bytes the parts of a report take at most. A number takes at most 20.
-use Prim.Native.Nat.{ℕ}
+use Prim.Native.Nat.{ℕ, _*_}
 
 -- the columns of a name
 abbrev pub nameRoom : ℕ
@@ -10,9 +10,9 @@ abbrev pub clockRoom : ℕ
 clockRoom = 26
 
 -- a line
-abbrev pub lineRoom : ℕ
-lineRoom = 100
+abbrev pub reportLineRoom : ℕ
+reportLineRoom = 100
 
 -- all nine lines
 abbrev pub reportRoom : ℕ
-reportRoom = 900
+reportRoom = 9 * reportLineRoom

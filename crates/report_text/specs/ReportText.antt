@@ -7,7 +7,7 @@ use Rattle.duty.specs.declared.Totals.{Totals}
 use Rattle.text.specs.Text.{rightOf, leftOf}
 use Rattle.decimal.specs.Decimal.{decimalText, signedText}
 use Rattle.filling.specs.Filling.{ascii, series}
-use Rattle.report_text.specs.Rows.{rows, rowName, rowOf, sumOf}
+use Rattle.report_text.specs.Rows.{rows, rowName, rowOf, sumSeconds}
 use Rattle.report_text.specs.Times.{clockText, hoursText}
 
 -- a name in its columns
@@ -45,4 +45,4 @@ dayLines s e = keyLine (ascii "start") s ++ keyLine (ascii "end") e ++ secondsLi
 
 -- THE REPORT of the day from s up to e
 unfoldable pub reportText : ℤ → ℤ → Totals → List ℕ
-reportText s e t = dayLines s e ++ rowLines t ++ secondsLine (ascii "sum") (sumOf t)
+reportText s e t = dayLines s e ++ rowLines t ++ secondsLine (ascii "sum") (sumSeconds t)

@@ -18,5 +18,5 @@ unfoldable pub rowOf : Totals → ℕ → ℕ
 rowOf t j = getD (t .«off_duty» ∷ t .«sleeper_berth» ∷ t .driving ∷ t .«on_duty» ∷ t .unrecorded ∷ []) j 0
 
 -- all five added up
-unfoldable pub sumOf : Totals → ℕ
-sumOf t = t .«off_duty» + t .«sleeper_berth» + t .driving + t .«on_duty» + t .unrecorded
+unfoldable pub sumSeconds : Totals → ℕ
+sumSeconds t = t .«off_duty» + t .«sleeper_berth» + t .driving + t .«on_duty» + t .unrecorded

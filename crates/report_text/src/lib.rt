@@ -9,15 +9,15 @@ use text::put_left;
 use text::put_spaces;
 ghost use mathlib.Core.Path.{_≡_};
 ghost use mathlib.Core.List.{_++_};
-ghost use Prim.Native.Nat.{_+_, _-_, _≤_, _<_};
+ghost use Prim.Native.Nat.{_+_, _-_, _*_, _≤_, _<_};
 ghost use lib.ListN.{length};
 ghost use Rattle.key.specs.Rank.{rank};
 ghost use Rattle.text.specs.Text.{rightOf};
 ghost use Rattle.filling.specs.Filling.{AddsWithin};
-ghost use Rattle.report_text.specs.Rows.{rows, rowName, rowOf, sumOf};
+ghost use Rattle.report_text.specs.Rows.{rows, rowName, rowOf, sumSeconds};
 ghost use Rattle.report_text.specs.Times.{pairText, clockText, tenThousandths, hoursText};
 ghost use Rattle.report_text.specs.ReportText.{nameColumn, keyLine, secondsColumn, clockColumn, hoursColumn, timesText, secondsLine, rowLines, dayLines, reportText};
-ghost use Rattle.report_text.specs.InnerRoom.{nameRoom, clockRoom, lineRoom, reportRoom};
+ghost use Rattle.report_text.specs.InnerRoom.{nameRoom, clockRoom, reportLineRoom, reportRoom};
 
 // The rows of a day: the four duties, and unrecorded time.
 pub const ROWS: usize = 5;
@@ -162,7 +162,7 @@ pub fn seconds_of(t: Totals, row: usize) -> u32
 
 // All five added up.
 pub fn sum_of(t: Totals) -> u64
-    ensures { λ r. ⌜ r ≡ sumOf t ⌝ }
+    ensures { λ r. ⌜ r ≡ sumSeconds t ⌝ }
 {
     t.off_duty as u64
         + t.sleeper_berth as u64
@@ -185,8 +185,8 @@ pub fn seconds_between(start: i64, end: i64) -> u64
 
 // The line of a key.
 fn put_key_line(out: &mut [u8], at: usize, name: &[u8], key: i64) -> usize
-    requires { ⌜ (length (now name) ≤ nameRoom) × (at + lineRoom ≤ length (now out)) ⌝ }
-    ensures { λ r. ⌜ AddsWithin lineRoom (keyLine (now (name .entry)) key) (now (out .entry)) at (now (out .exit)) r ⌝ }
+    requires { ⌜ (length (now name) ≤ nameRoom) × (at + reportLineRoom ≤ length (now out)) ⌝ }
+    ensures { λ r. ⌜ AddsWithin reportLineRoom (keyLine (now (name .entry)) key) (now (out .entry)) at (now (out .exit)) r ⌝ }
 {
     let number = put_name_column(out, at, name);
     let to = put_i64_right(out, number, 11, key);
@@ -195,8 +195,8 @@ fn put_key_line(out: &mut [u8], at: usize, name: &[u8], key: i64) -> usize
 
 // The line of a number of seconds.
 fn put_seconds_line(out: &mut [u8], at: usize, name: &[u8], n: u64) -> usize
-    requires { ⌜ (length (now name) ≤ nameRoom) × (at + lineRoom ≤ length (now out)) ⌝ }
-    ensures { λ r. ⌜ AddsWithin lineRoom (secondsLine (now (name .entry)) n) (now (out .entry)) at (now (out .exit)) r ⌝ }
+    requires { ⌜ (length (now name) ≤ nameRoom) × (at + reportLineRoom ≤ length (now out)) ⌝ }
+    ensures { λ r. ⌜ AddsWithin reportLineRoom (secondsLine (now (name .entry)) n) (now (out .entry)) at (now (out .exit)) r ⌝ }
 {
     let to = put_name_column(out, at, name);
     put_times(out, to, n)
@@ -204,8 +204,8 @@ fn put_seconds_line(out: &mut [u8], at: usize, name: &[u8], n: u64) -> usize
 
 // The line of a row.
 fn put_row_line(out: &mut [u8], at: usize, row: usize, n: u32) -> usize
-    requires { ⌜ (row < rows) × (at + lineRoom ≤ length (now out)) ⌝ }
-    ensures { λ r. ⌜ AddsWithin lineRoom (secondsLine (rowName row) n) (now (out .entry)) at (now (out .exit)) r ⌝ }
+    requires { ⌜ (row < rows) × (at + reportLineRoom ≤ length (now out)) ⌝ }
+    ensures { λ r. ⌜ AddsWithin reportLineRoom (secondsLine (rowName row) n) (now (out .entry)) at (now (out .exit)) r ⌝ }
 {
     let to = put_row_column(out, at, row);
     put_times(out, to, n as u64)
@@ -213,8 +213,8 @@ fn put_row_line(out: &mut [u8], at: usize, row: usize, n: u32) -> usize
 
 // The lines of the five rows.
 fn put_rows(out: &mut [u8], at: usize, t: Totals) -> usize
-    requires { ⌜ at + 500 ≤ length (now out) ⌝ }
-    ensures { λ r. ⌜ AddsWithin 500 (rowLines t) (now (out .entry)) at (now (out .exit)) r ⌝ }
+    requires { ⌜ at + rows * reportLineRoom ≤ length (now out) ⌝ }
+    ensures { λ r. ⌜ AddsWithin (rows * reportLineRoom) (rowLines t) (now (out .entry)) at (now (out .exit)) r ⌝ }
 {
     let mut to = at;
     let mut row = 0;
@@ -227,8 +227,8 @@ fn put_rows(out: &mut [u8], at: usize, t: Totals) -> usize
 
 // The lines of a day's start, end and length.
 fn put_day(out: &mut [u8], at: usize, start: i64, end: i64) -> usize
-    requires { ⌜ at + 300 ≤ length (now out) ⌝ }
-    ensures { λ r. ⌜ AddsWithin 300 (dayLines start end) (now (out .entry)) at (now (out .exit)) r ⌝ }
+    requires { ⌜ at + 3 * reportLineRoom ≤ length (now out) ⌝ }
+    ensures { λ r. ⌜ AddsWithin (3 * reportLineRoom) (dayLines start end) (now (out .entry)) at (now (out .exit)) r ⌝ }
 {
     let second = put_key_line(out, at, b"start", start);
     let third = put_key_line(out, second, b"end", end);

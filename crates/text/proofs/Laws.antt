@@ -1,12 +1,12 @@
 -- Laws of text put into lent bytes, for whoever puts one text behind another.
-use Prim.Native.Nat.{ℕ, suc, _+_, _-_, _≤_, _<_, max}
+use Prim.Native.Nat.{ℕ, _+_, _-_, _≤_, _<_, max}
 use native.Mathlib.Omega.{arith}
 use native.Mathlib.Numerals.{add-one}
 use native.Mathlib.Nat.{add-zero}
 use mathlib.Core.Path.{_≡_, refl, sym, ap, _∙_}
 use mathlib.Core.List.{List, [], _∷_, _++_}
 use lib.ListN.{length, getD, set, take, drop, replicate, length-append, length-replicate, replicate-append-replicate}
-use lib.Seq.{sets, sets-eq, length-sets, length-take-le, take-suc, take-at, drop-at, take-append-le}
+use lib.Seq.{sets, sets-eq, length-sets, take-suc, take-at}
 use Rattle.bytes_of.proofs.Stores.{sets-append}
 use Rattle.text.specs.Text.{space, Adds, rightOf, leftOf}
 
@@ -41,7 +41,7 @@ adds-eq {s} {out} {out₁} {at} {r} a h = a .puts ∙ sets-eq s out at h ∙ ap 
 pub text-first : {s out out₁ : List ℕ} {r : ℕ} → Adds s out 0 out₁ r → length s ≤ length out → take r out₁ ≡ s
 text-first {s} {out} {out₁} {r} a h = ap (take r) (adds-eq a (omega arith)) ∙ take-at s (drop r out) r (omega arith)
 
--- which there are
+-- and there are that many
 pub text-room : {s out out₁ : List ℕ} {r : ℕ} → Adds s out 0 out₁ r → length s ≤ length out → r ≤ length out₁
 text-room a h = omega (arith, adds-length a)
 
@@ -56,13 +56,13 @@ unfolding leftOf
 length-left w t = omega (arith, length-append t (replicate (w - length t) space), length-replicate (w - length t) space)
 
 -- the spaces, and the text
-pub adds-right : (w : ℕ) (t : List ℕ) {out out₁ out₂ : List ℕ} {at n r₁ r₂ : ℕ} → n ≡ w - length t → Adds (replicate n space) out at out₁ r₁ → Adds t out₁ r₁ out₂ r₂
-    → Adds (rightOf w t) out at out₂ r₂
+pub adds-right : (w : ℕ) (t : List ℕ) {out out₁ out₂ : List ℕ} {at n r₁ r₂ : ℕ} → n ≡ w - length t
+    → Adds (replicate n space) out at out₁ r₁ → Adds t out₁ r₁ out₂ r₂ → Adds (rightOf w t) out at out₂ r₂
 unfolding rightOf
 adds-right w t e a b = adds-then (adds-as (ap (λ (n : ℕ). replicate n space) e) a) b
 
-pub adds-left : (w : ℕ) (t : List ℕ) {out out₁ out₂ : List ℕ} {at n r₁ r₂ : ℕ} → n ≡ w - length t → Adds t out at out₁ r₁ → Adds (replicate n space) out₁ r₁ out₂ r₂
-    → Adds (leftOf w t) out at out₂ r₂
+pub adds-left : (w : ℕ) (t : List ℕ) {out out₁ out₂ : List ℕ} {at n r₁ r₂ : ℕ} → n ≡ w - length t
+    → Adds t out at out₁ r₁ → Adds (replicate n space) out₁ r₁ out₂ r₂ → Adds (leftOf w t) out at out₂ r₂
 unfolding leftOf
 adds-left w t e a b = adds-then a (adds-as (ap (λ (n : ℕ). replicate n space) e) b)
 
@@ -77,7 +77,8 @@ text-more t i v {out} {out₁} {at} h e a =
     rw p at (adds-as s (adds-byte v a))
 
 -- one space more
-pub space-more : (i : ℕ) {out out₁ : List ℕ} {at : ℕ} → Adds (replicate i space) out at out₁ (at + i) → Adds (replicate (i + 1) space) out at (set out₁ (at + i) space) (at + (i + 1))
+pub space-more : (i : ℕ) {out out₁ : List ℕ} {at : ℕ}
+    → Adds (replicate i space) out at out₁ (at + i) → Adds (replicate (i + 1) space) out at (set out₁ (at + i) space) (at + (i + 1))
 space-more i {out} {out₁} {at} a =
     let p : at + i + 1 ≡ at + (i + 1) = omega arith in
     rw p at (adds-as (replicate-append-replicate i 1 space) (adds-byte space a))

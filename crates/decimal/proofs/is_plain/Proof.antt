@@ -1,5 +1,4 @@
 -- Empty, one byte, or more.
-use borrow.Author.Needs.{needs}
 use native.Mathlib.Omega.{arith}
 use mathlib.Core.Path.{sym}
 use Rattle.decimal.proofs.Steps.{plain-empty, plain-one, plain-longer}
@@ -13,7 +12,7 @@ returns-2 : tie.Need-returns-2
 returns-2 c = sym (plain-one (c .before .before .args .text .now) (c .if2 .taken))
 
 shared-slice-read-result : tie.Need-shared-slice-read-result
-shared-slice-read-result c = search needs
+shared-slice-read-result c = omega arith
 
 returns-3 : tie.Need-returns-3
 returns-3 c = sym (plain-longer (c .before .before .before .args .text .now) (omega arith))

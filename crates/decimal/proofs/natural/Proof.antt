@@ -23,7 +23,7 @@ returns-2 c =
     sym (ap asNatural (a .1) ∙ natural-large (a .0 .0) (omega arith))
 
 cast-t4 : tie.Need-cast-t4
-cast-t4 c = search needs
+cast-t4 c = omega arith
 
 returns-3 : tie.Need-returns-3
 returns-3 c =

@@ -34,7 +34,7 @@ returns-3 c =
     sym (ap asNegative (a .1) ∙ negative-large (a .0 .0) (omega arith))
 
 cast-t5 : tie.Need-cast-t5
-cast-t5 c = search needs
+cast-t5 c = omega arith
 
 add-t6 : tie.Need-add-t6
 add-t6 c =

@@ -2,17 +2,18 @@
 use Prim.Native.Nat.{_+_, _≤_}
 use native.Mathlib.Omega.{arith}
 use mathlib.Core.Path.{_≡_, refl}
-use mathlib.Core.List.{[]}
-use lib.ListN.{length, length-set, drop, drop-of-length-le}
+use lib.ListN.{length, length-set, drop}
 use lib.Seq.{sets}
 use Rattle.decimal.specs.Decimal.{digitsText}
 use Rattle.decimal.proofs.Digits.{length-digits}
-use Rattle.decimal.proofs.Putting.{Left, all-left, digit-more}
+use Rattle.decimal.proofs.Putting.{Left, none-put, all-left, digit-more}
 use Rattle.decimal.proofs.put_digits.Statement.{statement}
 use Rattle.decimal.proofs.put_digits.Tie as tie
 
 abbrev Inv-loop : tie.InvT-loop
-Inv-loop out₀ at k n i₀ rest₀ out i rest = (i ≤ k) × (length out ≡ length out₀) × Left (digitsText k n) i rest × (out ≡ sets out₀ (at + i) (drop i (digitsText k n)))
+Inv-loop out₀ at k n i₀ rest₀ out i rest =
+    let ds = digitsText k n in
+    (i ≤ k) × (length out ≡ length out₀) × Left ds i rest × (out ≡ sets out₀ (at + i) (drop i ds))
 
 abbrev μ-loop : tie.MeasureT-loop
 μ-loop out₀ at k n i₀ rest₀ out i rest = i
@@ -20,8 +21,7 @@ abbrev μ-loop : tie.MeasureT-loop
 loop-holds : tie.Need-loop-holds Inv-loop μ-loop
 loop-holds c =
     let s = c .before .args in
-    let e : drop (s .k) (digitsText (s .k) (s .n)) ≡ [] = drop-of-length-le (digitsText (s .k) (s .n)) {i = s .k} (omega (arith, length-digits (s .k) (s .n))) in
-    (omega arith, refl, all-left (s .k) (s .n), rw e)
+    (omega arith, refl, all-left (s .k) (s .n), rw (none-put (s .k) (s .n)))
 
 sub-i : tie.Need-sub-i Inv-loop μ-loop
 sub-i c = omega arith

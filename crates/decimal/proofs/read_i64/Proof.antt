@@ -1,5 +1,4 @@
 -- By the first byte.
-use borrow.Author.Needs.{needs}
 use native.Mathlib.Omega.{arith}
 use mathlib.Core.Path.{sym, ap, _∙_}
 use Rattle.decimal.specs.Reading.{asNatural, asNegative}
@@ -11,22 +10,22 @@ returns : tie.Need-returns
 returns c = sym (signed-empty (c .before .before .args .text .now) (c .if1 .taken))
 
 shared-slice-read-if2 : tie.Need-shared-slice-read-if2
-shared-slice-read-if2 c = search needs
+shared-slice-read-if2 c = omega arith
 
 sub-read-u64 : tie.Need-sub-read-u64
-sub-read-u64 c = search needs
+sub-read-u64 c = omega arith
 
 part-read-u64-start : tie.Need-part-read-u64-start
-part-read-u64-start c = search needs
+part-read-u64-start c = omega arith
 
 part-read-u64-end : tie.Need-part-read-u64-end
-part-read-u64-end c = search needs
+part-read-u64-end c = omega arith
 
 read-u64-requires : tie.Need-read-u64-requires
-read-u64-requires c κs = search needs
+read-u64-requires c κs = tt
 
 negative-requires : tie.Need-negative-requires
-negative-requires c κs = search needs
+negative-requires c κs = tt
 
 returns-2 : tie.Need-returns-2
 returns-2 c =
@@ -34,10 +33,10 @@ returns-2 c =
     c .negative .ensures ∙ ap asNegative (c .before .read-u64 .ensures) ∙ sym (signed-behind t (omega arith) (c .before .before .before .if2 .taken))
 
 read-u64-requires-2 : tie.Need-read-u64-requires-2
-read-u64-requires-2 c κs = search needs
+read-u64-requires-2 c κs = tt
 
 natural-requires : tie.Need-natural-requires
-natural-requires c κs = search needs
+natural-requires c κs = tt
 
 returns-3 : tie.Need-returns-3
 returns-3 c =

@@ -5,12 +5,12 @@ use mathlib.Core.Path.{_≡_, ap}
 use mathlib.Core.List.{List}
 use lib.ListN.{length, length-drop}
 use Rattle.text.proofs.Laws.{adds-length}
-use Rattle.filling.proofs.Fills.{Filling, filling-none, filling-more, filling-done}
+use Rattle.filling.proofs.Fills.{FilledUpto, filling-none, filling-more, filling-done}
 use Rattle.filling.proofs.fill.Statement.{statement}
 use Rattle.filling.proofs.fill.Tie as tie
 
 abbrev Inv-loop : tie.InvT-loop
-Inv-loop out₀ at text numbers to₀ k₀ i₀ out to k i = Filling text numbers out₀ at i k out to
+Inv-loop out₀ at text numbers to₀ k₀ i₀ out to k i = FilledUpto text numbers out₀ at i k out to
 
 abbrev μ-loop : tie.MeasureT-loop
 μ-loop out₀ at text numbers to₀ k₀ i₀ out to k i = length text - i
@@ -25,7 +25,7 @@ put-piece-requires : tie.Need-put-piece-requires Inv-loop μ-loop
 put-piece-requires c κs =
     let l = c .before .before .before .loop in
     let a = c .before .before .before .before .before .before .before .args in
-    (l .inv .used, omega (arith, l .inv .room, length-drop (l .k) (a .numbers .now), adds-length (l .inv .adds)))
+    (omega (arith, l .inv .used), omega (arith, l .inv .room, length-drop (l .k) (a .numbers .now), adds-length (l .inv .adds)))
 
 next-number-requires : tie.Need-next-number-requires Inv-loop μ-loop
 next-number-requires c κs = c .before .before .before .before .before .before .loop .inv .used

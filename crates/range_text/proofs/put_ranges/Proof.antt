@@ -8,13 +8,13 @@ use Rattle.outcomes.specs.Stored.{stored}
 use Rattle.filling.specs.Filling.{AddsWithin}
 use Rattle.filling.proofs.Laws.{as-within, within-length}
 use Rattle.range_text.specs.RangeText.{rangesText}
-use Rattle.range_text.specs.InnerRoom.{lineRoom}
+use Rattle.range_text.specs.InnerRoom.{rangeLineRoom}
 use Rattle.range_text.proofs.Laws.{ranges-none, ranges-more}
 use Rattle.range_text.proofs.put_ranges.Statement.{statement}
 use Rattle.range_text.proofs.put_ranges.Tie as tie
 
 abbrev Inv-loop : tie.InvT-loop
-Inv-loop count starts ends values out₀ to₀ i₀ out to i = (i ≤ count) × AddsWithin (lineRoom * i) (rangesText (stored i starts ends values)) out₀ 0 out to
+Inv-loop count starts ends values out₀ to₀ i₀ out to i = (i ≤ count) × AddsWithin (rangeLineRoom * i) (rangesText (stored i starts ends values)) out₀ 0 out to
 
 abbrev μ-loop : tie.MeasureT-loop
 μ-loop count starts ends values out₀ to₀ i₀ out to i = count - i

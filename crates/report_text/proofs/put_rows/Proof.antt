@@ -6,12 +6,12 @@ use Rattle.filling.specs.Filling.{series, AddsWithin}
 use Rattle.filling.proofs.Laws.{as-within, within-length, series-none, series-more}
 use Rattle.report_text.specs.Rows.{rows, rowName, rowOf}
 use Rattle.report_text.specs.ReportText.{secondsLine, rowLines}
-use Rattle.report_text.specs.InnerRoom.{lineRoom}
+use Rattle.report_text.specs.InnerRoom.{reportLineRoom}
 use Rattle.report_text.proofs.put_rows.Statement.{statement}
 use Rattle.report_text.proofs.put_rows.Tie as tie
 
 abbrev Inv-loop : tie.InvT-loop
-Inv-loop out₀ at t to₀ row₀ out to row = (row ≤ rows) × AddsWithin (lineRoom * row) (series (λ j. secondsLine (rowName j) (rowOf t j)) row) out₀ at out to
+Inv-loop out₀ at t to₀ row₀ out to row = (row ≤ rows) × AddsWithin (reportLineRoom * row) (series (λ j. secondsLine (rowName j) (rowOf t j)) row) out₀ at out to
 
 abbrev μ-loop : tie.MeasureT-loop
 μ-loop out₀ at t to₀ row₀ out to row = rows - row

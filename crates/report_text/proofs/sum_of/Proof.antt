@@ -1,6 +1,6 @@
 -- `report_text::sum_of` meets its contract.
 use native.Mathlib.Omega.{arith}
-use Rattle.report_text.specs.Rows.{sumOf}
+use Rattle.report_text.specs.Rows.{sumSeconds}
 use Rattle.report_text.proofs.sum_of.Statement.{statement}
 use Rattle.report_text.proofs.sum_of.Tie as tie
 
@@ -32,7 +32,7 @@ add-result-4 : tie.Need-add-result-4
 add-result-4 c = omega arith
 
 returns : tie.Need-returns
-unfolding sumOf
+unfolding sumSeconds
 returns c = omega arith
 
 pub sum-of-spec : {M : Type 1} → statement M

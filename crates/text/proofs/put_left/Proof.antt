@@ -1,20 +1,20 @@
 -- The text, then the spaces.
-use borrow.Author.Needs.{needs}
+use native.Mathlib.Omega.{arith}
 use Rattle.text.proofs.Laws.{adds-left}
 use Rattle.text.proofs.put_left.Statement.{statement}
 use Rattle.text.proofs.put_left.Tie as tie
 
 left-of-width-requires : tie.Need-left-of-width-requires
-left-of-width-requires c κs = search needs
+left-of-width-requires c κs = tt
 
 put-requires : tie.Need-put-requires
-put-requires c κs = search needs
+put-requires c κs = omega arith
 
 put-spaces-requires : tie.Need-put-spaces-requires
-put-spaces-requires c κs = search needs
+put-spaces-requires c κs = omega arith
 
 same-length : tie.Need-same-length
-same-length c = search needs
+same-length c = omega arith
 
 returns : tie.Need-returns
 returns c =

@@ -1,5 +1,4 @@
 -- The spaces, then the text.
-use borrow.Author.Needs.{needs}
 use native.Mathlib.Omega.{arith}
 use lib.ListN.{length-replicate}
 use Rattle.text.specs.Text.{space}
@@ -8,16 +7,16 @@ use Rattle.text.proofs.put_right.Statement.{statement}
 use Rattle.text.proofs.put_right.Tie as tie
 
 left-of-width-requires : tie.Need-left-of-width-requires
-left-of-width-requires c κs = search needs
+left-of-width-requires c κs = tt
 
 put-spaces-requires : tie.Need-put-spaces-requires
-put-spaces-requires c κs = search needs
+put-spaces-requires c κs = omega arith
 
 put-requires : tie.Need-put-requires
 put-requires c κs = omega (arith, length-replicate (c .before .before .before .before .before .left-of-width .result) space)
 
 same-length : tie.Need-same-length
-same-length c = search needs
+same-length c = omega arith
 
 returns : tie.Need-returns
 returns c =

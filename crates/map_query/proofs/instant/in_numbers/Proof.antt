@@ -12,7 +12,8 @@ told-of-requires : tie.Need-told-of-requires
 told-of-requires c κs = tt
 
 returns : tie.Need-returns
-returns c = let s = c .before .before .before in c .told-of .ensures ∙ ap toldOf (rw (toZ-ofZ (s .fits .start), toZ-ofZ (s .fits .end), toZ-ofZ (s .fits .key)) at (c .before .query-at .ensures))
+returns c = let s = c .before .before .before in c .told-of .ensures ∙ ap toldOf
+    (rw (toZ-ofZ (s .fits .start), toZ-ofZ (s .fits .end), toZ-ofZ (s .fits .key)) at (c .before .query-at .ensures))
 
 pub in-numbers-spec : {M : Type 1} → statement M
 in-numbers-spec = tie.close (tie.spec query-at-requires told-of-requires returns)

@@ -21,4 +21,5 @@ unfolding code.routine
 range-map-query-at-spec 𝓤 H 𝓜 𝓖 𝓡 =
     proves 𝓤 H 𝓜 𝓖 𝓡 (lend range-map ∷ lend range-map ∷ value (sint w64) ∷ value (sint w64) ∷ slice u8 ∷ value (sint w64) ∷ []) told
     (f.clauses 𝓤 H) (g.clauses 𝓤 H) (λ κs a k x. (tt, id⊢ 𝓤 _, λ r zs. id⊢ 𝓤 _))
-    code.env f-key.name code.function (code.unfolded 𝓤 H 𝓜 𝓡) g-def.name code.calls-map-query·instant·in-numbers (g-thm.met 𝓤 H 𝓜 𝓖 𝓡) (λ κs a. (refl, refl, refl))
+    code.env f-key.name code.function (code.unfolded 𝓤 H 𝓜 𝓡) g-def.name code.calls-map-query·instant·in-numbers (g-thm.met 𝓤 H 𝓜 𝓖 𝓡)
+    (λ κs a. (refl, refl, refl))

@@ -1,4 +1,5 @@
--- `map_query::ranges_unchecked::range_map_query_unchecked` meets its contract: it lends all the fields of each map to `in_numbers`, and passes the rest on (`thin`, Thin.antt).
+-- `map_query::ranges_unchecked::range_map_query_unchecked` meets its contract: it lends all the fields of each map to `in_numbers`, and passes the rest
+-- on (`thin`, Thin.antt).
 use mathlib.Core.Path.{refl}
 use mathlib.Core.List.{[], _∷_}
 use mir.Syntax.{w64}
@@ -21,4 +22,5 @@ unfolding code.routine
 range-map-query-unchecked-spec 𝓤 H 𝓜 𝓖 𝓡 =
     proves 𝓤 H 𝓜 𝓖 𝓡 (lend range-map ∷ lend range-map ∷ value (sint w64) ∷ value (sint w64) ∷ slice u8 ∷ slice-mut i64 ∷ slice-mut i64 ∷ []) count
     (f.clauses 𝓤 H) (g.clauses 𝓤 H) (λ κs a k x. (tt, id⊢ 𝓤 _, λ r zs. id⊢ 𝓤 _))
-    code.env f-key.name code.function (code.unfolded 𝓤 H 𝓜 𝓡) g-def.name code.calls-map-query·ranges-unchecked·in-numbers (g-thm.met 𝓤 H 𝓜 𝓖 𝓡) (λ κs a. (refl, refl, refl))
+    code.env f-key.name code.function (code.unfolded 𝓤 H 𝓜 𝓡) g-def.name code.calls-map-query·ranges-unchecked·in-numbers (g-thm.met 𝓤 H 𝓜 𝓖 𝓡)
+    (λ κs a. (refl, refl, refl))

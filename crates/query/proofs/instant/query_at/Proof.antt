@@ -15,7 +15,8 @@ unfolding queryingAt
 returns c = let asked = c .before .are-formed in rw (sym (asked .ensures .0) ∙ not-true (asked .result) (c .if1 .taken))
 
 query-at-unchecked-requires : tie.Need-query-at-unchecked-requires
-query-at-unchecked-requires c κs = let e = c .before .before .before .before .before .before in e .before .are-formed .ensures .1 (not-false (e .before .are-formed .result) (e .if1 .left))
+query-at-unchecked-requires c κs = let e = c .before .before .before .before .before .before in
+    e .before .are-formed .ensures .1 (not-false (e .before .are-formed .result) (e .if1 .left))
 
 returns-2 : tie.Need-returns-2
 unfolding queryingAt

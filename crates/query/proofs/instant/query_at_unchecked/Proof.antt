@@ -62,8 +62,8 @@ returns-4 c =
     let out : rank (a .end) ≤ rank (a .key) = omega (arith, tests, c .if3 .taken) in
     rw (lt-ltb (rank (a .start)) (rank (a .end)) (omega (arith, tests, at-query .before .if1 .left)), f .is, behind-window) refl
 
-told-requires : tie.Need-told-requires
-told-requires c κs =
+by-table-requires : tie.Need-by-table-requires
+by-table-requires c κs =
     let s = c .before .before .before .before .before .before .before .before .before .before in
     rw (toZ-ofZ (s .fits .key), toZ-ofZ (s .fits .end)) (s .pre .0, s .pre .1, omega (arith, tests, c .if3 .left))
 
@@ -75,7 +75,7 @@ returns-5 c =
     let s = at-query .before .before .before .before .before in
     let a = s .args in
     let f = as-got (a .bytes .now) 0 (queryOf (a .bytes .now)) (at-t .t .given .1) (at-query .read-query .ensures) in
-    let told = rw (toZ-ofZ (s .fits .key)) at (c .told .ensures) in
+    let told = rw (toZ-ofZ (s .fits .key)) at (c .by-table .ensures) in
     let within : rank (a .start) ≤ rank (a .key) = omega (arith, tests, c .before .before .if2 .left) in
     let inside : rank (a .key) < rank (a .end) = omega (arith, tests, c .before .if3 .left) in
     let xs = ranges halfOpen (stored (a .count-a) (a .starts-a .now) (a .ends-a .now) (a .values-a .now)) in
@@ -84,4 +84,4 @@ returns-5 c =
     rw (lt-ltb (rank (a .start)) (rank (a .end)) (omega arith), f .is, in-window) (told ∙ ap yesNo t)
 
 pub query-at-unchecked-spec : {M : Type 1} → statement M
-query-at-unchecked-spec = tie.close (tie.spec returns read-query-requires enum-known-t enum-told returns-2 returns-3 returns-4 told-requires returns-5)
+query-at-unchecked-spec = tie.close (tie.spec returns read-query-requires enum-known-t enum-told returns-2 returns-3 returns-4 by-table-requires returns-5)

@@ -15,7 +15,8 @@ unfolding querying
 returns c = let asked = c .before .are-formed in rw (sym (asked .ensures .0) ∙ not-true (asked .result) (c .if1 .taken))
 
 query-unchecked-requires : tie.Need-query-unchecked-requires
-query-unchecked-requires c κs = let e = c .before .before .before .before .before .before .before .before in e .before .are-formed .ensures .1 (not-false (e .before .are-formed .result) (e .if1 .left))
+query-unchecked-requires c κs = let e = c .before .before .before .before .before .before .before .before in
+    e .before .are-formed .ensures .1 (not-false (e .before .are-formed .result) (e .if1 .left))
 
 same-length : tie.Need-same-length
 same-length c = omega arith

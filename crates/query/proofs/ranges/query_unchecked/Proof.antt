@@ -11,7 +11,7 @@ use Rattle.outcomes.specs.Stored.{stored}
 use Rattle.query_text.specs.Reader.{queryOf}
 use Rattle.query_text.proofs.Parts.{as-got, as-bad}
 use Rattle.query.specs.Answers.{resultOf, queried}
-use Rattle.query.proofs.Glue.{result-comes}
+use Rattle.query.proofs.Glue.{result-comes, sound-few}
 use Rattle.query.proofs.ranges.query_unchecked.Statement.{statement}
 use Rattle.query.proofs.ranges.query_unchecked.Tie as tie
 
@@ -38,8 +38,8 @@ returns-2 c =
     let e = as-bad (s .args .bytes .now) 0 (queryOf (s .args .bytes .now)) (c .enum-told .given .1) (at-query .read-query .ensures) in
     rw (lt-ltb (rank (s .args .start)) (rank (s .args .end)) (omega (arith, tests)), e) refl
 
-found-requires : tie.Need-found-requires
-found-requires c κs =
+by-table-requires : tie.Need-by-table-requires
+by-table-requires c κs =
     let at-t = c .before .before .before in
     let at-query = at-t .before .before in
     let at-if1 = at-query .before in
@@ -49,8 +49,16 @@ found-requires c κs =
     let f = as-got (s .args .bytes .now) 0 (queryOf (s .args .bytes .now)) (at-t .t .given .1) (at-query .read-query .ensures) in
     let lt : rank (s .args .start) < rank (s .args .end) = omega (arith, tests, at-if1 .if1 .left) in
     let g = result-comes m n (s .pre .0) (s .pre .1) (rank (s .args .start)) (rank (s .args .end)) lt (s .args .bytes .now) (f .query) _ (f .is) _ (f .table) in
-    rw (toZ-ofZ (s .fits .start), toZ-ofZ (s .fits .end))
-    (s .pre .0, s .pre .1, lt, record { list = resultOf m n (s .args .start) (s .args .end) (f .query); to-come = g })
+    rw (toZ-ofZ (s .fits .start), toZ-ofZ (s .fits .end)) (
+      s .pre .0,
+      s .pre .1,
+      lt,
+      record {
+        list = resultOf m n (s .args .start) (s .args .end) (f .query);
+        to-come = g;
+        few = sound-few m n (s .pre .0) (s .pre .1) (rank (s .args .start)) (rank (s .args .end)) lt (f .query);
+      },
+    )
 
 same-length : tie.Need-same-length
 same-length c = omega arith
@@ -61,8 +69,8 @@ same-length-2 c = omega arith
 returns-3 : tie.Need-returns-3
 unfolding queried
 returns-3 c =
-    let at-found = c .before .before in
-    let at-t = at-found .before .before .before .before in
+    let at-table = c .before .before in
+    let at-t = at-table .before .before .before .before in
     let at-query = at-t .before .before in
     let at-if1 = at-query .before in
     let s = at-if1 .before .before .before .before in
@@ -71,7 +79,7 @@ returns-3 c =
     let f = as-got (s .args .bytes .now) 0 (queryOf (s .args .bytes .now)) (at-t .t .given .1) (at-query .read-query .ensures) in
     let lt : rank (s .args .start) < rank (s .args .end) = omega (arith, tests, at-if1 .if1 .left) in
     let g = result-comes m n (s .pre .0) (s .pre .1) (rank (s .args .start)) (rank (s .args .end)) lt (s .args .bytes .now) (f .query) _ (f .is) _ (f .table) in
-    let v = rw (toZ-ofZ (s .fits .start), toZ-ofZ (s .fits .end)) at (at-found .found .ensures) in
+    let v = rw (toZ-ofZ (s .fits .start), toZ-ofZ (s .fits .end)) at (at-table .by-table .ensures) in
     rw (lt-ltb (rank (s .args .start)) (rank (s .args .end)) lt, f .is) (v (resultOf m n (s .args .start) (s .args .end) (f .query)) g)
 
 pub query-unchecked-spec : {M : Type 1} → statement M
@@ -83,7 +91,7 @@ query-unchecked-spec =
     enum-known-t
     enum-told
     returns-2
-    found-requires
+    by-table-requires
     same-length
     same-length-2
     returns-3)

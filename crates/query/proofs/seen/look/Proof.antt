@@ -13,8 +13,10 @@ returns : tie.Need-returns
 returns c =
     let s = c .before .before in
     let m = stored (s .args .count) (s .args .starts .now) (s .args .ends .now) (s .args .values .now) in
-    simp rank-back
-    (look-none m (s .pre .0) (s .args .place) (rank (s .args .key)) (s .pre .1) (rank (s .args .end)) (c .if1 .taken) (s .pre .2), le-refl (rank (s .args .end)))
+    simp rank-back (
+      look-none m (s .pre .0) (s .args .place) (rank (s .args .key)) (s .pre .1) (rank (s .args .end)) (c .if1 .taken) (s .pre .2),
+      le-refl (rank (s .args .end)),
+    )
 
 mul-start : tie.Need-mul-start
 mul-start c =
@@ -37,8 +39,11 @@ returns-2 c =
     let s = at-if1 .before .before in
     let m = stored (s .args .count) (s .args .starts .now) (s .args .ends .now) (s .args .values .now) in
     let e = simp rank-back at (ap rank (c .min .ensures) ∙ rank-lesser _ _) in
-    simp rank-back
-    (look-before m (s .pre .0) (s .args .place) (rank (s .args .key)) (s .pre .1) (rank (c .min .result)) (at-if1 .if1 .left) (omega (arith, tests, s .pre .2)) (omega arith), omega arith)
+    simp rank-back (
+      look-before m (s .pre .0) (s .args .place) (rank (s .args .key)) (s .pre .1) (rank (c .min .result)) (at-if1 .if1 .left)
+          (omega (arith, tests, s .pre .2)) (omega arith),
+      omega arith,
+    )
 
 shared-slice-read-class-of : tie.Need-shared-slice-read-class-of
 shared-slice-read-class-of c =

@@ -12,7 +12,8 @@ use Rattle.query.proofs.walk.edge.Tie as tie
 
 abbrev Inv-loop : tie.InvT-loop
 Inv-loop count-a starts-a ends-a values-a count-b starts-b ends-b values-b t end so here₀ here =
-    Sought t (ranges halfOpen (stored count-a starts-a ends-a values-a)) (ranges halfOpen (stored count-b starts-b ends-b values-b)) (rank (here₀ .key)) (bitRank end) so here
+    Sought t (ranges halfOpen (stored count-a starts-a ends-a values-a)) (ranges halfOpen (stored count-b starts-b ends-b values-b)) (rank (here₀ .key))
+    (bitRank end) so here
 
 abbrev μ-loop : tie.MeasureT-loop
 μ-loop count-a starts-a ends-a values-a count-b starts-b ends-b values-b t end so here₀ here = bitRank end - rank (here .key)

@@ -8,13 +8,14 @@ use Rattle.key.specs.Rank.{rank, bitRank}
 use Rattle.key.specs.Range.{halfOpen}
 use Rattle.key.proofs.Laws.{tests, rank-below}
 use Rattle.outcomes.specs.Stored.{stored, ranges}
-use Rattle.query.proofs.Counting.{Counted, counts-to, counted-first, counted-on, counted-all, grows}
+use Rattle.query.proofs.Counting.{CountedSoFar, counts-to, counted-first, counted-on, counted-all, grows}
 use Rattle.query.proofs.written.count.Statement.{statement}
 use Rattle.query.proofs.written.count.Tie as tie
 
 abbrev Inv-loop : tie.InvT-loop
 Inv-loop count-a starts-a ends-a values-a count-b starts-b ends-b values-b t end n₀ s₀ n s =
-    Counted t (ranges halfOpen (stored count-a starts-a ends-a values-a)) (ranges halfOpen (stored count-b starts-b ends-b values-b)) (rank (s₀ .key)) (bitRank end) n s
+    CountedSoFar t (ranges halfOpen (stored count-a starts-a ends-a values-a)) (ranges halfOpen (stored count-b starts-b ends-b values-b)) (rank (s₀ .key))
+    (bitRank end) n s
 
 abbrev μ-loop : tie.MeasureT-loop
 μ-loop count-a starts-a ends-a values-a count-b starts-b ends-b values-b t end n₀ s₀ n s = bitRank end - rank (s .key)

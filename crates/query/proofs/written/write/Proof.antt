@@ -17,7 +17,8 @@ use Rattle.query.proofs.written.write.Tie as tie
 
 abbrev Inv-loop : tie.InvT-loop
 Inv-loop count-a starts-a ends-a values-a count-b starts-b ends-b values-b t end out-starts₀ out-ends₀ n₀ s₀ out-starts out-ends n s =
-    Underway t (ranges halfOpen (stored count-a starts-a ends-a values-a)) (ranges halfOpen (stored count-b starts-b ends-b values-b)) (rank (s₀ .key)) (bitRank end)
+    Underway t (ranges halfOpen (stored count-a starts-a ends-a values-a)) (ranges halfOpen (stored count-b starts-b ends-b values-b)) (rank (s₀ .key))
+    (bitRank end)
     out-starts₀ out-ends₀ out-starts out-ends n s
 
 abbrev μ-loop : tie.MeasureT-loop
@@ -32,7 +33,8 @@ loop-holds : tie.Need-loop-holds Inv-loop μ-loop
 loop-holds c =
     let s = c .before .before .before in
     let d = rw (toZ-ofZ (s .fits .end)) at (c .edge .ensures) in
-    underway-first (s .args .t) _ _ (rank (s .args .end)) (rank (s .args .w .key)) (c .edge .result) (s .args .out-starts .now) (s .args .out-ends .now) d (s .pre .4)
+    underway-first (s .args .t) _ _ (rank (s .args .end)) (rank (s .args .w .key)) (c .edge .result) (s .args .out-starts .now) (s .args .out-ends .now) d
+    (s .pre .4)
 
 edge-requires-2 : tie.Need-edge-requires-2 Inv-loop μ-loop
 edge-requires-2 c κs =
@@ -53,7 +55,8 @@ turn c =
     let s = c .before .before .before .before .before .before .before .before in
     let g = rw (toZ-ofZ (s .fits .end)) at (c .edge2 .ensures) in
     let lt : rank (l .s .key) < rank (s .args .end) = omega (arith, tests, c .before .if1 .taken) in
-    let p = place-there (s .args .t) _ _ (rank (s .args .end)) (l .out-starts) (l .out-ends) (rank (l .s .key)) (l .n) (l .s) (c .edge2 .result) (l .inv .edge) lt g (l .inv .fits) in
+    let p = place-there (s .args .t) _ _ (rank (s .args .end)) (l .out-starts) (l .out-ends) (rank (l .s .key)) (l .n) (l .s) (c .edge2 .result)
+    (l .inv .edge) lt g (l .inv .fits) in
     record {
       early = lt;
       later = grows (s .args .t) _ _ (rank (s .args .end)) (l .s) (c .edge2 .result) (l .inv .edge .there lt) lt g;
@@ -95,7 +98,8 @@ loop-again c =
     let d = rw (toZ-ofZ (s .fits .end)) at (c .edge3 .ensures) in
     let a = put-start (l .out-starts) (l .n) (ofZ w64 (l .s .key)) (q .put .ensures .0) in
     let b = put-start (l .out-ends) (l .n) (ofZ w64 (x .edge2 .result .key)) (q .put .ensures .1) in
-    underway-on (s .args .t) _ _ (rank (s .args .end)) _ (l .n) (l .s) (x .edge2 .result) (c .edge3 .result) _ _ (l .out-starts) (l .out-ends) _ _ (l .inv) (turn x .early) g a b d
+    underway-on (s .args .t) _ _ (rank (s .args .end)) _ (l .n) (l .s) (x .edge2 .result) (c .edge3 .result) _ _ (l .out-starts) (l .out-ends) _ _
+    (l .inv) (turn x .early) g a b d
 
 same-length : tie.Need-same-length Inv-loop μ-loop
 same-length c = c .before .before .before .loop .inv .same-starts
@@ -109,7 +113,8 @@ returns c =
     let f = c .before .before .before .before in
     let s = f .before .before .before in
     let d = rw (toZ-ofZ (s .fits .end)) at (f .edge .ensures) in
-    let all = underway-all (s .args .t) _ _ (rank (s .args .end)) _ (l .n) (l .s) _ _ (l .out-starts) (l .out-ends) (l .inv) (omega (arith, tests, c .if1 .left)) in
+    let all = underway-all (s .args .t) _ _ (rank (s .args .end)) _ (l .n) (l .s) _ _ (l .out-starts) (l .out-ends) (l .inv)
+    (omega (arith, tests, c .if1 .left)) in
     writes-to (s .args .t) _ _ (rank (s .args .end)) (rank (s .args .w .key)) 0 (f .edge .result) _ _ (l .n) (l .out-starts) (l .out-ends) d all
 
 pub write-spec : {M : Type 1} → statement M

@@ -1,4 +1,5 @@
--- The cycle of calls meets its contracts: `sum` calls `term` and itself, `term` calls `factor` and itself, `factor` calls `negated` and `grouped`, and these call `factor` and `sum`.
+-- The cycle of calls meets its contracts: `sum` calls `term` and itself, `term` calls `factor` and itself, `factor` calls `negated` and `grouped`, and
+-- these call `factor` and `sum`.
 -- The measure is 4 for each byte that is left, and a number for the function (`left`): a call takes a byte, or goes to a lesser function.
 use Prim.Native.Nat.{ℕ, _<_}
 use native.Mathlib.Omega.{arith}
@@ -357,7 +358,8 @@ negated-shut-requires t c κs =
     let at-opened = at-factor .before in
     let s = at-opened .before .before .before .before in
     let bytes = s .args .bytes .now in
-    let f = as-got bytes (at-opened .opened .result .marks) (here Level·factor bytes (at-opened .opened .result)) (c .before .d .given .1) (at-factor .factor .ensures) in
+    let f = as-got bytes (at-opened .opened .result .marks) (here Level·factor bytes (at-opened .opened .result)) (c .before .d .given .1)
+    (at-factor .factor .ensures) in
     let m = ap (λ (y : Cursor). y .marks) (at-opened .opened .ensures) in
     omega (arith, f .back)
 

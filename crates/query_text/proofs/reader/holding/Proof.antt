@@ -12,7 +12,8 @@ sees-digit-requires c κs = tt
 
 returns : tie.Need-returns
 returns c =
-    no-digit (atomOf (c .before .before .before .args .second)) _ (sym (c .before .sees-digit .ensures) ∙ was-false (c .before .sees-digit .result) (c .if1 .taken))
+    no-digit (atomOf (c .before .before .before .args .second)) _ (sym (c .before .sees-digit .ensures)
+    ∙ was-false (c .before .sees-digit .result) (c .if1 .taken))
 
 next-requires : tie.Need-next-requires
 next-requires c κs = omega arith

@@ -1,0 +1,2 @@
+-- Loaded: what is known of a form that was loaded, of one that is written, and of the ranges of a query.
+pub mod Loaded

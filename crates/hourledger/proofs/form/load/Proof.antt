@@ -1,0 +1,17 @@
+-- `hourledger::form::load` meets its contract.
+use Rattle.hourledger.proofs.Loaded.{read-loaded}
+use native.Mathlib.Omega.{arith}
+use borrow.Author.Needs.{needs}
+use Rattle.hourledger.proofs.form.load.Statement.{statement}
+use Rattle.hourledger.proofs.form.load.Tie as tie
+
+read-requires : tie.Need-read-requires
+read-requires c κs = search needs
+
+returns : tie.Need-returns
+returns c =
+    let bytes = c .before .before .before .before .before .shared-slice-known .given in
+    λ e. read-loaded _ (c .before .before .before .before .before .before .args .form .now) (λ k. omega (arith, bytes k)) (c .read .ensures) e
+
+pub load-spec : {M : Type 1} → statement M
+load-spec = tie.close (tie.spec read-requires returns)

@@ -1,0 +1,36 @@
+// A byte form: read from a descriptor, and loaded into a map.
+use crate::input::Input;
+use crate::input::read_all;
+use outcomes::PLACES;
+ghost use mathlib.Core.Path.{_≡_};
+ghost use Rattle.io.specs.Counts.{Counts};
+ghost use Rattle.outcomes.specs.Stored.{lent};
+ghost use Rattle.hourledger.specs.InnerInput.{Loaded};
+
+// The longest form, and a byte more.
+pub const ROOM: usize = 8 + 17 * PLACES + 1;
+
+// Reads a form. What is too long, or is not read to its end, is taken as bytes that are longer than any form.
+pub fn read_form(fd: i32, bytes: &mut [u8; ROOM]) -> usize
+    ensures { λ r. ⌜ Counts r (now (bytes .exit)) ⌝ }
+{
+    let got = read_all(fd, bytes);
+    match got {
+        Input::Bytes(n) => n,
+        Input::TooLong => ROOM,
+        Input::Failed => ROOM,
+    }
+}
+
+// Loads a form: 0 and its map, or 6.
+pub fn load(
+    form: &[u8],
+    count: &mut usize,
+    starts: &mut [i64; PLACES],
+    ends: &mut [i64; PLACES],
+    values: &mut [u8; PLACES],
+) -> u8
+    ensures { λ r. ⌜ (r ≡ 0 → Loaded (lent (count .exit) (starts .exit) (ends .exit) (values .exit))) ⌝ }
+{
+    byte_read::read(count, starts, ends, values, form)
+}

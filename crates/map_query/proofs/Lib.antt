@@ -1,0 +1,2 @@
+-- Unique: two outcomes that meet the promise of an exported function are equal.
+pub mod Unique

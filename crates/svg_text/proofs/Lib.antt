@@ -1,0 +1,2 @@
+-- Cases (the lines of a picture, by computation).
+pub mod Cases
