@@ -12,6 +12,7 @@ import tempfile
 from collections import Counter
 from datetime import date, datetime, timedelta
 
+sys.dont_write_bytecode = True  # nothing is left beside the sources
 from second import GREATEST, LEAST, answer, contents, form, hours_shown, log_day, sunday
 
 ZONES = [
