@@ -12,6 +12,7 @@ import tempfile
 from collections import Counter
 from datetime import date, datetime, timedelta
 
+sys.dont_write_bytecode = True  # nothing is left beside the sources
 from second import GREATEST, LEAST, answer, contents, form, hours_shown, log_day, sunday
 
 ZONES = [
@@ -170,7 +171,23 @@ class Cases:
             lines.append(line)
         return ("\n".join(lines) + r.choice(["\n", "\n", ""])).encode()
 
+    def other_words(self, words):
+        """A word more, one less, or another one in the place of one; the names of files stay."""
+        r = self.random
+        odd = ["", "0", "-0", "00", "-1", "+1", "1 ", "1.0", "x", "day", "graph", "make", "--svg", "--help", str(2**63), str(LEAST - 1), "9" * 40]
+        at = r.randrange(len(words) + 1)
+        if words[:1] == ["query"]:
+            at = min(at, 3)
+        return words[:at] + r.choice([[], [r.choice(odd)], [r.choice(odd)]]) + words[at + r.choice([0, 1, 1, 1]) :]
+
     def next(self, folder):
+        """A case, some of them with other words than a command has."""
+        kind, words, content = self.command(folder)
+        if self.random.random() < 0.08:
+            return "other words", self.other_words(words), content
+        return kind, words, content
+
+    def command(self, folder):
         """Words and standard input of a case; its files are put into the folder."""
         r = self.random
         kind = r.choice(["ranges", "day", "graph", "svg", "query", "query", "make"])

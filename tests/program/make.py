@@ -9,6 +9,7 @@ import os
 import shutil
 import sys
 
+sys.dont_write_bytecode = True  # nothing is left beside the sources
 from second import GREATEST, LEAST, answer, contents, form, log_day, whole
 
 HERE = os.path.dirname(os.path.abspath(__file__))
