@@ -1,6 +1,6 @@
 /*
  * Hourledger for C: relations of ranges, maps of half-open ranges with their byte form, maps of inclusive ranges, sets of both kinds,
- * log days and the day's report. Keys are int64_t, values are uint8_t.
+ * log days, the day's report and queries. Keys are int64_t, values are uint8_t.
  * Each part has a static library of its own: link those that are used.
  *
  * ANSWERS
@@ -11,10 +11,11 @@
  *   4  lent map or set not well formed
  *   5  not covered, or no such place: an answer, not a fault
  *   6  bytes not a written map
+ *   7  bad query
  *   8  bad zone or date
  *   9  total over 2^64 - 1
  *  10  status outside 1 to 4 in the day
- * Where several apply, the first of 4, 1, 8, 6, 10, 9, 5, 2, 3 is given. The first lent map or set is
+ * Where several apply, the first of 4, 1, 8, 6, 7, 10, 9, 5, 2, 3 is given. The first lent map or set is
  * checked before the second.
  * On any number but 0, every other result field is 0 and all lent memory is unchanged. Bulk insert alone differs: see there.
  *
@@ -50,6 +51,9 @@ extern "C" {
 
 /* The longest union of two sets: every range of both, for no output list is bound to 512. An intersection is shorter. */
 #define HOURLEDGER_UNION (2 * HOURLEDGER_PLACES)
+
+/* The longest result of a query: one range before each range of both maps, and one behind the last. */
+#define HOURLEDGER_QUERY (2 * HOURLEDGER_PLACES + 1)
 
 /*
  * A map of half-open ranges. Well formed: the count is at most 512, no stored range is empty or reversed,
@@ -566,6 +570,35 @@ DayReport range_map_day_report(const RangeMap *m, uint8_t zone, uint16_t year, u
 
 /* The inner door: a map that is not well formed must not be lent to it. */
 DayReport range_map_day_report_unchecked(const RangeMap *m, uint8_t zone, uint16_t year, uint8_t month, uint8_t day);
+
+/* ---- QUERIES OF TWO MAPS ---- */
+
+/*
+ * A query is 1 to 64 bytes of text, with no end mark. Its atoms are A or B and a digit, as in A3: the instants where that map
+ * holds that value. ! binds tightest, then &, then |; parentheses group; there are no spaces. At most 16 of ! and ( are open at
+ * once; a ! is open until its operand ends. All is relative to the window start..end: !A3 is true in the window wherever A does
+ * not hold 3. Link the static library map_query.
+ *   4  A, or else B, not well formed    1  window empty or reversed    7  bytes not a query    3  lists too short
+ * Where several apply, the first of 4, 1, 7, 3 is given. The two may be the same map.
+ */
+
+/* Writes the true instants of the window as maximal ranges, ascending. 3 if they do not fit into the lists. */
+LedgerCount range_map_query(const RangeMap *a, const RangeMap *b, int64_t start, int64_t end,
+                            const uint8_t *bytes, size_t bytes_length,
+                            int64_t *out_starts, size_t out_starts_length,
+                            int64_t *out_ends, size_t out_ends_length);
+
+/* Whether one instant is in that result. Outside the window it is not. */
+LedgerTold range_map_query_at(const RangeMap *a, const RangeMap *b, int64_t start, int64_t end,
+                              const uint8_t *bytes, size_t bytes_length, int64_t key);
+
+/* The inner doors: a map that is not well formed must not be lent to them. */
+LedgerCount range_map_query_unchecked(const RangeMap *a, const RangeMap *b, int64_t start, int64_t end,
+                                      const uint8_t *bytes, size_t bytes_length,
+                                      int64_t *out_starts, size_t out_starts_length,
+                                      int64_t *out_ends, size_t out_ends_length);
+LedgerTold range_map_query_at_unchecked(const RangeMap *a, const RangeMap *b, int64_t start, int64_t end,
+                                        const uint8_t *bytes, size_t bytes_length, int64_t key);
 
 #ifdef __cplusplus
 }

@@ -1,5 +1,5 @@
-//! Times the exported functions beside rangemap: lookups, edits, gaps and a day's report, through both doors, the check alone, intersection
-//! and union of sets, which have one door that checks both sets, and the byte form beside the same in Rust.
+//! Times the exported functions beside rangemap: lookups, edits, gaps, a day's report and a query, through both doors, the check alone,
+//! intersection and union of sets, which have one door that checks both sets, and the byte form beside the same in Rust.
 //!
 //! Method. Both sides work on the same entries, the same keys and the same edits, which are random and the same in every run.
 //! A batch is some hundred or thousand calls. The batches of the doors and of rangemap take turns, so that a slow moment of the
@@ -19,6 +19,7 @@ mod maps {
 #[allow(dead_code)]
 #[path = "bytes/model.rs"]
 mod model;
+mod query_bench;
 #[allow(dead_code)]
 mod sets {
     pub mod kind;
@@ -543,6 +544,7 @@ fn main() {
     race_sets::<Set<Inclusive>>(&mut wanted);
     bytes(&mut wanted);
     day_bench::race_reports(&mut wanted);
+    query_bench::race_queries(&mut wanted);
     for Wanted { what, most, got } in wanted {
         let met = if got <= most { "met" } else { "NOT MET" };
         println!("wanted at most {most}: {met}, {got:.2} ({what})");

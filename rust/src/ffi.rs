@@ -132,6 +132,64 @@ unsafe extern "C" {
     pub fn range_map_read(m: &mut Map, bytes: *const u8, bytes_length: usize) -> u8;
 }
 
+/// The bytes of a query are a list too, and stand before the two lists that the ranges are written to.
+pub type Query = unsafe extern "C" fn(
+    &mut Map,
+    &mut Map,
+    i64,
+    i64,
+    *const u8,
+    usize,
+    *mut i64,
+    usize,
+    *mut i64,
+    usize,
+) -> Count;
+pub type QueryAt =
+    unsafe extern "C" fn(&mut Map, &mut Map, i64, i64, *const u8, usize, i64) -> Told;
+
+/// A query over two half-open maps: its ranges in a window, and whether one instant is in them.
+pub struct Queries {
+    pub list: Query,
+    pub at: QueryAt,
+}
+
+macro_rules! queries {
+    ($list:literal, $at:literal) => {{
+        unsafe extern "C" {
+            #[link_name = $list]
+            fn list(
+                a: &mut Map,
+                b: &mut Map,
+                start: i64,
+                end: i64,
+                bytes: *const u8,
+                bytes_length: usize,
+                out_starts: *mut i64,
+                out_starts_length: usize,
+                out_ends: *mut i64,
+                out_ends_length: usize,
+            ) -> Count;
+            #[link_name = $at]
+            fn at(
+                a: &mut Map,
+                b: &mut Map,
+                start: i64,
+                end: i64,
+                bytes: *const u8,
+                bytes_length: usize,
+                key: i64,
+            ) -> Told;
+        }
+        Queries { list, at }
+    }};
+}
+
+pub static QUERIES: Queries = queries!("range_map_query", "range_map_query_at");
+/// Only for well-formed maps.
+pub static QUERIES_UNCHECKED: Queries =
+    queries!("range_map_query_unchecked", "range_map_query_at_unchecked");
+
 pub type Gaps = unsafe extern "C" fn(&mut Map, i64, i64, *mut i64, usize, *mut i64, usize) -> Count;
 pub type Insert = extern "C" fn(&mut Map, i64, i64, u8) -> u8;
 pub type Extend = unsafe extern "C" fn(

@@ -1,10 +1,11 @@
-//! Compares the exported functions with rangemap, and what is new, the byte form and the day's report, with models of their own. Each
-//! module of the port has a file of its own here.
+//! Compares the exported functions with rangemap, and what is new, the byte form, the day's report and queries, with models of their own.
+//! Each module of the port has a file of its own here.
 mod bytes;
 mod day_ffi;
 mod ffi;
 mod inside;
 mod maps;
+mod query;
 mod relations;
 mod report;
 mod report_days;
@@ -24,6 +25,7 @@ struct Sizes {
     maps: &'static maps::Size,
     sets: &'static sets::Size,
     bytes: usize,
+    query: &'static query::Size,
     full: bool,
 }
 
@@ -31,6 +33,7 @@ const SHORT: Sizes = Sizes {
     maps: &maps::SHORT,
     sets: &sets::SHORT,
     bytes: bytes::SHORT,
+    query: &query::SHORT,
     full: false,
 };
 
@@ -38,6 +41,7 @@ const FULL: Sizes = Sizes {
     maps: &maps::FULL,
     sets: &sets::FULL,
     bytes: bytes::FULL,
+    query: &query::FULL,
     full: true,
 };
 
@@ -49,15 +53,17 @@ fn compare(sizes: &Sizes) -> bool {
     sets::compare(&mut report, sizes.sets);
     bytes::compare(&mut report, sizes.bytes);
     report_days::compare(&mut report, sizes.full);
+    query::compare(&mut report, sizes.query);
     report.finish()
 }
 
-/// What rangemap answers to the questions that a program of the gate asks.
+/// What rangemap answers to the questions that a program of the gate asks, and for queries the model.
 fn replay(module: &str) -> bool {
     match module {
         "relations" => print!("{}", relations::replay()),
         "maps" => print!("{}", maps::replay()),
         "set" => print!("{}", sets::replay()),
+        "query" => print!("{}", query::replay()),
         _ => {
             eprintln!("there is no replay of {module}");
             return false;

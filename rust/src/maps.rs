@@ -80,8 +80,8 @@ pub const FULL: Size = Size {
 pub struct Placed {
     pub name: &'static str,
     pub cells: Cells,
-    keys: Vec<i64>,
-    ranges: Vec<(Ends, Range<usize>)>,
+    pub keys: Vec<i64>,
+    pub ranges: Vec<(Ends, Range<usize>)>,
 }
 
 impl Placed {

@@ -479,6 +479,133 @@ static void day_reports(void) {
     check("a damaged map", range_map_day_report(&m, 7, 2024, 11, 3).answer == 4);
 }
 
+/* A text as bytes, and how many there are. */
+#define TEXT(text) (const uint8_t *)(text), strlen(text)
+
+/* The ranges of a query of A and B in 0..20 into no place: what is answered but for 0 and 3 does not depend on the lists. */
+static uint8_t answer_to(const RangeMap *a, const RangeMap *b, const char *text) {
+    int64_t start = 91, end = 92;
+    const LedgerCount listed = range_map_query(a, b, 0, 20, TEXT(text), &start, 0, &end, 0);
+    const LedgerTold told = range_map_query_at(a, b, 0, 20, TEXT(text), 30);
+    const bool agree = listed.answer == told.answer || (listed.answer == 3 && told.answer == 0);
+    return agree && listed.count == 0 && !told.yes && start == 91 && end == 92 ? told.answer : UINT8_MAX;
+}
+
+static const char sixteen[] = "!!!!!!!!!!!!!!!!A3";
+static const char seventeen[] = "!!!!!!!!!!!!!!!!!A3";
+static const char bytes_64[] = "!!A3&A3&A3&A3&A3&A3&A3&A3&A3&A3&A3&A3&A3&A3&A3&A3&A3&A3&A3&A3&A3";
+static const char bytes_65[] = "A3|A3|A3|A3|A3|A3|A3|A3|A3|A3|A3|A3|A3|A3|A3|A3|A3|A3|A3|A3|A3|A3";
+
+/* Document 01's cases of queries, and what else its words decide. */
+static void query_texts(void) {
+    const RangeMap a = range_map_holding(ENTRIES({0, 5, 1}, {5, 8, 3}, {10, 12, 3}));
+    const RangeMap b = range_map_holding(ENTRIES({4, 7, 1}, {7, 20, 2}));
+    check("query A3&!B1 parses", answer_to(&a, &b, "A3&!B1") == 0);
+    check("query A3&: 7", answer_to(&a, &b, "A3&") == 7);
+    check("query A: 7", answer_to(&a, &b, "A") == 7);
+    check("query of no bytes: 7", answer_to(&a, &b, "") == 7);
+    check("query with 17 !: 7", answer_to(&a, &b, seventeen) == 7);
+    check("query with 16 ! parses", answer_to(&a, &b, sixteen) == 0);
+    check("query A12: 7", answer_to(&a, &b, "A12") == 7);
+    check("query with a space: 7", answer_to(&a, &b, "A3 &B1") == 7);
+    check("query (A3: 7", answer_to(&a, &b, "(A3") == 7);
+    check("query A3): 7", answer_to(&a, &b, "A3)") == 7);
+    check("query of 64 bytes parses", strlen(bytes_64) == 64 && answer_to(&a, &b, bytes_64) == 0);
+    check("query of 65 bytes: 7", strlen(bytes_65) == 65 && answer_to(&a, &b, bytes_65) == 7);
+}
+
+static void query_ranges(void) {
+    const RangeMap a = range_map_holding(ENTRIES({0, 5, 1}, {5, 8, 3}, {10, 12, 3}));
+    const RangeMap b = range_map_holding(ENTRIES({4, 7, 1}, {7, 20, 2}));
+    int64_t starts[3] = {91, 92, 93}, ends[3] = {94, 95, 96};
+    check("A3&!B1 into 1 place: 3", is_count(range_map_query(&a, &b, 0, 20, TEXT("A3&!B1"), starts, 1, ends, 3), 3, 0));
+    check("A3&!B1 into 1 place of ends: 3",
+          is_count(range_map_query_unchecked(&a, &b, 0, 20, TEXT("A3&!B1"), starts, 3, ends, 1), 3, 0));
+    check("the lists after the refusals", starts[0] == 91 && starts[1] == 92 && ends[0] == 94 && ends[1] == 95);
+    check("A3&!B1 in 0..20: two ranges", is_count(range_map_query(&a, &b, 0, 20, TEXT("A3&!B1"), starts, 3, ends, 3), 0, 2));
+    check("A3&!B1 in 0..20: 7..8, 10..12", starts[0] == 7 && ends[0] == 8 && starts[1] == 10 && ends[1] == 12);
+    check("the place past the count, query", starts[2] == 93 && ends[2] == 96);
+    check("A1|A3 in 1..20: two ranges", is_count(range_map_query(&a, &b, 1, 20, TEXT("A1|A3"), starts, 2, ends, 2), 0, 2));
+    check("A1|A3 in 1..20: 1..8, 10..12", starts[0] == 1 && ends[0] == 8 && starts[1] == 10 && ends[1] == 12);
+    check("A1|A3&B1 in 0..20: one range", is_count(range_map_query(&a, &b, 0, 20, TEXT("A1|A3&B1"), starts, 3, ends, 3), 0, 1));
+    check("A1|A3&B1 in 0..20: 0..7", starts[0] == 0 && ends[0] == 7 && starts[1] == 10);
+    check("(A1|A3)&B1, inner door", is_count(range_map_query_unchecked(&a, &b, 0, 20, TEXT("(A1|A3)&B1"), starts, 1, ends, 1), 0, 1));
+    check("(A1|A3)&B1, inner door: 4..7", starts[0] == 4 && ends[0] == 7);
+    check("!A3 of all keys", is_count(range_map_query(&a, &b, INT64_MIN, INT64_MAX, TEXT("!A3"), starts, 3, ends, 3), 0, 3));
+    check("!A3 of all keys: min..5, 8..10, 12..max", starts[0] == INT64_MIN && ends[0] == 5 && starts[1] == 8
+                                                         && ends[1] == 10 && starts[2] == 12 && ends[2] == INT64_MAX);
+    check("A3&B1 of a map and itself", is_count(range_map_query(&a, &a, 0, 20, TEXT("A3&B1"), starts, 0, ends, 0), 0, 0));
+    check("A3&B3 of a map and itself", is_count(range_map_query(&a, &a, 0, 20, TEXT("A3&B3"), starts, 2, ends, 2), 0, 2));
+}
+
+static void query_instants(void) {
+    const RangeMap a = range_map_holding(ENTRIES({0, 5, 1}, {5, 8, 3}, {10, 12, 3}));
+    const RangeMap b = range_map_holding(ENTRIES({4, 7, 1}, {7, 20, 2}));
+    check("7 is in A3&!B1", is_told(range_map_query_at(&a, &b, 0, 20, TEXT("A3&!B1"), 7), 0, true));
+    check("6 is not", is_told(range_map_query_at(&a, &b, 0, 20, TEXT("A3&!B1"), 6), 0, false));
+    check("8 is not", is_told(range_map_query_at(&a, &b, 0, 20, TEXT("A3&!B1"), 8), 0, false));
+    check("11 is, inner door", is_told(range_map_query_at_unchecked(&a, &b, 0, 20, TEXT("A3&!B1"), 11), 0, true));
+    check("the window's end is not", is_told(range_map_query_at(&a, &b, 0, 11, TEXT("A3&!B1"), 11), 0, false));
+    check("nor is what lies before the window", is_told(range_map_query_at(&a, &b, 8, 20, TEXT("A3&!B1"), 7), 0, false));
+    check("!A3 outside the window: no", is_told(range_map_query_at(&a, &b, 0, 20, TEXT("!A3"), 20), 0, false));
+    check("!A3 outside the window, inner door: no", is_told(range_map_query_at_unchecked(&a, &b, 0, 20, TEXT("!A3"), -1), 0, false));
+    check("the least key", is_told(range_map_query_at(&a, &b, INT64_MIN, INT64_MAX, TEXT("!A3"), INT64_MIN), 0, true));
+    check("the greatest key is in no window", is_told(range_map_query_at(&a, &b, INT64_MIN, INT64_MAX, TEXT("!A3"), INT64_MAX), 0, false));
+}
+
+/* 4, 1, 7, 3 in their order, and no memory is changed. */
+static void query_refusals(void) {
+    const RangeMap good = range_map_holding(ENTRIES({0, 5, 1}, {5, 8, 3}, {10, 12, 3}));
+    RangeMap damaged = good;
+    damaged.starts[HOURLEDGER_PLACES - 1] = 1;
+    const RangeMap before = damaged;
+    int64_t starts[2] = {91, 92}, ends[2] = {93, 94};
+    check("query, A damaged: 4", is_count(range_map_query(&damaged, &good, 0, 20, TEXT("A3"), starts, 2, ends, 2), 4, 0));
+    check("query, B damaged: 4", is_count(range_map_query(&good, &damaged, 0, 20, TEXT("A3"), starts, 2, ends, 2), 4, 0));
+    check("query, both damaged: 4", is_count(range_map_query(&damaged, &damaged, 9, 4, TEXT("A3&"), starts, 0, ends, 0), 4, 0));
+    check("query, 4 before 1", is_count(range_map_query(&good, &damaged, 4, 4, TEXT("A3&"), starts, 0, ends, 0), 4, 0));
+    check("query, window 4..4: 1", is_count(range_map_query(&good, &good, 4, 4, TEXT("A3"), starts, 2, ends, 2), 1, 0));
+    check("query, window 9..4: 1, before 7", is_count(range_map_query(&good, &good, 9, 4, TEXT("A3&"), starts, 0, ends, 0), 1, 0));
+    check("query, 7 before 3", is_count(range_map_query(&good, &good, 0, 20, TEXT("A3&"), starts, 0, ends, 0), 7, 0));
+    check("query, 3", is_count(range_map_query(&good, &good, 0, 20, TEXT("A3"), starts, 2, ends, 1), 3, 0));
+    check("query, inner door, window 9..4: 1",
+          is_count(range_map_query_unchecked(&good, &good, 9, 4, TEXT("A3&"), starts, 2, ends, 2), 1, 0));
+    check("query, inner door: 7",
+          is_count(range_map_query_unchecked(&good, &good, 0, 20, TEXT("A3&"), starts, 2, ends, 2), 7, 0));
+    check("query, the lists as they were", starts[0] == 91 && starts[1] == 92 && ends[0] == 93 && ends[1] == 94);
+    check("instant, A damaged: 4", is_told(range_map_query_at(&damaged, &good, 9, 4, TEXT("A3&"), 5), 4, false));
+    check("instant, B damaged: 4", is_told(range_map_query_at(&good, &damaged, 9, 4, TEXT("A3&"), 5), 4, false));
+    check("instant, window 9..4: 1", is_told(range_map_query_at(&good, &good, 9, 4, TEXT("A3&"), 5), 1, false));
+    check("instant, window 4..4, inner door: 1", is_told(range_map_query_at_unchecked(&good, &good, 4, 4, TEXT("A3"), 4), 1, false));
+    check("instant, 7 outside the window too", is_told(range_map_query_at(&good, &good, 0, 4, TEXT("A3&"), 5), 7, false));
+    check("instant, inner door: 7", is_told(range_map_query_at_unchecked(&good, &good, 0, 20, TEXT("A3&"), 5), 7, false));
+    check("query, the damaged map as it was", range_map_same(&damaged, &before));
+}
+
+/* 512 ranges of one key and 512 others: what neither map holds. */
+static void query_longest(void) {
+    static int64_t starts[HOURLEDGER_QUERY], ends[HOURLEDGER_QUERY];
+    RangeMap a = range_map_new(), b = range_map_new();
+    for (int64_t i = 0; i < HOURLEDGER_PLACES; i++) {
+        a.starts[i] = 4 * i;
+        a.ends[i] = 4 * i + 1;
+        b.starts[i] = 4 * i + 2;
+        b.ends[i] = 4 * i + 3;
+    }
+    a.count = b.count = HOURLEDGER_PLACES;
+    const RangeMap a_before = a, b_before = b;
+    const size_t n = HOURLEDGER_QUERY;
+    check("the longest result into one place less: 3",
+          is_count(range_map_query(&a, &b, -1, 2048, TEXT("!A0&!B0"), starts, n - 1, ends, n), 3, 0));
+    check("the longest result", is_count(range_map_query(&a, &b, -1, 2048, TEXT("!A0&!B0"), starts, n, ends, n), 0, n));
+    bool good = true;
+    for (int64_t i = 0; i < HOURLEDGER_QUERY; i++) {
+        good = good && starts[i] == 2 * i - 1 && ends[i] == 2 * i;
+    }
+    check("the longest result: every second key", good);
+    check("the longest result: the maps as they were", range_map_same(&a, &a_before) && range_map_same(&b, &b_before));
+}
+
 static void half_open_set_edits(void) {
     RangeSet m = range_set_new();
     check("set, new: empty", range_set_holds(&m, NOTHING));
@@ -700,6 +827,11 @@ int main(void) {
     inclusive_full();
     inclusive_damaged();
     day_reports();
+    query_texts();
+    query_ranges();
+    query_instants();
+    query_refusals();
+    query_longest();
     half_open_set_edits();
     half_open_set_questions();
     half_open_set_full();

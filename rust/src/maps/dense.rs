@@ -1,5 +1,7 @@
 //! The dense model: a map as an array that says what each cell holds. It knows nothing of ranges, sorting or joining.
 use super::kind::{Ends, Entry, Kind};
+use super::random::Random;
+use crate::ffi::PLACES;
 use std::ops::Range;
 
 /// Cells that lie side by side: cell i has the keys from `bounds[i]` up to `bounds[i + 1]`.
@@ -37,6 +39,25 @@ impl Cells {
         let high = (0..high).rev().map(|i| K::BEYOND - i as i128);
         Cells {
             bounds: low.chain(high).collect(),
+        }
+    }
+
+    /// From each of these keys to the next.
+    pub fn between(keys: &[i64]) -> Self {
+        Cells {
+            bounds: keys.iter().map(|&key| key.into()).collect(),
+        }
+    }
+
+    /// Cells of one key to so many each, from a random key on. All of them together have fewer than 2^33 keys.
+    pub fn random(random: &mut Random, cells: usize, most: usize) -> Self {
+        let mut bound = i128::from(i64::MIN) + ((random.below(1 << 31) as i128) << 33);
+        let mut next = || {
+            bound += 1 + random.below(most) as i128;
+            bound
+        };
+        Cells {
+            bounds: (0..=cells).map(|_| next()).collect(),
         }
     }
 
@@ -96,6 +117,27 @@ impl Dense {
         let digit = move |number: usize, cell| number / base.pow(cell) % base;
         let state = move |number| (0..cells as u32).map(|i| held(digit(number, i))).collect();
         (0..base.pow(cells as u32)).map(move |number| Dense(state(number)))
+    }
+
+    /// By random edits, a map of so many ranges as there are places at most.
+    pub fn random(
+        random: &mut Random,
+        cells: usize,
+        mut value: impl FnMut(&mut Random) -> u8,
+    ) -> Self {
+        let mut dense = Dense::empty(cells);
+        let most = 1 + random.below(6);
+        for _ in 0..1 + random.below(2 * cells) {
+            let from = random.below(cells);
+            let to = (from + 1 + random.below(most)).min(cells);
+            let new = random.once_in(2).then(|| value(random));
+            dense.give(from..to, new);
+        }
+        let runs = dense.runs();
+        for (run, _) in runs.into_iter().skip(PLACES) {
+            dense.give(run, None);
+        }
+        dense
     }
 
     pub fn give(&mut self, part: Range<usize>, new: Option<u8>) {

@@ -160,6 +160,29 @@ pub fn refused(answer: u8, lengths: (usize, usize)) -> Written {
     (count, Lent::new(lengths.0), Lent::new(lengths.1))
 }
 
+/// Lengths of the two lent lists, for a result of so many ranges.
+pub type Lengths = fn(usize) -> Vec<(usize, usize)>;
+
+pub fn just_right(right: usize) -> Vec<(usize, usize)> {
+    vec![(right, right)]
+}
+
+/// Just right, and one too few or too many in one list.
+pub fn around(right: usize) -> Vec<(usize, usize)> {
+    let mut lengths = vec![(right, right), (right + 1, right), (right, right + 1)];
+    if let Some(short) = right.checked_sub(1) {
+        lengths.extend([(short, right), (right, short)]);
+    }
+    lengths
+}
+
+/// Every length of each list from 0 to two more than are needed.
+pub fn every(right: usize) -> Vec<(usize, usize)> {
+    let lengths = 0..right + 3;
+    let of_ends = |starts| lengths.clone().map(move |ends| (starts, ends));
+    lengths.clone().flat_map(of_ends).collect()
+}
+
 /// Bulk insert of entries in three lists, which may be cut short.
 #[derive(Clone, PartialEq, Eq, Debug)]
 pub struct Lists {

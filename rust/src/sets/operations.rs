@@ -6,7 +6,7 @@ use crate::maps::damaged::{each_damaged, span};
 use crate::maps::dense::{as_ends, entries, Cells, Dense};
 use crate::maps::kind::{of, Ends, Entry};
 use crate::maps::random::Random;
-use crate::maps::stored::{lend, refused, writing, Written};
+use crate::maps::stored::{around, every, just_right, lend, refused, writing, Lengths, Written};
 use crate::maps::{agree, Placed};
 use crate::report::Report;
 use std::ops::Range;
@@ -106,29 +106,6 @@ fn combined(
     })
 }
 
-/// Lengths of the two lent lists, for a result of so many ranges.
-type Lengths = fn(usize) -> Vec<(usize, usize)>;
-
-fn just_right(right: usize) -> Vec<(usize, usize)> {
-    vec![(right, right)]
-}
-
-/// Just right, and one too few or too many in one list.
-fn around(right: usize) -> Vec<(usize, usize)> {
-    let mut lengths = vec![(right, right), (right + 1, right), (right, right + 1)];
-    if let Some(short) = right.checked_sub(1) {
-        lengths.extend([(short, right), (right, short)]);
-    }
-    lengths
-}
-
-/// Every length of each list from 0 to two more than are needed.
-fn every(right: usize) -> Vec<(usize, usize)> {
-    let lengths = 0..right + 3;
-    let of_ends = |starts| lengths.clone().map(move |ends| (starts, ends));
-    lengths.clone().flat_map(of_ends).collect()
-}
-
 fn compare_pair<K: SetKind>(
     report: &mut Report,
     cells: &Cells,
@@ -211,20 +188,8 @@ fn long_sets() -> Vec<Dense> {
     ]
 }
 
-/// A set of 512 ranges at most, by random edits.
 fn random_set(random: &mut Random) -> Dense {
-    let mut dense = Dense::empty(CELLS);
-    let most = 1 + random.below(6);
-    for _ in 0..1 + random.below(2 * CELLS) {
-        let from = random.below(CELLS);
-        let to = (from + 1 + random.below(most)).min(CELLS);
-        dense.give(from..to, random.once_in(2).then_some(0));
-    }
-    let runs = dense.runs();
-    for (run, _) in runs.into_iter().skip(PLACES) {
-        dense.give(run, None);
-    }
-    dense
+    Dense::random(random, CELLS, |_| 0)
 }
 
 fn compare_long<K: SetKind>(report: &mut Report, pairs: usize) {
