@@ -26,9 +26,27 @@ module _ (t : Truth) (xs ys : List Span) (e : ℕ) where
   no-more : (k : ℕ) → e ≤ k → trueBefore t xs ys e k ≡ none
   no-more k h = rw (le-ltb k e h) refl
 
+  -- where the table says no from p up to q, nothing is to come there
+  pub come-past : (p q : ℕ) (zs : List Span) → p ≤ q → q ≤ e → ((k : ℕ) → p ≤ k → k < q → saysAt t xs ys k ≡ false) → ToCome t xs ys p e zs
+      → ToCome t xs ys q e zs
+  come-past p q zs le within off c = skip p q (trueBefore t xs ys e) zs le (λ k lo hi. no-there k (omega arith) (off k lo hi)) c
+
+  nothing-at : (q : ℕ) → q ≤ e → (q < e → saysAt t xs ys q ≡ false) → trueBefore t xs ys e q ≡ none
+  nothing-at q le h = elim (decLt q e) [ yes l ↦ no-there q l (h l) | no l ↦ no-more q (omega arith) ]
+
+  -- where it says yes from p up to q, and not at q, that is the first span
+  pub first-is : (p q : ℕ) (zs : List Span) → p < q → q ≤ e → ((k : ℕ) → p ≤ k → k < q → saysAt t xs ys k ≡ true)
+      → (q < e → saysAt t xs ys q ≡ false) → ToCome t xs ys p e zs → Taken p q (trueBefore t xs ys e) zs
+  first-is p q zs lt within on off c =
+      take-first p q (trueBefore t xs ys e) zs lt (λ k lo hi. yes-there k (omega arith) (on k lo hi)) (nothing-at q within off) c
+
+  -- nothing is to come from the end on
+  pub none-come : (p : ℕ) (zs : List Span) → e ≤ p → ToCome t xs ys p e zs → zs ≡ []
+  none-come p zs h c = done p (trueBefore t xs ys e) zs (λ k le. no-more k (omega arith)) c
+
   -- up to an edge nothing is to come
   pub come-to : (p : ℕ) (s : Walk) (zs : List Span) → Edges t xs ys p e true s → ToCome t xs ys p e zs → ToCome t xs ys (rank (s .key)) e zs
-  come-to p s zs d c = skip p (rank (s .key)) (trueBefore t xs ys e) zs (d .on) (λ k lo hi. no-there k (omega (arith, d .within)) (d .before-it k lo hi)) c
+  come-to p s zs d c = come-past p (rank (s .key)) zs (d .on) (d .within) (d .before-it) c
 
   -- an edge from where it is
   pub at-edge : (p : ℕ) (s : Walk) → Edges t xs ys p e true s → Edges t xs ys (rank (s .key)) e true s
@@ -42,8 +60,7 @@ module _ (t : Truth) (xs ys : List Span) (e : ℕ) where
 
   -- nothing is to come where the edge is the end
   pub none-left : (p : ℕ) (s : Walk) (zs : List Span) → Edges t xs ys p e true s → e ≤ rank (s .key) → ToCome t xs ys p e zs → zs ≡ []
-  none-left p s zs d h c =
-      done (rank (s .key)) (trueBefore t xs ys e) zs (λ k le. no-more k (omega arith)) (come-to p s zs d c)
+  none-left p s zs d h c = none-come (rank (s .key)) zs h (come-to p s zs d c)
 
   -- the next edge is later
   pub grows : (s r : Walk) → saysAt t xs ys (rank (s .key)) ≡ true → rank (s .key) < e → Edges t xs ys (rank (s .key)) e false r → rank (s .key) < rank (r .key)
@@ -55,16 +72,12 @@ module _ (t : Truth) (xs ys : List Span) (e : ℕ) where
         let z : _≡_ {A = ℕ} 0 1 = cc in absurd (omega arith)
   ]
 
-  nothing-at : (r : Walk) → rank (r .key) ≤ e → (rank (r .key) < e → saysAt t xs ys (rank (r .key)) ≡ false) → trueBefore t xs ys e (rank (r .key)) ≡ none
-  nothing-at r le h = elim (decLt (rank (r .key)) e) [ yes q ↦ no-there (rank (r .key)) q (h q) | no q ↦ no-more (rank (r .key)) (omega arith) ]
-
   -- from an edge to the next is the first span
   pub one-more : (p : ℕ) (s r : Walk) (zs : List Span) → Edges t xs ys p e true s → rank (s .key) < e → Edges t xs ys (rank (s .key)) e false r
       → ToCome t xs ys p e zs
       → Taken (rank (s .key)) (rank (r .key)) (trueBefore t xs ys e) zs
   one-more p s r zs d h g c =
-      take-first (rank (s .key)) (rank (r .key)) (trueBefore t xs ys e) zs (grows s r (d .there h) h g)
-      (λ k lo hi. yes-there k (omega (arith, g .within)) (g .before-it k lo hi)) (nothing-at r (g .within) (g .there)) (come-to p s zs d c)
+      first-is (rank (s .key)) (rank (r .key)) zs (grows s r (d .there h) h g) (g .within) (g .before-it) (g .there) (come-to p s zs d c)
 
   pub counts-none : (p : ℕ) (s : Walk) → Edges t xs ys p e true s → e ≤ rank (s .key) → Counts t xs ys p e 0
   counts-none p s d h = record { room = omega (arith, d .on, d .within); many = λ zs c. sym (ap length (none-left p s zs d h c)) }

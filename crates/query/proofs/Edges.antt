@@ -6,42 +6,45 @@ use mathlib.Core.Path.{_≡_, refl, sym, _∙_}
 use mathlib.Core.Bool.{Bool, true, false, not, Bool·beq}
 use mathlib.Core.List.{List}
 use lib.IntN.{ℤ}
-use Rattle.span.specs.Span.{Span}
+use Rattle.span.specs.Span.{Span, at}
 use Rattle.key.specs.Rank.{rank}
-use Rattle.key.specs.Range.{halfOpen}
-use Rattle.outcomes.specs.Stored.{Stored, ranges, Sound}
 use Rattle.query_text.specs.declared.truth.Truth.{Truth}
+use Rattle.query_text.specs.InnerClasses.{classOf}
 use Rattle.query_text.specs.InnerTable.{says}
 use Rattle.query.specs.declared.walk.Walk.{Walk}
 use Rattle.query.specs.declared.walk.Cell.{Cell}
 use Rattle.query.specs.InnerSeen.{Sees}
-use Rattle.query.specs.InnerWalk.{saysAt, Stands, Cells, Edges}
-use Rattle.query.specs.InnerSeen.{Passes}
-use Rattle.query.proofs.Walking.{sees-less}
-use Rattle.query.proofs.Looks.{stands}
+use Rattle.query.specs.InnerWalk.{Silent, saysAt, Stands, Cells, Edges}
+use Rattle.query.proofs.Walking.{class-least, trails-later}
 
-module _ (t : Truth) (m n : Stored) (sm : Sound halfOpen m) (sn : Sound halfOpen n) where
-  abbrev xs : List Span
-  xs = ranges halfOpen m
+module _ (t : Truth) (xs ys : List Span) (w : Walk) (e : ℕ) (z : Stands xs ys w) where
+  -- where the table is silent, the cell goes on as long as the first map holds the same
+  pub cell-silent : (u : ℤ) (n a : ℕ) → Sees xs (rank (w .key)) e (rank u) n a → Silent t n
+      → Cells t xs ys (rank (w .key)) e (record { yes = false; next = record { key = u; a = a; b = w .b } })
+  cell-silent u n a s q = record {
+    on = s .on;
+    within = s .within;
+    same = λ k lo hi. rw (s .holds k lo hi) (q (classOf (at ys k)) (class-least (at ys k)));
+    stands = record {
+      a = trails-later xs a (rank (w .key)) (s .trails) (rank u) (omega (arith, s .on));
+      b = trails-later ys (w .b) (rank (w .key)) (z .b) (rank u) (omega (arith, s .on));
+    };
+  }
 
-  abbrev ys : List Span
-  ys = ranges halfOpen n
-
-  pub cell-made : (w : Walk) (e : ℕ) (ux uy key : ℤ) (cx cy a b : ℕ) (so : Bool) → Stands xs ys w
-      → Sees xs (w .a) (rank (w .key)) (rank ux) cx → rank ux ≤ e → Sees ys (w .b) (rank (w .key)) (rank uy) cy → rank uy ≤ e
-      → rank key ≡ min (rank ux) (rank uy)
-      → Passes (m .count) (m .ends) (w .a) key a → Passes (n .count) (n .ends) (w .b) key b → so ≡ says t cx cy
+  -- else it goes on as long as both do
+  pub cell-made : (ux uy key : ℤ) (cx cy a b : ℕ) (so : Bool)
+      → Sees xs (rank (w .key)) e (rank ux) cx a → Sees ys (rank (w .key)) e (rank uy) cy b
+      → rank key ≡ min (rank ux) (rank uy) → so ≡ says t cx cy
       → Cells t xs ys (rank (w .key)) e (record { yes = so; next = record { key = key; a = a; b = b } })
-  cell-made w e ux uy key cx cy a b so z sx lx sy ly k pa pb s =
-      let tx = sees-less xs (w .a) (rank (w .key)) (rank ux) (rank key) cx (omega (arith, sx .on, sy .on)) (omega arith) sx in
-      let ty = sees-less ys (w .b) (rank (w .key)) (rank uy) (rank key) cy (omega (arith, sx .on, sy .on)) (omega arith) sy in
+  cell-made ux uy key cx cy a b so sx sy k s =
+      let on : rank (w .key) < rank key = omega (arith, sx .on, sy .on) in
       record {
-        on = tx .on;
-        within = omega arith;
-        same = λ i lo hi. rw (tx .holds i lo hi, ty .holds i lo hi) (sym s);
+        on = on;
+        within = omega (arith, sx .within);
+        same = λ i lo hi. rw (sx .holds i lo (omega arith), sy .holds i lo (omega arith)) (sym s);
         stands = record {
-          a = stands m sm (w .a) (rank (w .key)) (z .a) key cx a tx pa;
-          b = stands n sn (w .b) (rank (w .key)) (z .b) key cy b ty pb;
+          a = trails-later xs a (rank (w .key)) (sx .trails) (rank key) (omega arith);
+          b = trails-later ys b (rank (w .key)) (sy .trails) (rank key) (omega arith);
         };
       }
 

@@ -1,20 +1,18 @@
--- From the search to the walk, and from the walk to the result.
-use Prim.Native.Nat.{ℕ, zero, suc, _+_, _≤_, _<_}
+-- From the walk to the result.
+use Prim.Native.Nat.{ℕ, _+_, _≤_, _<_}
 use native.Mathlib.Omega.{arith}
 use mathlib.Core.Path.{_≡_, refl, _∙_}
 use mathlib.Core.Bool.{Bool, true, false, _&&_, cond}
-use mathlib.Core.List.{List, [], _∷_}
-use mathlib.Core.Option.{Option, some, none}
+use mathlib.Core.List.{List}
+use mathlib.Core.Option.{none}
 use borrow.Author.Tests.{le-leb, lt-leb, lt-ltb, le-ltb}
 use lib.Dec.{leb, ltb}
-use lib.ListN.{length, getD, drop}
+use lib.ListN.{length}
 use Rattle.span.specs.Span.{Span, at, inside}
 use Rattle.span.proofs.Laws.{reworded}
-use Rattle.span.proofs.Holding.{at-out}
 use Rattle.key.specs.Range.{halfOpen}
 use Rattle.outcomes.specs.Stored.{Stored, ranges, Sound}
 use Rattle.outcomes.proofs.Formed.{good}
-use Rattle.places.proofs.Seeking.{Passed}
 use Rattle.query_text.specs.Grammar.{Query}
 use Rattle.query_text.specs.InnerClasses.{classOf}
 use Rattle.query_text.specs.Meaning.{truth}
@@ -26,33 +24,11 @@ use Rattle.query_text.specs.InnerTable.{Shows}
 use Rattle.query_text.specs.InnerClasses.{classTruth}
 use Rattle.query.specs.Result.{result, isTrue, marked}
 use Rattle.query.proofs.Result.{result-means}
-use Rattle.query.specs.InnerSeen.{none-there, Standing}
 use Rattle.query.specs.InnerWalk.{saysAt}
 use Rattle.query.specs.InnerWritten.{ToCome}
 use Rattle.query.proofs.Few.{query-few}
-use Rattle.query.proofs.Looks.{many, range-here}
-
--- ranges that end by p hold nothing from p on
-gone-by : (xs : List Span) (i p : ℕ) → ((j : ℕ) → j < i → j < length xs → getD xs j none-there .hi ≤ p) → (k : ℕ) → p ≤ k → at xs k ≡ at (drop i xs) k
-gone-by xs zero p f k h = refl
-gone-by [] (suc i) p f k h = refl
-gone-by (x ∷ xs) (suc i) p f k h =
-    let e = f 0 (omega arith) (omega arith) in
-    at-out x xs k (λ w. omega (arith, w .to)) ∙ gone-by xs i p (λ j a b. f (suc j) (omega arith) (omega arith)) k h
-
--- the walk stands where the search found the first range that ends after the key
-pub stands-there : (m : Stored) (sound : Sound halfOpen m) (p r : ℕ) → Passed p (m .ends) (m .count) r → Standing (ranges halfOpen m) r p
-stands-there m sound p r s =
-    let c = many m sound in
-    record {
-      placed = omega (arith, s .within);
-      gone = gone-by (ranges halfOpen m) r p (λ j a b. let h : j < m .count = omega (arith, s .within) in rw (range-here m sound j h) (s .below j a));
-      ahead = λ l. let h : r < m .count = omega arith in rw (range-here m sound r h) (s .at h);
-    }
-
-class-least : (x : Option ℕ) → classOf x ≤ 10
-class-least none = omega arith
-class-least (some v) = omega arith
+use Rattle.query.proofs.Walking.{class-least}
+use Rattle.query.proofs.Looks.{many}
 
 and-false : (a : Bool) → (a && false) ≡ false
 and-false true = refl

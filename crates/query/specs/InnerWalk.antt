@@ -1,14 +1,14 @@
 -- A walk along the instants of two maps: where it stands in both, and how far what the table says there goes on.
-use Prim.Native.Nat.{ℕ, _≤_, _<_}
+use Prim.Native.Nat.{ℕ, _+_, _≤_, _<_}
 use mathlib.Core.Path.{_≡_}
-use mathlib.Core.Bool.{Bool, not}
+use mathlib.Core.Bool.{Bool, false, not}
 use mathlib.Core.List.{List}
 use Rattle.span.specs.Span.{Span, at}
 use Rattle.key.specs.Rank.{rank}
 use Rattle.query_text.specs.InnerClasses.{classOf}
-use Rattle.query_text.specs.InnerTable.{says}
+use Rattle.query_text.specs.InnerTable.{isOne, says}
 use Rattle.query_text.specs.declared.truth.Truth.{Truth}
-use Rattle.query.specs.InnerSeen.{Standing}
+use Rattle.query.specs.InnerSeen.{Trails}
 use Rattle.query.specs.declared.walk.Walk.{Walk}
 use Rattle.query.specs.declared.walk.Cell.{Cell}
 
@@ -16,10 +16,18 @@ use Rattle.query.specs.declared.walk.Cell.{Cell}
 abbrev pub saysAt : Truth → List Span → List Span → ℕ → Bool
 saysAt t xs ys k = says t (classOf (at xs k)) (classOf (at ys k))
 
--- a walk stands in two maps
+-- 11 bits of a word from bit i on are 0
+abbrev pub Clear : ℕ → ℕ → Type 0
+Clear x i = (m : ℕ) → m ≤ 10 → isOne x (i + m) ≡ false
+
+-- a table says no of a class of the first map, whatever the second holds
+abbrev pub Silent : Truth → ℕ → Type 0
+Silent t n = (m : ℕ) → m ≤ 10 → says t n m ≡ false
+
+-- a walk stands in two maps: its places trail its key
 pub record Stands (xs ys : List Span) (w : Walk) : Type 0 where
-  pub a : Standing xs (w .a) (rank (w .key))
-  pub b : Standing ys (w .b) (rank (w .key))
+  pub a : Trails xs (w .a) (rank (w .key))
+  pub b : Trails ys (w .b) (rank (w .key))
 
 -- from p up to where the next walk stands the table says one thing
 pub record Cells (t : Truth) (xs ys : List Span) (p e : ℕ) (c : Cell) : Type 0 where

@@ -1,14 +1,14 @@
 -- The true instants that are still to come: how many ranges they are, and how these are written.
-use Prim.Native.Nat.{ℕ, _+_, _≤_}
+use Prim.Native.Nat.{ℕ, _+_, _≤_, _<_}
 use mathlib.Core.Path.{_≡_}
-use mathlib.Core.Bool.{Bool, _&&_, cond}
+use mathlib.Core.Bool.{Bool, true, false, _&&_, cond}
 use mathlib.Core.List.{List}
 use mathlib.Core.Option.{Option, none}
 use lib.Dec.{leb, ltb}
-use lib.ListN.{length}
+use lib.ListN.{length, set}
 use lib.IntN.{ℤ}
 use Rattle.span.specs.Span.{Span, Means}
-use Rattle.key.specs.Rank.{rank}
+use Rattle.key.specs.Rank.{rank, keyAt}
 use Rattle.key.specs.Range.{halfOpen}
 use Rattle.key.specs.Decides.{Decides}
 use Rattle.outcomes.specs.Stored.{Stored, ranges}
@@ -41,6 +41,16 @@ pub record HasRoom (t : Truth) (xs ys : List Span) (p e n : ℕ) (os oe : List �
 pub record Writes (t : Truth) (xs ys : List Span) (p e n : ℕ) (os oe : List ℤ) (r : ℕ) (os₁ oe₁ : List ℤ) : Type 0 where
   pub upto : (zs : List Span) → ToCome t xs ys p e zs → r ≡ n + length zs
   pub puts : (zs : List Span) → ToCome t xs ys p e zs → Puts halfOpen n zs os oe os₁ oe₁
+
+-- nothing is written, and r is the same place
+abbrev pub Kept : ℕ → List ℤ → List ℤ → ℕ → List ℤ → List ℤ → Type 0
+Kept n os oe r os₁ oe₁ = (r ≡ n) × (os₁ ≡ os) × (oe₁ ≡ oe)
+
+-- the range from f up to g is written at place n, if there is one and it does not go on; r is the place for the next
+pub record Shuts (on : Bool) (n f g : ℕ) (os oe : List ℤ) (r : ℕ) (os₁ oe₁ : List ℤ) : Type 0 where
+  pub goes-on : on ≡ true → Kept n os oe r os₁ oe₁
+  pub none-is : g ≤ f → Kept n os oe r os₁ oe₁
+  pub ends : on ≡ false → f < g → (r ≡ n + 1) × (os₁ ≡ set os n (keyAt f)) × (oe₁ ≡ set oe n (keyAt g))
 
 -- there is a list of what the table says in the window, and it has at most one span more than the maps together: the caller knows that
 pub record Known (t : Truth) (a b : Stored) (s e : ℤ) : Type 0 where

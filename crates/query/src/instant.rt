@@ -39,17 +39,7 @@ fn by_table(
     ensures { λ r. ⌜ r ≡ yesNo (saysAt t (spansOf «count_a» («starts_a» .entry) («ends_a» .entry) («values_a» .entry))
         (spansOf «count_b» («starts_b» .entry) («ends_b» .entry) («values_b» .entry)) (rank key)) ⌝ }
 {
-    let w = walk_at(
-        count_a,
-        starts_a,
-        ends_a,
-        values_a,
-        count_b,
-        starts_b,
-        ends_b,
-        values_b,
-        key,
-    );
+    let w = walk_at(key);
     let c = cell_at(
         count_a,
         starts_a,

@@ -44,17 +44,7 @@ fn by_table(
         (columns «count_b» («starts_b» .entry) («ends_b» .entry) («values_b» .entry))
         start end (now («out_starts» .entry)) (now («out_ends» .entry)) (wrote r (now («out_starts» .exit)) (now («out_ends» .exit))) ⌝ }
 {
-    let w = walk_at(
-        count_a,
-        starts_a,
-        ends_a,
-        values_a,
-        count_b,
-        starts_b,
-        ends_b,
-        values_b,
-        start,
-    );
+    let w = walk_at(start);
     let room = shorter(out_starts.len(), out_ends.len());
     if !written::fits(
         count_a,

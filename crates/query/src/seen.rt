@@ -1,20 +1,20 @@
 // What one map holds from a key on, as a walk along the instants sees it.
 ghost use mathlib.Core.Path.{_≡_};
 ghost use Prim.Native.Nat.{_≤_, _<_, min};
-ghost use lib.ListN.{length};
 ghost use Rattle.key.specs.Rank.{rank};
 ghost use Rattle.key.specs.Range.{halfOpen};
 ghost use Rattle.outcomes.specs.Stored.{Sound};
 ghost use Rattle.query.specs.InnerColumns.{columns, spansOf};
-ghost use Rattle.query.specs.InnerSeen.{Standing, Sees, Passes};
+ghost use Rattle.query.specs.InnerSeen.{Trails, Standing, Sees};
 
 // The class of a value over 9, and of nothing held.
 const OTHER: usize = 10;
 
-// What a map holds, by its class, and up to which key.
+// What a map holds, by its class, up to which key, and at which place that was seen.
 pub struct Seen {
     pub class: usize,
     pub until: i64,
+    pub place: usize,
 }
 
 fn class_of(value: u8) -> usize
@@ -23,8 +23,30 @@ fn class_of(value: u8) -> usize
     if value < 10 { value as usize } else { OTHER }
 }
 
+// The first place whose range ends after a key. The ranges before `place` do not.
+fn caught_up(
+    count: usize,
+    starts: &[i64],
+    ends: &[i64],
+    values: &[u8],
+    place: usize,
+    key: i64,
+) -> usize
+    requires { ⌜ Sound halfOpen (columns count starts ends values) × Trails (spansOf count starts ends values) place (rank key) ⌝ }
+    ensures { λ r. ⌜ Standing (spansOf count (starts .entry) (ends .entry) (values .entry)) r (rank key) ⌝ }
+{
+    let mut here = place;
+    while here < count {
+        if key < ends[here] {
+            return here;
+        }
+        here += 1;
+    }
+    here
+}
+
 // What a map holds from a key on, as far as that goes on before `end`. `place` is the first place whose range ends after the key.
-pub fn look(
+fn seen_at(
     count: usize,
     starts: &[i64],
     ends: &[i64],
@@ -35,13 +57,13 @@ pub fn look(
 ) -> Seen
     requires { ⌜ Sound halfOpen (columns count starts ends values)
         × Standing (spansOf count starts ends values) place (rank key) × (rank key < rank end) ⌝ }
-    ensures { λ r. ⌜ Sees (spansOf count (starts .entry) (ends .entry) (values .entry)) place (rank key) (rank (r .until)) (r .class)
-        × (rank (r .until) ≤ rank end) ⌝ }
+    ensures { λ r. ⌜ Sees (spansOf count (starts .entry) (ends .entry) (values .entry)) (rank key) (rank end) (rank (r .until)) (r .class) (r .place) ⌝ }
 {
     if place >= count {
         return Seen {
             class: OTHER,
             until: end,
+            place,
         };
     }
     let start = starts[place];
@@ -49,24 +71,30 @@ pub fn look(
         return Seen {
             class: OTHER,
             until: key::min(start, end),
+            place,
         };
     }
     Seen {
         class: class_of(values[place]),
         until: key::min(ends[place], end),
+        place,
     }
 }
 
-// The first place whose range ends after a key, where `place` is that of an earlier key and its range does not end before.
-pub fn passed(count: usize, ends: &[i64], place: usize, key: i64) -> usize
-    requires { ⌜ (count ≤ length (now ends)) × (place ≤ count) ⌝ }
-    ensures { λ r. ⌜ Passes count (now (ends .entry)) place key r ⌝ }
+// The same from a place that trails the key.
+pub fn look(
+    count: usize,
+    starts: &[i64],
+    ends: &[i64],
+    values: &[u8],
+    place: usize,
+    key: i64,
+    end: i64,
+) -> Seen
+    requires { ⌜ Sound halfOpen (columns count starts ends values)
+        × Trails (spansOf count starts ends values) place (rank key) × (rank key < rank end) ⌝ }
+    ensures { λ r. ⌜ Sees (spansOf count (starts .entry) (ends .entry) (values .entry)) (rank key) (rank end) (rank (r .until)) (r .class) (r .place) ⌝ }
 {
-    if place >= count {
-        return place;
-    }
-    if key < ends[place] {
-        return place;
-    }
-    place + 1
+    let here = caught_up(count, starts, ends, values, place, key);
+    seen_at(count, starts, ends, values, here, key, end)
 }

@@ -1,16 +1,21 @@
-// The ranges of true instants from a walk on: whether there is room for them, and their writing. Each goes from an edge to the next.
+// The ranges of true instants from a walk on: whether there is room for them, and their writing.
 use crate::walk::Walk;
 use crate::walk::edge;
+use crate::walk::quick_cell;
 use lists::put;
+use pairs::pick;
 use pairs::roomy;
 use query_text::truth::Truth;
-ghost use Prim.Native.Nat.{_≤_};
+ghost use mathlib.Core.Path.{_≡_};
+ghost use mathlib.Core.Bool.{false};
+ghost use Prim.Native.Nat.{_≤_, _<_};
+ghost use lib.ListN.{length};
 ghost use Rattle.key.specs.Rank.{rank};
 ghost use Rattle.key.specs.Range.{halfOpen};
 ghost use Rattle.outcomes.specs.Stored.{Sound};
 ghost use Rattle.query.specs.InnerColumns.{columns, spansOf};
 ghost use Rattle.query.specs.InnerWalk.{Stands};
-ghost use Rattle.query.specs.InnerWritten.{Counts, Known, Measures, HasRoom, Writes};
+ghost use Rattle.query.specs.InnerWritten.{Counts, Known, Measures, HasRoom, Shuts, Writes};
 
 // How many ranges there are from the walk on, before `end`.
 fn count(
@@ -127,7 +132,29 @@ pub fn fits(
     true
 }
 
-// Writes those ranges, and answers how many they are.
+// Writes the range from `start` up to `key`, if there is one and it does not go on. Answers the place for the next.
+fn shut(
+    out_starts: &mut [i64],
+    out_ends: &mut [i64],
+    n: usize,
+    on: bool,
+    start: i64,
+    key: i64,
+) -> usize
+    requires { ⌜ (on ≡ false → rank start < rank key → (n < length (now «out_starts»)) × (n < length (now «out_ends»))) ⌝ }
+    ensures { λ r. ⌜ Shuts on n (rank start) (rank key) (now («out_starts» .entry)) (now («out_ends» .entry)) r (now («out_starts» .exit)) (now («out_ends» .exit)) ⌝ }
+{
+    if key <= start {
+        return n;
+    }
+    if on {
+        return n;
+    }
+    put(out_starts, out_ends, n, start, key);
+    n + 1
+}
+
+// Writes those ranges, and answers how many they are. The table says yes from `start` on up to the walk: a range that is open, or none.
 pub fn write(
     count_a: usize,
     starts_a: &[i64],
@@ -154,22 +181,10 @@ pub fn write(
         (rank (w .key)) (rank end) 0 (now («out_starts» .entry)) (now («out_ends» .entry)) r (now («out_starts» .exit)) (now («out_ends» .exit)) ⌝ }
 {
     let mut n = 0;
-    let mut s = edge(
-        count_a,
-        starts_a,
-        ends_a,
-        values_a,
-        count_b,
-        starts_b,
-        ends_b,
-        values_b,
-        t,
-        w,
-        end,
-        true,
-    );
-    while s.key < end {
-        let e = edge(
+    let mut start = w.key;
+    let mut here = w;
+    while here.key < end {
+        let c = quick_cell(
             count_a,
             starts_a,
             ends_a,
@@ -179,26 +194,12 @@ pub fn write(
             ends_b,
             values_b,
             t,
-            s,
+            here,
             end,
-            false,
         );
-        put(out_starts, out_ends, n, s.key, e.key);
-        n += 1;
-        s = edge(
-            count_a,
-            starts_a,
-            ends_a,
-            values_a,
-            count_b,
-            starts_b,
-            ends_b,
-            values_b,
-            t,
-            e,
-            end,
-            true,
-        );
+        n = shut(out_starts, out_ends, n, c.yes, start, here.key);
+        start = pick(c.yes, start, c.next.key);
+        here = c.next;
     }
-    n
+    shut(out_starts, out_ends, n, false, start, end)
 }

@@ -12,7 +12,7 @@ use Rattle.query.proofs.instant.by_table.Statement.{statement}
 use Rattle.query.proofs.instant.by_table.Tie as tie
 
 walk-at-requires : tie.Need-walk-at-requires
-walk-at-requires c κs = let s = c .before .before in (s .pre .0, s .pre .1)
+walk-at-requires c κs = tt
 
 -- the walk stands at the key
 at-key : (c : tie.After-walk-at) → c .walk-at .result .key ≡ c .before .before .before .args .key
@@ -21,7 +21,7 @@ at-key c = c .walk-at .ensures .0 ∙ toZ-ofZ (c .before .before .before .fits .
 cell-at-requires : tie.Need-cell-at-requires
 cell-at-requires c κs =
     let s = c .before .before .before in
-    rw (toZ-ofZ (s .fits .end)) (s .pre .0, s .pre .1, c .walk-at .ensures .1, rw (at-key c) (s .pre .2))
+    rw (toZ-ofZ (s .fits .end)) (s .pre .0, s .pre .1, c .walk-at .ensures .1 _ _, rw (at-key c) (s .pre .2))
 
 -- the cell's answer is that of its first instant
 at-once : (c : tie.After-cell-at) → let a = c .before .before .before .before .args in

@@ -9,7 +9,7 @@ use Rattle.query.proofs.ranges.by_table.Statement.{statement}
 use Rattle.query.proofs.ranges.by_table.Tie as tie
 
 walk-at-requires : tie.Need-walk-at-requires
-walk-at-requires c κs = let s = c .before .before in (s .pre .0, s .pre .1)
+walk-at-requires c κs = tt
 
 shorter-requires : tie.Need-shorter-requires
 shorter-requires c κs = tt
@@ -23,7 +23,7 @@ fits-requires c κs =
     let at-walk = c .before in
     let s = at-walk .before .before .before in
     rw (toZ-ofZ (s .fits .end))
-    (s .pre .0, s .pre .1, at-walk .walk-at .ensures .1, rw (at-start at-walk) (omega (arith, s .pre .2)), rw (at-start at-walk) (s .pre .3))
+    (s .pre .0, s .pre .1, at-walk .walk-at .ensures .1 _ _, rw (at-start at-walk) (omega (arith, s .pre .2)), rw (at-start at-walk) (s .pre .3))
 
 returns : tie.Need-returns
 returns c =
@@ -47,7 +47,7 @@ write-requires c κs =
     rw (toZ-ofZ (s .fits .end)) (
       s .pre .0,
       s .pre .1,
-      at-walk .walk-at .ensures .1,
+      at-walk .walk-at .ensures .1 _ _,
       rw (at-start at-walk) (omega (arith, s .pre .2)),
       rw (at-start at-walk)
           (record {
