@@ -5,6 +5,8 @@ use outcomes::PLACES;
 ghost use mathlib.Core.Path.{_≡_};
 ghost use Rattle.io.specs.Counts.{Counts};
 ghost use Rattle.outcomes.specs.Stored.{lent};
+ghost use Rattle.outcomes.specs.Outcomes.{leaving};
+ghost use Rattle.byte_form.specs.Form.{reading};
 ghost use Rattle.hourledger.specs.InnerInput.{Loaded};
 
 // The longest form, and a byte more.
@@ -30,6 +32,8 @@ pub fn load(
     ends: &mut [i64; PLACES],
     values: &mut [u8; PLACES],
 ) -> u8
+    ensures { λ r. ⌜ leaving r (lent (count .exit) (starts .exit) (ends .exit) (values .exit))
+        ≡ reading (lent (count .entry) (starts .entry) (ends .entry) (values .entry)) (now (form .entry)) ⌝ }
     ensures { λ r. ⌜ (r ≡ 0 → Loaded (lent (count .exit) (starts .exit) (ends .exit) (values .exit))) ⌝ }
 {
     byte_read::read(count, starts, ends, values, form)

@@ -18,7 +18,9 @@ enum-known-counted : tie.Need-enum-known-counted
 enum-known-counted c = search needs
 
 show-requires : tie.Need-show-requires
-show-requires c κs = omega (arith, queried-within _ _ _ _ _ _ _ (c .before .before .before .before .before .before .before .query .ensures) (c .before .before .before .counted .given .1))
+show-requires c κs =
+    let written = c .before .before .before .before .before .before .before .query .ensures in
+    omega (arith, queried-within _ _ _ _ _ _ _ written (c .before .before .before .counted .given .1))
 
 enum-known-counted-2 : tie.Need-enum-known-counted-2
 enum-known-counted-2 c = search needs

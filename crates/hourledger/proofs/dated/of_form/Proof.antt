@@ -14,7 +14,7 @@ returns : tie.Need-returns
 returns c = search needs
 
 of-map-requires : tie.Need-of-map-requires
-of-map-requires c κs = c .before .before .before .before .before .load .ensures (omega (arith, c .before .before .before .before .if1 .left)) .sound
+of-map-requires c κs = c .before .before .before .before .before .load .ensures .1 (omega (arith, c .before .before .before .before .if1 .left)) .sound
 
 returns-2 : tie.Need-returns-2
 returns-2 c = search needs

@@ -11,7 +11,8 @@ read-requires c κs = search needs
 returns : tie.Need-returns
 returns c =
     let bytes = c .before .before .before .before .before .shared-slice-known .given in
-    λ e. read-loaded _ (c .before .before .before .before .before .before .args .form .now) (λ k. omega (arith, bytes k)) (c .read .ensures) e
+    let form = c .before .before .before .before .before .before .args .form .now in
+    (c .read .ensures, λ e. read-loaded _ form (λ k. omega (arith, bytes k)) (c .read .ensures) e)
 
 pub load-spec : {M : Type 1} → statement M
 load-spec = tie.close (tie.spec read-requires returns)

@@ -14,7 +14,7 @@ returns : tie.Need-returns
 returns c = search needs
 
 show-requires : tie.Need-show-requires
-show-requires c κs = c .before .before .before .before .load .ensures (omega (arith, c .before .before .before .if1 .left)) .held
+show-requires c κs = c .before .before .before .before .load .ensures .1 (omega (arith, c .before .before .before .if1 .left)) .held
 
 returns-2 : tie.Need-returns-2
 returns-2 c = search needs
