@@ -265,7 +265,7 @@ LedgerCount range_map_write(const RangeMap *m, uint8_t *out, size_t out_length);
 uint8_t range_map_read(RangeMap *m, const uint8_t *bytes, size_t bytes_length);
 
 /*
- * The inner doors: the same without the check, for a caller that owns its map and knows that it is well
+ * The unchecked doors: the same without the check, for a caller that owns its map and knows that it is well
  * formed, as each of these functions leaves it. A map that is not well formed must not be lent to them.
  */
 LedgerRange range_map_get_key_value_unchecked(const RangeMap *m, int64_t key);
@@ -342,7 +342,7 @@ LedgerApplied range_inclusive_map_extend(RangeInclusiveMap *m, const int64_t *st
                                          const uint8_t *values, size_t values_length);
 
 /*
- * The inner doors: the same without the check, for a caller that owns its map and knows that it is well
+ * The unchecked doors: the same without the check, for a caller that owns its map and knows that it is well
  * formed, as each of these functions leaves it. A map that is not well formed must not be lent to them.
  */
 LedgerRange range_inclusive_map_get_key_value_unchecked(const RangeInclusiveMap *m, int64_t key);
@@ -570,7 +570,7 @@ typedef struct DayReport {
  */
 DayReport range_map_day_report(const RangeMap *m, uint8_t zone, uint16_t year, uint8_t month, uint8_t day);
 
-/* The inner door: a map that is not well formed must not be lent to it. */
+/* The unchecked door: a map that is not well formed must not be lent to it. */
 DayReport range_map_day_report_unchecked(const RangeMap *m, uint8_t zone, uint16_t year, uint8_t month, uint8_t day);
 
 /* ---- QUERIES OF TWO MAPS ---- */
@@ -594,7 +594,7 @@ LedgerCount range_map_query(const RangeMap *a, const RangeMap *b, int64_t start,
 LedgerTold range_map_query_at(const RangeMap *a, const RangeMap *b, int64_t start, int64_t end,
                               const uint8_t *bytes, size_t bytes_length, int64_t key);
 
-/* The inner doors: a map that is not well formed must not be lent to them. */
+/* The unchecked doors: a map that is not well formed must not be lent to them. */
 LedgerCount range_map_query_unchecked(const RangeMap *a, const RangeMap *b, int64_t start, int64_t end,
                                       const uint8_t *bytes, size_t bytes_length,
                                       int64_t *out_starts, size_t out_starts_length,

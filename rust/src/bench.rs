@@ -91,7 +91,7 @@ struct Wanted {
 
 fn tell(what: &str, [inner, checked, rust]: [f64; 3]) {
     println!(
-        "{what}: inner door {inner:.1} ns, ratio {:.2}; checked door {checked:.1} ns, ratio {:.2}; rangemap {rust:.1} ns",
+        "{what}: unchecked door {inner:.1} ns, ratio {:.2}; checked door {checked:.1} ns, ratio {:.2}; rangemap {rust:.1} ns",
         inner / rust,
         checked / rust
     );
@@ -113,7 +113,7 @@ fn entry_of(found: Range) -> Option<Entry> {
 }
 
 fn inner_doors<K: Kind>() -> Inner {
-    K::OURS.inner.expect("a map has inner doors")
+    K::OURS.inner.expect("a map has unchecked doors")
 }
 
 fn lookups<K: Kind>() {
@@ -211,7 +211,7 @@ fn race_edits<K: Kind>(wanted: &mut Vec<Wanted>) {
     let what = format!("{}, edit at {RANGES} ranges", K::NAME);
     tell(&what, times);
     wanted.push(Wanted {
-        what: format!("{what}, inner door, ratio"),
+        what: format!("{what}, unchecked door, ratio"),
         most: 1.5,
         got: times[0] / times[2],
     });
@@ -333,7 +333,7 @@ fn gaps<K: Kind>(wanted: &mut Vec<Wanted>) {
     let what = format!("{}, gaps of {GAPS_RANGES} ranges", K::NAME);
     tell(&what, times);
     wanted.push(Wanted {
-        what: format!("{what}, inner door, ratio"),
+        what: format!("{what}, unchecked door, ratio"),
         most: 0.6,
         got: times[0] / times[2],
     });

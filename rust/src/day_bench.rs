@@ -77,7 +77,7 @@ pub fn race_reports(wanted: &mut Vec<Wanted>) {
     );
     let what = format!("a day's report at {RANGES} ranges");
     tell(&what, times);
-    for (door, time) in [("inner door", times[0]), ("checked door", times[1])] {
+    for (door, time) in [("unchecked door", times[0]), ("checked door", times[1])] {
         wanted.push(Wanted {
             what: format!("{what}, {door}, by what rangemap's overlapping takes, ratio"),
             most: 1.0,

@@ -228,7 +228,7 @@ pub struct Functions {
     pub extend: Extend,
     /// The check alone, as a byte.
     pub well_formed: extern "C" fn(&mut Map) -> u8,
-    /// Only maps have inner doors.
+    /// Only maps have unchecked doors.
     pub inner: Option<Inner>,
 }
 

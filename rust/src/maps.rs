@@ -128,7 +128,7 @@ fn edit<K: Kind>(m: &mut Map, r: Ends, new: Option<u8>) -> u8 {
 
 /// Only for a well-formed map.
 fn edit_unchecked<K: Kind>(m: &mut Map, r: Ends, new: Option<u8>) -> u8 {
-    let inner = K::OURS.inner.expect("only maps have inner doors");
+    let inner = K::OURS.inner.expect("only maps have unchecked doors");
     // SAFETY: every caller lends a map that an edit left, or the model.
     unsafe {
         match new {
@@ -142,7 +142,7 @@ fn edit_unchecked<K: Kind>(m: &mut Map, r: Ends, new: Option<u8>) -> u8 {
 fn doors<K: Kind>() -> Vec<(&'static str, Edit)> {
     let mut doors: Vec<(&'static str, Edit)> = vec![("", edit::<K>)];
     if K::OURS.inner.is_some() {
-        doors.push(("inner door, ", edit_unchecked::<K>));
+        doors.push(("unchecked door, ", edit_unchecked::<K>));
     }
     doors
 }

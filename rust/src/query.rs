@@ -47,7 +47,7 @@ pub const FULL: Size = Size {
 };
 
 /// The second is only for well-formed maps.
-const DOORS: [(&str, &Queries); 2] = [("", &QUERIES), ("inner door, ", &QUERIES_UNCHECKED)];
+const DOORS: [(&str, &Queries); 2] = [("", &QUERIES), ("unchecked door, ", &QUERIES_UNCHECKED)];
 
 /// The text is a `&mut` here as the maps are, so that the compiler does not take for granted that it stays as it was.
 fn list(

@@ -167,7 +167,7 @@ fn compare_one(report: &mut Report, m: &mut Map, date: Date, painted: &Painted) 
         (ours.0, ours.1, ours.2),
         expected,
     );
-    report.same(format_args!("{date:?}, inner door"), inner, ours);
+    report.same(format_args!("{date:?}, unchecked door"), inner, ours);
     let hours = (ours.2)
         .iter()
         .zip(ours.3)

@@ -259,7 +259,7 @@ static void half_open_questions(void) {
     check("place 3: 5", is_range(range_map_range_at(&m, 3), 5, 0, 0, 0));
     check("get 3: 2..4>2", is_range(range_map_get_key_value(&m, 3), 0, 2, 4, 2));
     check("get 4: 5", is_range(range_map_get_key_value(&m, 4), 5, 0, 0, 0));
-    check("get 7, inner door", is_range(range_map_get_key_value_unchecked(&m, 7), 0, 6, 8, 1));
+    check("get 7, unchecked door", is_range(range_map_get_key_value_unchecked(&m, 7), 0, 6, 8, 1));
     check("contains 7", is_told(range_map_contains_key(&m, 7), 0, true));
     check("contains 8: no", is_told(range_map_contains_key(&m, 8), 0, false));
     check("overlapping 3..7: places 1 and 2", is_stretch(range_map_overlapping(&m, 3, 7), 0, 1, 2));
@@ -280,7 +280,7 @@ static void half_open_gaps(void) {
     check("gaps of -1..9: -1..0, 2..6, 8..9",
           starts[0] == -1 && ends[0] == 0 && starts[1] == 2 && ends[1] == 6 && starts[2] == 8 && ends[2] == 9);
     check("the place past the count", starts[3] == 94 && ends[3] == 98);
-    check("gaps, inner door", is_count(range_map_gaps_unchecked(&m, 0, 8, starts, 1, ends, 1), 0, 1));
+    check("gaps, unchecked door", is_count(range_map_gaps_unchecked(&m, 0, 8, starts, 1, ends, 1), 0, 1));
     check("gaps of 0..8: 2..6", starts[0] == 2 && ends[0] == 6);
 }
 
@@ -320,7 +320,7 @@ static void half_open_full(void) {
     check("full: count 512", is_count(range_map_len(&m), 0, HOURLEDGER_PLACES));
     check("full: insert 2000..2001: 2", range_map_insert(&m, 2000, 2001, 7) == 2);
     check("full: unchanged", range_map_same(&m, &full));
-    check("full: insert 2000..2001, inner door: 2", range_map_insert_unchecked(&m, 2000, 2001, 7) == 2);
+    check("full: insert 2000..2001, unchecked door: 2", range_map_insert_unchecked(&m, 2000, 2001, 7) == 2);
     check("full: unchanged again", range_map_same(&m, &full));
     check("full: insert 1..2", range_map_insert(&m, 1, 2, 7) == 0);
     check("full: 511 ranges", is_count(range_map_len(&m), 0, HOURLEDGER_PLACES - 1));
@@ -335,7 +335,7 @@ static void half_open_ends(void) {
     check("insert min..max>3", range_map_insert(&m, INT64_MIN, INT64_MAX, 3) == 0);
     check("min..max>3", range_map_holds(&m, ENTRIES({INT64_MIN, INT64_MAX, 3})));
     check("max is not covered", is_range(range_map_get_key_value(&m, INT64_MAX), 5, 0, 0, 0));
-    check("remove, inner door", range_map_remove_unchecked(&m, INT64_MIN + 1, INT64_MAX - 1) == 0);
+    check("remove, unchecked door", range_map_remove_unchecked(&m, INT64_MIN + 1, INT64_MAX - 1) == 0);
     check("both ends stay",
           range_map_holds(&m, ENTRIES({INT64_MIN, INT64_MIN + 1, 3}, {INT64_MAX - 1, INT64_MAX, 3})));
 }
@@ -414,7 +414,7 @@ static void inclusive_questions(void) {
     check("inclusive, first", is_range(range_inclusive_map_first_range_value(&m), 0, 0, 1, 1));
     check("inclusive, last", is_range(range_inclusive_map_last_range_value(&m), 0, 6, 7, 1));
     check("inclusive, place 1", is_range(range_inclusive_map_range_at(&m, 1), 0, 2, 3, 2));
-    check("inclusive, get 3, inner door",
+    check("inclusive, get 3, unchecked door",
           is_range(range_inclusive_map_get_key_value_unchecked(&m, 3), 0, 2, 3, 2));
     check("inclusive, contains 4: no", is_told(range_inclusive_map_contains_key(&m, 4), 0, false));
     check("inclusive, overlapping 3..=6: places 1 and 2",
@@ -529,8 +529,8 @@ static void query_ranges(void) {
     check("A1|A3 in 1..20: 1..8, 10..12", starts[0] == 1 && ends[0] == 8 && starts[1] == 10 && ends[1] == 12);
     check("A1|A3&B1 in 0..20: one range", is_count(range_map_query(&a, &b, 0, 20, TEXT("A1|A3&B1"), starts, 3, ends, 3), 0, 1));
     check("A1|A3&B1 in 0..20: 0..7", starts[0] == 0 && ends[0] == 7 && starts[1] == 10);
-    check("(A1|A3)&B1, inner door", is_count(range_map_query_unchecked(&a, &b, 0, 20, TEXT("(A1|A3)&B1"), starts, 1, ends, 1), 0, 1));
-    check("(A1|A3)&B1, inner door: 4..7", starts[0] == 4 && ends[0] == 7);
+    check("(A1|A3)&B1, unchecked door", is_count(range_map_query_unchecked(&a, &b, 0, 20, TEXT("(A1|A3)&B1"), starts, 1, ends, 1), 0, 1));
+    check("(A1|A3)&B1, unchecked door: 4..7", starts[0] == 4 && ends[0] == 7);
     check("!A3 of all keys", is_count(range_map_query(&a, &b, INT64_MIN, INT64_MAX, TEXT("!A3"), starts, 3, ends, 3), 0, 3));
     check("!A3 of all keys: min..5, 8..10, 12..max", starts[0] == INT64_MIN && ends[0] == 5 && starts[1] == 8
                                                          && ends[1] == 10 && starts[2] == 12 && ends[2] == INT64_MAX);
@@ -544,11 +544,11 @@ static void query_instants(void) {
     check("7 is in A3&!B1", is_told(range_map_query_at(&a, &b, 0, 20, TEXT("A3&!B1"), 7), 0, true));
     check("6 is not", is_told(range_map_query_at(&a, &b, 0, 20, TEXT("A3&!B1"), 6), 0, false));
     check("8 is not", is_told(range_map_query_at(&a, &b, 0, 20, TEXT("A3&!B1"), 8), 0, false));
-    check("11 is, inner door", is_told(range_map_query_at_unchecked(&a, &b, 0, 20, TEXT("A3&!B1"), 11), 0, true));
+    check("11 is, unchecked door", is_told(range_map_query_at_unchecked(&a, &b, 0, 20, TEXT("A3&!B1"), 11), 0, true));
     check("the window's end is not", is_told(range_map_query_at(&a, &b, 0, 11, TEXT("A3&!B1"), 11), 0, false));
     check("nor is what lies before the window", is_told(range_map_query_at(&a, &b, 8, 20, TEXT("A3&!B1"), 7), 0, false));
     check("!A3 outside the window: no", is_told(range_map_query_at(&a, &b, 0, 20, TEXT("!A3"), 20), 0, false));
-    check("!A3 outside the window, inner door: no", is_told(range_map_query_at_unchecked(&a, &b, 0, 20, TEXT("!A3"), -1), 0, false));
+    check("!A3 outside the window, unchecked door: no", is_told(range_map_query_at_unchecked(&a, &b, 0, 20, TEXT("!A3"), -1), 0, false));
     check("the least key", is_told(range_map_query_at(&a, &b, INT64_MIN, INT64_MAX, TEXT("!A3"), INT64_MIN), 0, true));
     check("the greatest key is in no window", is_told(range_map_query_at(&a, &b, INT64_MIN, INT64_MAX, TEXT("!A3"), INT64_MAX), 0, false));
 }
@@ -568,17 +568,17 @@ static void query_refusals(void) {
     check("query, window 9..4: 1, before 7", is_count(range_map_query(&good, &good, 9, 4, TEXT("A3&"), starts, 0, ends, 0), 1, 0));
     check("query, 7 before 3", is_count(range_map_query(&good, &good, 0, 20, TEXT("A3&"), starts, 0, ends, 0), 7, 0));
     check("query, 3", is_count(range_map_query(&good, &good, 0, 20, TEXT("A3"), starts, 2, ends, 1), 3, 0));
-    check("query, inner door, window 9..4: 1",
+    check("query, unchecked door, window 9..4: 1",
           is_count(range_map_query_unchecked(&good, &good, 9, 4, TEXT("A3&"), starts, 2, ends, 2), 1, 0));
-    check("query, inner door: 7",
+    check("query, unchecked door: 7",
           is_count(range_map_query_unchecked(&good, &good, 0, 20, TEXT("A3&"), starts, 2, ends, 2), 7, 0));
     check("query, the lists as they were", starts[0] == 91 && starts[1] == 92 && ends[0] == 93 && ends[1] == 94);
     check("instant, A damaged: 4", is_told(range_map_query_at(&damaged, &good, 9, 4, TEXT("A3&"), 5), 4, false));
     check("instant, B damaged: 4", is_told(range_map_query_at(&good, &damaged, 9, 4, TEXT("A3&"), 5), 4, false));
     check("instant, window 9..4: 1", is_told(range_map_query_at(&good, &good, 9, 4, TEXT("A3&"), 5), 1, false));
-    check("instant, window 4..4, inner door: 1", is_told(range_map_query_at_unchecked(&good, &good, 4, 4, TEXT("A3"), 4), 1, false));
+    check("instant, window 4..4, unchecked door: 1", is_told(range_map_query_at_unchecked(&good, &good, 4, 4, TEXT("A3"), 4), 1, false));
     check("instant, 7 outside the window too", is_told(range_map_query_at(&good, &good, 0, 4, TEXT("A3&"), 5), 7, false));
-    check("instant, inner door: 7", is_told(range_map_query_at_unchecked(&good, &good, 0, 20, TEXT("A3&"), 5), 7, false));
+    check("instant, unchecked door: 7", is_told(range_map_query_at_unchecked(&good, &good, 0, 20, TEXT("A3&"), 5), 7, false));
     check("query, the damaged map as it was", range_map_same(&damaged, &before));
 }
 

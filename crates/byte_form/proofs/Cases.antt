@@ -8,7 +8,7 @@ use Rattle.span.specs.Span.{joins, tidy}
 use Rattle.key.specs.Rank.{place, bitRank}
 use Rattle.outcomes.specs.Stored.{spans, ranges, filled, zeros, noughts, unused, wellFormed}
 use Rattle.outcomes.specs.Outcomes.{Entry, entries}
-use Rattle.bytes_of.specs.Bytes.{bytesOf, numberOf, rangeBytes, rangeIn}
+use Rattle.byte_form.specs.Bytes.{bytesOf, numberOf, rangeBytes, rangeIn}
 use Rattle.byte_form.specs.Form.{mark, entriesOf, rangesBytes, formOf, rangesIn, countIn, mapOf, mapIn, same, isForm}
 
 unfoldable all : Unit {0}

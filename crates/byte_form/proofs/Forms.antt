@@ -22,8 +22,8 @@ use Rattle.outcomes.proofs.Formed.{Formed, and-yes}
 use Rattle.outcomes.proofs.Formed as Formed
 use Rattle.outcomes.proofs.Bulk.{length-entries}
 use Rattle.outcomes.proofs.Storing.{length-filled}
-use Rattle.bytes_of.specs.Bytes.{bytesOf, numberOf, rangeIn, Bytes}
-use Rattle.bytes_of.proofs.Laws.{length-bytes, number-bytes, bytes-number, bytes-take, bytes-drop}
+use Rattle.byte_form.specs.Bytes.{bytesOf, numberOf, rangeIn, Bytes}
+use Rattle.byte_form.proofs.Laws.{length-bytes, number-bytes, bytes-number, bytes-take, bytes-drop}
 use Rattle.byte_form.specs.Form.{mark, entriesOf, rangesBytes, formOf, rangesIn, countIn, mapOf, mapIn, same, isForm, reading, InMemory}
 use Rattle.byte_form.proofs.Ranges.{Keyed, length-ranges-in, length-ranges-bytes, ranges-back, bytes-back}
 

@@ -8,8 +8,8 @@ use lib.Seq.{drop-at}
 use mir.Syntax.{w64}
 use mir.Val.{SFits}
 use Rattle.outcomes.specs.Outcomes.{Entry}
-use Rattle.bytes_of.specs.Bytes.{rangeBytes, Bytes}
-use Rattle.bytes_of.proofs.Laws.{length-range, range-back, range-bytes, bytes-drop}
+use Rattle.byte_form.specs.Bytes.{rangeBytes, Bytes}
+use Rattle.byte_form.proofs.Laws.{length-range, range-back, range-bytes, bytes-drop}
 use Rattle.byte_form.specs.Form.{rangesBytes, rangesIn}
 
 -- the keys of all ranges are i64

@@ -13,7 +13,7 @@ use Rattle.outcomes.specs.Numbers.{countOf}
 use Rattle.outcomes.specs.declared.Count.{Count}
 use Rattle.outcomes.specs.declared.Counted.{Counted}
 use Rattle.outcomes.specs.declared.Counted.the-variants as Counted
-use Rattle.bytes_of.specs.Bytes.{bytesOf, numberOf, rangeBytes, rangeIn}
+use Rattle.byte_form.specs.Bytes.{bytesOf, numberOf, rangeBytes, rangeIn}
 
 -- 52 4D 30 31
 abbrev pub mark : List ℕ

@@ -1,2 +1,4 @@
--- What a reader must believe of the byte form: Form (the form of a map, and what the writer and the reader answer and leave).
+-- What a reader must believe of the byte form: Bytes (numbers and one range as bytes), Form (the form of a map, and what the writer and the reader
+-- answer and leave).
+pub mod Bytes
 pub mod Form

@@ -13,7 +13,7 @@ use lib.Seq.{drop-cons, take-length}
 use lib.IntN.{negsuc, _+ℤ_}
 use mir.Syntax.{w64}
 use mir.Val.{toZ}
-use Rattle.bytes_of.proofs.Laws.{key-negative}
+use Rattle.byte_form.proofs.Laws.{key-negative}
 use Rattle.decimal.specs.declared.Numeral.{Numeral}
 use Rattle.decimal.specs.declared.Numeral.the-variants as Numeral
 use Rattle.decimal.specs.declared.Signed.the-variants as Signed

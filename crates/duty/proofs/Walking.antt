@@ -21,15 +21,15 @@ use Rattle.key.proofs.Lawful.{half-open}
 use Rattle.outcomes.specs.Stored.{Stored, spans, ranges, Sound}
 use Rattle.outcomes.proofs.Formed.{shape, good, length-spans, getD-spans, length-ranges, getD-ranges}
 use Rattle.outcomes.proofs.Storing.{all-same}
-use Rattle.places.specs.Check.{Steps}
-use Rattle.places.specs.Search.{Ascends, passed}
-use Rattle.places.proofs.Checked.{formed-steps}
-use Rattle.places.proofs.Seeking.{Passed, passed-facts, passed-after, ends-ascend}
+use Rattle.store.specs.InnerCheck.{Steps}
+use Rattle.store.specs.InnerSearch.{Ascends, Reached}
+use Rattle.store.proofs.Checked.{formed-steps}
+use Rattle.store.proofs.Seeking.{reached-after, ends-ascend}
 use Rattle.duty.specs.Duty.{dutyOf, counts, those, secondsOf, unrecordedOf, strange, totalsOf, tallying}
 use Rattle.duty.specs.declared.Tallied.{Tallied}
 use Rattle.duty.specs.declared.Tallied.the-variants as Tallied
-use Rattle.duty.specs.Walk.{limit, gathering, sumOf, completing, tallyOf, walked}
-use Rattle.duty.specs.Counting.{Begun, Statuses, part, Met, Apart, Inside, empty, credited, Joined, Room, Added}
+use Rattle.duty.specs.InnerWalk.{limit, gathering, sumOf, completing, tallyOf, walked}
+use Rattle.duty.specs.InnerCounting.{Begun, Statuses, part, Met, Apart, Inside, empty, credited, Joined, Room, Added}
 use Rattle.duty.specs.declared.Tally.{Tally}
 use Rattle.duty.specs.declared.Walked.{Walked}
 use Rattle.duty.specs.declared.Walked.the-variants as Walked
@@ -240,12 +240,12 @@ module _ {ss es : List ℤ} {vs : List ℕ} {lo hi a b : ℕ} (m : Met ss es vs 
         })
 
 -- THE WINDOW of a sound map: the places from the first that ends past lo up to the first that begins from hi on
-module _ {m : Stored} (sound : Sound halfOpen m) {from lo hi : ℕ} (is-from : from ≡ passed lo (take (m .count) (m .ends))) (real : lo < hi) (short : hi - lo < limit) where
+module _ {m : Stored} (sound : Sound halfOpen m) {from hi : ℕ} {start : ℤ} (first : Reached halfOpen (m .count) (m .ends) start from) (real : rank start < hi) (short : hi - rank start < limit) where
+  abbrev lo : ℕ
+  lo = rank start
+
   abbrev xs : List Span
   xs = ranges halfOpen m
-
-  first : Passed lo (m .ends) (m .count) from
-  first = passed-facts (m .ends) (omega (arith, good sound .held, sound .ends-as)) is-from
 
   pub from-held : from ≤ m .count
   from-held = first .within
@@ -271,7 +271,7 @@ module _ {m : Stored} (sound : Sound halfOpen m) {from lo hi : ℕ} (is-from : f
       values-as = sound .values-as;
       short = short;
       meet = λ k h i.
-          let e = passed-after (m .ends) (ends-ascend halfOpen half-open (shape sound) (good sound)) first k h (omega (arith, begun .within)) in
+          let e = reached-after half-open (ends-ascend halfOpen half-open (shape sound) (good sound)) first k h (omega (arith, begun .within)) in
           omega (arith, e, begun .sooner k h i, steps k (omega (arith, begun .within)) .full);
     }
 

@@ -1,17 +1,18 @@
 // The seconds of each duty between two keys of a half-open map.
-use places::search;
+use key::RangeKind;
+use store::search::reaching;
 ghost use mathlib.Core.Path.{_≡_};
 ghost use Prim.Native.Nat.{_+_, _-_, _≤_, _<_, min, max};
-ghost use lib.ListN.{length, getD, take};
-ghost use Rattle.key.specs.Decides.{Decides};
+ghost use lib.ListN.{length, getD};
+ghost use Rattle.key.specs.InnerDecides.{Decides};
 ghost use Rattle.key.specs.Rank.{rank};
 ghost use Rattle.key.specs.Range.{halfOpen};
 ghost use Rattle.outcomes.specs.Stored.{Sound, stored, ranges};
-ghost use Rattle.places.specs.Search.{Ascends, passed};
+ghost use Rattle.store.specs.InnerSearch.{Ascends, Reached};
 ghost use Rattle.duty.specs.Duty.{tallying};
-ghost use Rattle.duty.specs.Walk.{limit, gathering, sumOf, completing, walked};
-ghost use Rattle.duty.specs.Counting.{Begun, Statuses, Amiss, Met, Apart, Inside, part};
-ghost use Rattle.duty.specs.Counting.{empty, credited, Both, Joined, Room, Added};
+ghost use Rattle.duty.specs.InnerWalk.{limit, gathering, sumOf, completing, walked};
+ghost use Rattle.duty.specs.InnerCounting.{Begun, Statuses, Amiss, Met, Apart, Inside, part};
+ghost use Rattle.duty.specs.InnerCounting.{empty, credited, Both, Joined, Room, Added};
 
 // The number of document 01's table for a status outside 1 to 4.
 pub const STRANGE: u8 = 10;
@@ -247,7 +248,7 @@ fn walk(
     start: i64,
     end: i64,
 ) -> Walked
-    requires { ⌜ Sound halfOpen (stored count (now starts) (now ends) (now values)) × (from ≡ passed (rank start) (take count (now ends))) × (rank start < rank end) × (rank end - rank start < limit) ⌝ }
+    requires { ⌜ Sound halfOpen (stored count (now starts) (now ends) (now values)) × Reached halfOpen count (now ends) start from × (rank start < rank end) × (rank end - rank start < limit) ⌝ }
     ensures { λ r. ⌜ r ≡ walked (rank start) (rank end) (ranges halfOpen (stored count (now (starts .entry)) (now (ends .entry)) (now (values .entry)))) ⌝ }
 {
     let to = begun(starts, from, count, end);
@@ -270,7 +271,7 @@ pub fn between(
     requires { ⌜ Sound halfOpen (stored count (now starts) (now ends) (now values)) × (rank start < rank end) × (rank end - rank start < limit) ⌝ }
     ensures { λ r. ⌜ r ≡ tallying (stored count (now (starts .entry)) (now (ends .entry)) (now (values .entry))) start end ⌝ }
 {
-    let from = search::ended(ends, count, start);
+    let from = reaching(RangeKind::HalfOpen, ends, count, start);
     let w = walk(count, starts, ends, values, from, start, end);
     match w {
         Walked::Counted(t) => Tallied::Seconds(completed(t, seconds(start, end))),

@@ -55,11 +55,11 @@ fn line_done(
     match is {
         Line::Insert(s, e, v) => told(
             n,
-            changing::insert(RangeKind::HalfOpen, count, starts, ends, values, s, e, v),
+            map_ops::change::insert(RangeKind::HalfOpen, count, starts, ends, values, s, e, v),
         ),
         Line::Remove(s, e) => told(
             n,
-            changing::remove(RangeKind::HalfOpen, count, starts, ends, values, s, e),
+            map_ops::change::remove(RangeKind::HalfOpen, count, starts, ends, values, s, e),
         ),
         Line::Neither => Made::NotAnEdit(n),
     }
@@ -108,6 +108,6 @@ pub fn make(
 ) -> Made
     ensures { λ r. ⌜ making r (lent (count .exit) (starts .exit) (ends .exit) (values .exit)) ≡ madeOf (now (text .entry)) ⌝ }
 {
-    changing::clear(count, starts, ends, values);
+    map_ops::change::clear(count, starts, ends, values);
     lines_done(text, count, starts, ends, values)
 }

@@ -1,48 +1,28 @@
 // GAPS, for either kind of range: the maximal uncovered ranges inside an outer range. It is one walk over the places, with a cursor: the first
 // key that may be free. Nothing is written before it is known that the lent lists are long enough; the gaps are counted for that only where
 // there may be too many.
-// The kinds differ in four places: where the walk begins (`reaching`, of the search), whether a range from one key to another is empty (`full`,
-// of the keys), which end is written for a range up to a key (`end_before`), and which key follows a range (`after`).
+// The kinds differ in three places, all of the keys: whether a range from one key to another is empty (`full`, by which the search goes too),
+// which end is written for a range up to a key (`end_before`), and which key follows a range (`after`).
 use key::RangeKind;
+use key::after;
+use key::end_before;
 use key::full;
-use lists::put;
-use lists::shorter;
 use outcomes::Counted;
 use outcomes::EMPTY_RANGE;
 use outcomes::TOO_SHORT;
-use places::search::reaching;
+use range_list::put;
+use range_list::shorter;
+use store::search::reaching;
 ghost use mathlib.Core.Path.{_≡_};
 ghost use Prim.Native.Nat.{_+_, _≤_, _<_};
 ghost use lib.ListN.{length};
-ghost use Rattle.key.specs.Decides.{Decides};
-ghost use Rattle.key.specs.Rank.{rank, keys};
+ghost use Rattle.key.specs.InnerDecides.{Decides};
+ghost use Rattle.key.specs.Rank.{rank};
 ghost use Rattle.key.specs.Range.{kindOf};
 ghost use Rattle.outcomes.specs.Stored.{Sound, stored};
 ghost use Rattle.outcomes.specs.Outcomes.{uncovered};
-ghost use Rattle.lists.specs.Lists.{wrote, Room, Puts};
-ghost use Rattle.gaps.specs.Walk.{gap, found, Places};
-
-// The first key after a range. One is added to an inclusive end, so a later key must be known: the greatest key may be an end.
-fn after(kind: RangeKind, end: i64) -> i64
-    requires { ⌜ kindOf kind .past end < keys ⌝ }
-    ensures { λ r. ⌜ rank r ≡ kindOf kind .past end ⌝ }
-{
-    match kind {
-        RangeKind::HalfOpen => end,
-        RangeKind::Inclusive => end + 1,
-    }
-}
-
-// The end of a range that goes up to a key, without it.
-fn end_before(kind: RangeKind, key: i64) -> i64
-    requires { ⌜ 0 < rank key ⌝ }
-    ensures { λ r. ⌜ r ≡ kindOf kind .ending (rank key) ⌝ }
-{
-    match kind {
-        RangeKind::HalfOpen => key,
-        RangeKind::Inclusive => key - 1,
-    }
-}
+ghost use Rattle.range_list.specs.InnerLists.{wrote, Room, Puts};
+ghost use Rattle.gaps.specs.InnerWalk.{gap, found, Places};
 
 // How many gaps lie between the cursor and the next range: one or none.
 fn between(cursor: i64, start: i64) -> usize

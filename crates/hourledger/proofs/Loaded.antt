@@ -16,11 +16,11 @@ use Rattle.outcomes.specs.Sets.{notWritten}
 use Rattle.outcomes.specs.declared.Counted.{Counted}
 use Rattle.outcomes.specs.declared.Counted.the-variants as Counted
 use Rattle.outcomes.proofs.Formed as well
-use Rattle.bytes_of.specs.Bytes.{Bytes}
+use Rattle.byte_form.specs.Bytes.{Bytes}
 use Rattle.byte_form.specs.Form.{formOf, Output, output, put, reading}
 use Rattle.byte_form.specs.Form as form
 use Rattle.byte_form.proofs.Forms.{read-write}
-use Rattle.lists.specs.Lists.{wrote}
+use Rattle.range_list.specs.InnerLists.{wrote}
 use Rattle.query_text.specs.Reader.{Read, got, bad, queryOf}
 use Rattle.query.specs.Answers.{byQuery, resultOf, queried, querying}
 use Rattle.hourledger.specs.InnerInput.{Loaded}

@@ -36,5 +36,5 @@ pub fn load(
         ≡ reading (lent (count .entry) (starts .entry) (ends .entry) (values .entry)) (now (form .entry)) ⌝ }
     ensures { λ r. ⌜ (r ≡ 0 → Loaded (lent (count .exit) (starts .exit) (ends .exit) (values .exit))) ⌝ }
 {
-    byte_read::read(count, starts, ends, values, form)
+    byte_io::read::read(count, starts, ends, values, form)
 }

@@ -31,7 +31,7 @@ fn write_form<'a>(
     values: &'a [u8; PLACES],
 ) {
     let mut out = [0u8; FORM];
-    let written = byte_write::write(count, starts, ends, values, &mut out);
+    let written = byte_io::write::write(count, starts, ends, values, &mut out);
     if let Counted::Count(n) = written {
         print(STDOUT_FILENO, &out, n);
     }

@@ -1,5 +1,5 @@
 // Module 3: the inclusive map, from inclusive_map.rs of rangemap. The exported functions, for C and Rust, are here: each lends all the fields of
-// its map to a function of the crate `numbers`, which answers in numbers. Rattle callers use the crates `listing`, `finding` and `changing`.
+// its map to a function of the crate `map_abi`, which answers in numbers. Rattle callers use the crates `map_ops`.
 use key::RangeKind;
 use outcomes::Applied;
 use outcomes::Count;
@@ -46,7 +46,7 @@ pub extern "C" fn range_inclusive_map_new() -> RangeInclusiveMap
 pub extern "C" fn range_inclusive_map_is_empty(m: &RangeInclusiveMap) -> Told
     ensures { λ r. ⌜ r ≡ toldOf (isEmpty inclusive (held (now (m .entry)))) ⌝ }
 {
-    numbers::is_empty(KIND, &m.count, &m.starts, &m.ends, &m.values)
+    map_abi::is_empty(KIND, &m.count, &m.starts, &m.ends, &m.values)
 }
 
 // How many ranges are held.
@@ -54,7 +54,7 @@ pub extern "C" fn range_inclusive_map_is_empty(m: &RangeInclusiveMap) -> Told
 pub extern "C" fn range_inclusive_map_len(m: &RangeInclusiveMap) -> Count
     ensures { λ r. ⌜ r ≡ countOf (counting inclusive (held (now (m .entry)))) ⌝ }
 {
-    numbers::len(KIND, &m.count, &m.starts, &m.ends, &m.values)
+    map_abi::len(KIND, &m.count, &m.starts, &m.ends, &m.values)
 }
 
 // The range and the value at a place.
@@ -62,7 +62,7 @@ pub extern "C" fn range_inclusive_map_len(m: &RangeInclusiveMap) -> Count
 pub extern "C" fn range_inclusive_map_range_at(m: &RangeInclusiveMap, place: usize) -> Range
     ensures { λ r. ⌜ r ≡ rangeOf (rangeAt inclusive (held (now (m .entry))) place) ⌝ }
 {
-    numbers::range_at(KIND, &m.count, &m.starts, &m.ends, &m.values, place)
+    map_abi::range_at(KIND, &m.count, &m.starts, &m.ends, &m.values, place)
 }
 
 // The first range and its value.
@@ -70,7 +70,7 @@ pub extern "C" fn range_inclusive_map_range_at(m: &RangeInclusiveMap, place: usi
 pub extern "C" fn range_inclusive_map_first_range_value(m: &RangeInclusiveMap) -> Range
     ensures { λ r. ⌜ r ≡ rangeOf (firstOf inclusive (held (now (m .entry)))) ⌝ }
 {
-    numbers::first_range_value(KIND, &m.count, &m.starts, &m.ends, &m.values)
+    map_abi::first_range_value(KIND, &m.count, &m.starts, &m.ends, &m.values)
 }
 
 // The last range and its value.
@@ -78,7 +78,7 @@ pub extern "C" fn range_inclusive_map_first_range_value(m: &RangeInclusiveMap) -
 pub extern "C" fn range_inclusive_map_last_range_value(m: &RangeInclusiveMap) -> Range
     ensures { λ r. ⌜ r ≡ rangeOf (lastOf inclusive (held (now (m .entry)))) ⌝ }
 {
-    numbers::last_range_value(KIND, &m.count, &m.starts, &m.ends, &m.values)
+    map_abi::last_range_value(KIND, &m.count, &m.starts, &m.ends, &m.values)
 }
 
 // The range that holds the key, and its value.
@@ -86,7 +86,7 @@ pub extern "C" fn range_inclusive_map_last_range_value(m: &RangeInclusiveMap) ->
 pub extern "C" fn range_inclusive_map_get_key_value(m: &RangeInclusiveMap, key: i64) -> Range
     ensures { λ r. ⌜ r ≡ rangeOf (lookup inclusive (held (now (m .entry))) key) ⌝ }
 {
-    numbers::get_key_value(KIND, &m.count, &m.starts, &m.ends, &m.values, key)
+    map_abi::get_key_value(KIND, &m.count, &m.starts, &m.ends, &m.values, key)
 }
 
 // Whether some range holds the key.
@@ -94,7 +94,7 @@ pub extern "C" fn range_inclusive_map_get_key_value(m: &RangeInclusiveMap, key: 
 pub extern "C" fn range_inclusive_map_contains_key(m: &RangeInclusiveMap, key: i64) -> Told
     ensures { λ r. ⌜ r ≡ toldOf (containing inclusive (held (now (m .entry))) key) ⌝ }
 {
-    numbers::contains_key(KIND, &m.count, &m.starts, &m.ends, &m.values, key)
+    map_abi::contains_key(KIND, &m.count, &m.starts, &m.ends, &m.values, key)
 }
 
 // Whether some range has a key of the query.
@@ -102,7 +102,7 @@ pub extern "C" fn range_inclusive_map_contains_key(m: &RangeInclusiveMap, key: i
 pub extern "C" fn range_inclusive_map_overlaps(m: &RangeInclusiveMap, start: i64, end: i64) -> Told
     ensures { λ r. ⌜ r ≡ toldOf (meeting inclusive (held (now (m .entry))) start end) ⌝ }
 {
-    numbers::overlaps(KIND, &m.count, &m.starts, &m.ends, &m.values, start, end)
+    map_abi::overlaps(KIND, &m.count, &m.starts, &m.ends, &m.values, start, end)
 }
 
 // Which consecutive stored part meets the query.
@@ -114,7 +114,7 @@ pub extern "C" fn range_inclusive_map_overlapping(
 ) -> Stretch
     ensures { λ r. ⌜ r ≡ stretchOf (overlapping inclusive (held (now (m .entry))) start end) ⌝ }
 {
-    numbers::overlapping(KIND, &m.count, &m.starts, &m.ends, &m.values, start, end)
+    map_abi::overlapping(KIND, &m.count, &m.starts, &m.ends, &m.values, start, end)
 }
 
 // The maximal uncovered ranges inside start..=end, into the first places of two lent lists.
@@ -128,7 +128,7 @@ pub extern "C" fn range_inclusive_map_gaps(
 ) -> Count
     ensures { λ r. ⌜ Listed r (now («out_starts» .exit)) (now («out_ends» .exit)) (gapsIn inclusive (held (now (m .entry))) start end (now («out_starts» .entry)) (now («out_ends» .entry))) ⌝ }
 {
-    numbers::gaps(
+    map_abi::gaps(
         KIND,
         &m.count,
         &m.starts,
@@ -146,7 +146,7 @@ pub extern "C" fn range_inclusive_map_gaps(
 pub extern "C" fn range_inclusive_map_eq(a: &RangeInclusiveMap, b: &RangeInclusiveMap) -> Told
     ensures { λ r. ⌜ r ≡ toldOf (equality inclusive (held (now (a .entry))) (held (now (b .entry)))) ⌝ }
 {
-    numbers::eq(
+    map_abi::eq(
         KIND,
         &a.count,
         &a.starts,
@@ -164,7 +164,7 @@ pub extern "C" fn range_inclusive_map_eq(a: &RangeInclusiveMap, b: &RangeInclusi
 pub extern "C" fn range_inclusive_map_cmp(a: &RangeInclusiveMap, b: &RangeInclusiveMap) -> Order
     ensures { λ r. ⌜ r ≡ orderOf (ordering inclusive (held (now (a .entry))) (held (now (b .entry)))) ⌝ }
 {
-    numbers::cmp(
+    map_abi::cmp(
         KIND,
         &a.count,
         &a.starts,
@@ -187,7 +187,7 @@ pub extern "C" fn range_inclusive_map_insert(
 ) -> u8
     ensures { λ r. ⌜ leaving r (held (now (m .exit))) ≡ inserting inclusive (held (now (m .entry))) start end value ⌝ }
 {
-    numbers::insert(
+    map_abi::insert(
         KIND,
         &mut m.count,
         &mut m.starts,
@@ -204,7 +204,7 @@ pub extern "C" fn range_inclusive_map_insert(
 pub extern "C" fn range_inclusive_map_remove(m: &mut RangeInclusiveMap, start: i64, end: i64) -> u8
     ensures { λ r. ⌜ leaving r (held (now (m .exit))) ≡ removing inclusive (held (now (m .entry))) start end ⌝ }
 {
-    numbers::remove(
+    map_abi::remove(
         KIND,
         &mut m.count,
         &mut m.starts,
@@ -220,7 +220,7 @@ pub extern "C" fn range_inclusive_map_remove(m: &mut RangeInclusiveMap, start: i
 pub extern "C" fn range_inclusive_map_clear(m: &mut RangeInclusiveMap)
     ensures { λ _. ⌜ (held (now (m .exit))) ≡ cleared inclusive ⌝ }
 {
-    numbers::clear(
+    map_abi::clear(
         KIND,
         &mut m.count,
         &mut m.starts,
@@ -239,7 +239,7 @@ pub extern "C" fn range_inclusive_map_extend(
 ) -> Applied
     ensures { λ r. ⌜ extended r (held (now (m .exit))) ≡ extending inclusive (held (now (m .entry))) (entries (now (starts .entry)) (now (ends .entry)) (now (values .entry))) ⌝ }
 {
-    numbers::extend(
+    map_abi::extend(
         KIND,
         &mut m.count,
         &mut m.starts,
@@ -256,10 +256,10 @@ pub extern "C" fn range_inclusive_map_extend(
 pub extern "C" fn range_inclusive_map_well_formed(m: &RangeInclusiveMap) -> bool
     ensures { λ r. ⌜ r ≡ formed inclusive (held (now (m .entry))) ⌝ }
 {
-    numbers::is_formed(KIND, &m.count, &m.starts, &m.ends, &m.values)
+    map_abi::is_formed(KIND, &m.count, &m.starts, &m.ends, &m.values)
 }
 
-// Lookup through the inner door: the map must be well formed.
+// Lookup through the unchecked door: the map must be well formed.
 #[no_mangle]
 pub extern "C" fn range_inclusive_map_get_key_value_unchecked(
     m: &RangeInclusiveMap,
@@ -268,10 +268,10 @@ pub extern "C" fn range_inclusive_map_get_key_value_unchecked(
     requires { ⌜ Sound inclusive (held (now m)) ⌝ }
     ensures { λ r. ⌜ r ≡ rangeOf (found inclusive (held (now (m .entry))) key) ⌝ }
 {
-    numbers::get_key_value_unchecked(KIND, &m.count, &m.starts, &m.ends, &m.values, key)
+    map_abi::get_key_value_unchecked(KIND, &m.count, &m.starts, &m.ends, &m.values, key)
 }
 
-// Gaps through the inner door: the map must be well formed.
+// Gaps through the unchecked door: the map must be well formed.
 #[no_mangle]
 pub extern "C" fn range_inclusive_map_gaps_unchecked(
     m: &RangeInclusiveMap,
@@ -283,7 +283,7 @@ pub extern "C" fn range_inclusive_map_gaps_unchecked(
     requires { ⌜ Sound inclusive (held (now m)) ⌝ }
     ensures { λ r. ⌜ Listed r (now («out_starts» .exit)) (now («out_ends» .exit)) (uncovered inclusive (held (now (m .entry))) start end (now («out_starts» .entry)) (now («out_ends» .entry))) ⌝ }
 {
-    numbers::gaps_unchecked(
+    map_abi::gaps_unchecked(
         KIND,
         &m.count,
         &m.starts,
@@ -296,7 +296,7 @@ pub extern "C" fn range_inclusive_map_gaps_unchecked(
     )
 }
 
-// Insert through the inner door: the map must be well formed.
+// Insert through the unchecked door: the map must be well formed.
 #[no_mangle]
 pub extern "C" fn range_inclusive_map_insert_unchecked(
     m: &mut RangeInclusiveMap,
@@ -307,7 +307,7 @@ pub extern "C" fn range_inclusive_map_insert_unchecked(
     requires { ⌜ Sound inclusive (held (now m)) ⌝ }
     ensures { λ r. ⌜ leaving r (held (now (m .exit))) ≡ editing inclusive places (held (now (m .entry))) start end (some value) ⌝ }
 {
-    numbers::insert_unchecked(
+    map_abi::insert_unchecked(
         KIND,
         &mut m.count,
         &mut m.starts,
@@ -319,7 +319,7 @@ pub extern "C" fn range_inclusive_map_insert_unchecked(
     )
 }
 
-// Remove through the inner door: the map must be well formed.
+// Remove through the unchecked door: the map must be well formed.
 #[no_mangle]
 pub extern "C" fn range_inclusive_map_remove_unchecked(
     m: &mut RangeInclusiveMap,
@@ -329,7 +329,7 @@ pub extern "C" fn range_inclusive_map_remove_unchecked(
     requires { ⌜ Sound inclusive (held (now m)) ⌝ }
     ensures { λ r. ⌜ leaving r (held (now (m .exit))) ≡ editing inclusive places (held (now (m .entry))) start end none ⌝ }
 {
-    numbers::remove_unchecked(
+    map_abi::remove_unchecked(
         KIND,
         &mut m.count,
         &mut m.starts,

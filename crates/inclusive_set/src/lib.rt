@@ -1,5 +1,5 @@
 // Module 5: the inclusive set, from inclusive_set.rs of rangemap. The exported functions, for C and Rust, are here: each lends all the fields of its set
-// to a function of the crate `set_numbers`, which answers in numbers. Rattle callers use the crate `sets`.
+// to a function of the crate `set_abi`, which answers in numbers. Rattle callers use the crate `set_ops`.
 use key::RangeKind;
 use outcomes::Applied;
 use outcomes::Count;
@@ -14,7 +14,7 @@ ghost use Rattle.key.specs.Range.{inclusive};
 ghost use Rattle.outcomes.specs.Numbers.{toldOf, countOf, rangeOf, stretchOf, orderOf, totalOf};
 ghost use Rattle.outcomes.specs.Outcomes.{Listed, cleared, extended, leaving};
 ghost use Rattle.outcomes.specs.Sets.{formedSet, intersecting, uniting, totalling};
-ghost use Rattle.sets.specs.Answers.{pairs, setContaining, setCounting, setEquality, setExtending, setFirst, setGaps, setInserting, setIsEmpty, setLast, setLookup, setMeeting, setOrdering, setOverlapping, setRangeAt, setRemoving};
+ghost use Rattle.set_ops.specs.Answers.{pairs, setContaining, setCounting, setEquality, setExtending, setFirst, setGaps, setInserting, setIsEmpty, setLast, setLookup, setMeeting, setOrdering, setOverlapping, setRangeAt, setRemoving};
 ghost use Rattle.inclusive_set.specs.Set.{held};
 
 // The kind of this set's ranges.
@@ -47,7 +47,7 @@ pub extern "C" fn range_inclusive_set_new() -> RangeInclusiveSet
 pub extern "C" fn range_inclusive_set_is_empty(m: &RangeInclusiveSet) -> Told
     ensures { λ r. ⌜ r ≡ toldOf (setIsEmpty inclusive (held (now (m .entry)))) ⌝ }
 {
-    set_numbers::is_empty(KIND, &m.count, &m.starts, &m.ends, &m.values)
+    set_abi::is_empty(KIND, &m.count, &m.starts, &m.ends, &m.values)
 }
 
 // How many ranges are held.
@@ -55,7 +55,7 @@ pub extern "C" fn range_inclusive_set_is_empty(m: &RangeInclusiveSet) -> Told
 pub extern "C" fn range_inclusive_set_len(m: &RangeInclusiveSet) -> Count
     ensures { λ r. ⌜ r ≡ countOf (setCounting inclusive (held (now (m .entry)))) ⌝ }
 {
-    set_numbers::len(KIND, &m.count, &m.starts, &m.ends, &m.values)
+    set_abi::len(KIND, &m.count, &m.starts, &m.ends, &m.values)
 }
 
 // The range at a place.
@@ -63,7 +63,7 @@ pub extern "C" fn range_inclusive_set_len(m: &RangeInclusiveSet) -> Count
 pub extern "C" fn range_inclusive_set_range_at(m: &RangeInclusiveSet, place: usize) -> Range
     ensures { λ r. ⌜ r ≡ rangeOf (setRangeAt inclusive (held (now (m .entry))) place) ⌝ }
 {
-    set_numbers::range_at(KIND, &m.count, &m.starts, &m.ends, &m.values, place)
+    set_abi::range_at(KIND, &m.count, &m.starts, &m.ends, &m.values, place)
 }
 
 // The first range.
@@ -71,7 +71,7 @@ pub extern "C" fn range_inclusive_set_range_at(m: &RangeInclusiveSet, place: usi
 pub extern "C" fn range_inclusive_set_first(m: &RangeInclusiveSet) -> Range
     ensures { λ r. ⌜ r ≡ rangeOf (setFirst inclusive (held (now (m .entry)))) ⌝ }
 {
-    set_numbers::first(KIND, &m.count, &m.starts, &m.ends, &m.values)
+    set_abi::first(KIND, &m.count, &m.starts, &m.ends, &m.values)
 }
 
 // The last range.
@@ -79,7 +79,7 @@ pub extern "C" fn range_inclusive_set_first(m: &RangeInclusiveSet) -> Range
 pub extern "C" fn range_inclusive_set_last(m: &RangeInclusiveSet) -> Range
     ensures { λ r. ⌜ r ≡ rangeOf (setLast inclusive (held (now (m .entry)))) ⌝ }
 {
-    set_numbers::last(KIND, &m.count, &m.starts, &m.ends, &m.values)
+    set_abi::last(KIND, &m.count, &m.starts, &m.ends, &m.values)
 }
 
 // The range that holds the key.
@@ -87,7 +87,7 @@ pub extern "C" fn range_inclusive_set_last(m: &RangeInclusiveSet) -> Range
 pub extern "C" fn range_inclusive_set_get(m: &RangeInclusiveSet, key: i64) -> Range
     ensures { λ r. ⌜ r ≡ rangeOf (setLookup inclusive (held (now (m .entry))) key) ⌝ }
 {
-    set_numbers::get(KIND, &m.count, &m.starts, &m.ends, &m.values, key)
+    set_abi::get(KIND, &m.count, &m.starts, &m.ends, &m.values, key)
 }
 
 // Whether some range holds the key.
@@ -95,7 +95,7 @@ pub extern "C" fn range_inclusive_set_get(m: &RangeInclusiveSet, key: i64) -> Ra
 pub extern "C" fn range_inclusive_set_contains(m: &RangeInclusiveSet, key: i64) -> Told
     ensures { λ r. ⌜ r ≡ toldOf (setContaining inclusive (held (now (m .entry))) key) ⌝ }
 {
-    set_numbers::contains(KIND, &m.count, &m.starts, &m.ends, &m.values, key)
+    set_abi::contains(KIND, &m.count, &m.starts, &m.ends, &m.values, key)
 }
 
 // Whether some range has a key of the query.
@@ -103,7 +103,7 @@ pub extern "C" fn range_inclusive_set_contains(m: &RangeInclusiveSet, key: i64) 
 pub extern "C" fn range_inclusive_set_overlaps(m: &RangeInclusiveSet, start: i64, end: i64) -> Told
     ensures { λ r. ⌜ r ≡ toldOf (setMeeting inclusive (held (now (m .entry))) start end) ⌝ }
 {
-    set_numbers::overlaps(KIND, &m.count, &m.starts, &m.ends, &m.values, start, end)
+    set_abi::overlaps(KIND, &m.count, &m.starts, &m.ends, &m.values, start, end)
 }
 
 // Which consecutive stored part meets the query.
@@ -115,7 +115,7 @@ pub extern "C" fn range_inclusive_set_overlapping(
 ) -> Stretch
     ensures { λ r. ⌜ r ≡ stretchOf (setOverlapping inclusive (held (now (m .entry))) start end) ⌝ }
 {
-    set_numbers::overlapping(KIND, &m.count, &m.starts, &m.ends, &m.values, start, end)
+    set_abi::overlapping(KIND, &m.count, &m.starts, &m.ends, &m.values, start, end)
 }
 
 // The maximal uncovered ranges inside start..=end, into the first places of two lent lists.
@@ -129,7 +129,7 @@ pub extern "C" fn range_inclusive_set_gaps(
 ) -> Count
     ensures { λ r. ⌜ Listed r (now («out_starts» .exit)) (now («out_ends» .exit)) (setGaps inclusive (held (now (m .entry))) start end (now («out_starts» .entry)) (now («out_ends» .entry))) ⌝ }
 {
-    set_numbers::gaps(
+    set_abi::gaps(
         KIND,
         &m.count,
         &m.starts,
@@ -147,7 +147,7 @@ pub extern "C" fn range_inclusive_set_gaps(
 pub extern "C" fn range_inclusive_set_eq(a: &RangeInclusiveSet, b: &RangeInclusiveSet) -> Told
     ensures { λ r. ⌜ r ≡ toldOf (setEquality inclusive (held (now (a .entry))) (held (now (b .entry)))) ⌝ }
 {
-    set_numbers::eq(
+    set_abi::eq(
         KIND,
         &a.count,
         &a.starts,
@@ -165,7 +165,7 @@ pub extern "C" fn range_inclusive_set_eq(a: &RangeInclusiveSet, b: &RangeInclusi
 pub extern "C" fn range_inclusive_set_cmp(a: &RangeInclusiveSet, b: &RangeInclusiveSet) -> Order
     ensures { λ r. ⌜ r ≡ orderOf (setOrdering inclusive (held (now (a .entry))) (held (now (b .entry)))) ⌝ }
 {
-    set_numbers::cmp(
+    set_abi::cmp(
         KIND,
         &a.count,
         &a.starts,
@@ -183,7 +183,7 @@ pub extern "C" fn range_inclusive_set_cmp(a: &RangeInclusiveSet, b: &RangeInclus
 pub extern "C" fn range_inclusive_set_insert(m: &mut RangeInclusiveSet, start: i64, end: i64) -> u8
     ensures { λ r. ⌜ leaving r (held (now (m .exit))) ≡ setInserting inclusive (held (now (m .entry))) start end ⌝ }
 {
-    set_numbers::insert(
+    set_abi::insert(
         KIND,
         &mut m.count,
         &mut m.starts,
@@ -199,7 +199,7 @@ pub extern "C" fn range_inclusive_set_insert(m: &mut RangeInclusiveSet, start: i
 pub extern "C" fn range_inclusive_set_remove(m: &mut RangeInclusiveSet, start: i64, end: i64) -> u8
     ensures { λ r. ⌜ leaving r (held (now (m .exit))) ≡ setRemoving inclusive (held (now (m .entry))) start end ⌝ }
 {
-    set_numbers::remove(
+    set_abi::remove(
         KIND,
         &mut m.count,
         &mut m.starts,
@@ -219,7 +219,7 @@ pub extern "C" fn range_inclusive_set_extend(
 ) -> Applied
     ensures { λ r. ⌜ extended r (held (now (m .exit))) ≡ setExtending inclusive (held (now (m .entry))) (pairs (now (starts .entry)) (now (ends .entry))) ⌝ }
 {
-    set_numbers::extend(
+    set_abi::extend(
         KIND,
         &mut m.count,
         &mut m.starts,
@@ -235,7 +235,7 @@ pub extern "C" fn range_inclusive_set_extend(
 pub extern "C" fn range_inclusive_set_clear(m: &mut RangeInclusiveSet)
     ensures { λ _. ⌜ (held (now (m .exit))) ≡ cleared inclusive ⌝ }
 {
-    set_numbers::clear(
+    set_abi::clear(
         KIND,
         &mut m.count,
         &mut m.starts,
@@ -249,7 +249,7 @@ pub extern "C" fn range_inclusive_set_clear(m: &mut RangeInclusiveSet)
 pub extern "C" fn range_inclusive_set_well_formed(m: &RangeInclusiveSet) -> bool
     ensures { λ r. ⌜ r ≡ formedSet inclusive (held (now (m .entry))) ⌝ }
 {
-    set_numbers::is_formed(KIND, &m.count, &m.starts, &m.ends, &m.values)
+    set_abi::is_formed(KIND, &m.count, &m.starts, &m.ends, &m.values)
 }
 
 // The common points of two sets as maximal ranges, into the first places of two lent lists.
@@ -262,7 +262,7 @@ pub extern "C" fn range_inclusive_set_intersection(
 ) -> Count
     ensures { λ r. ⌜ Listed r (now («out_starts» .exit)) (now («out_ends» .exit)) (intersecting inclusive (held (now (a .entry))) (held (now (b .entry))) (now («out_starts» .entry)) (now («out_ends» .entry))) ⌝ }
 {
-    set_numbers::intersection(
+    set_abi::intersection(
         KIND,
         &a.count,
         &a.starts,
@@ -287,7 +287,7 @@ pub extern "C" fn range_inclusive_set_union(
 ) -> Count
     ensures { λ r. ⌜ Listed r (now («out_starts» .exit)) (now («out_ends» .exit)) (uniting inclusive (held (now (a .entry))) (held (now (b .entry))) (now («out_starts» .entry)) (now («out_ends» .entry))) ⌝ }
 {
-    set_numbers::union(
+    set_abi::union(
         KIND,
         &a.count,
         &a.starts,
@@ -307,5 +307,5 @@ pub extern "C" fn range_inclusive_set_union(
 pub extern "C" fn range_inclusive_set_total(m: &RangeInclusiveSet) -> Total
     ensures { λ r. ⌜ r ≡ totalOf (totalling inclusive (held (now (m .entry)))) ⌝ }
 {
-    set_numbers::total(KIND, &m.count, &m.starts, &m.ends, &m.values)
+    set_abi::total(KIND, &m.count, &m.starts, &m.ends, &m.values)
 }

@@ -1,25 +1,27 @@
-// INTERSECTION of two sets: the common points as maximal ranges, from operations.rs, by one walk over both (crate `common_walk`).
+// INTERSECTION of two sets: the common points as maximal ranges, from operations.rs, by one walk over both (crate `intersection::walk`).
 // Nothing is written before it is known that the lent lists are long enough; the ranges are counted for that only where there may be too many.
-use common_walk::step;
-use common_walk::write_from;
+mod walk;
+
+use crate::walk::step;
+use crate::walk::write_from;
 use key::RangeKind;
-use lists::shorter;
 use outcomes::Counted;
 use outcomes::NOT_FORMED;
 use outcomes::PLACES;
 use outcomes::TOO_SHORT;
-use pairs::are_sets;
-use pairs::roomy;
+use range_list::shorter;
+use two_sets::are_sets;
+use two_sets::roomy;
 ghost use mathlib.Core.Path.{_≡_};
 ghost use Prim.Native.Nat.{_≤_};
 ghost use lib.ListN.{length};
-ghost use Rattle.key.specs.Decides.{Decides};
+ghost use Rattle.key.specs.InnerDecides.{Decides};
 ghost use Rattle.key.specs.Range.{kindOf};
 ghost use Rattle.outcomes.specs.Stored.{lent, stored};
 ghost use Rattle.outcomes.specs.Sets.{SoundSet, intersected, intersecting};
-ghost use Rattle.lists.specs.Lists.{wrote, Room, Puts};
-ghost use Rattle.pairs.specs.Sides.{Side};
-ghost use Rattle.common_walk.specs.Found.{shared};
+ghost use Rattle.range_list.specs.InnerLists.{wrote, Room, Puts};
+ghost use Rattle.two_sets.specs.InnerSides.{Side};
+ghost use Rattle.intersection.specs.InnerFound.{shared};
 
 // How many ranges the two sets have in common.
 fn counted(
@@ -114,7 +116,7 @@ fn fits(
     true
 }
 
-// THE INNER DOOR: the sets must be sound. The values are lent as a part of the sets, and none is read.
+// THE UNCHECKED DOOR: the sets must be sound. The values are lent as a part of the sets, and none is read.
 pub fn intersection_unchecked(
     kind: RangeKind,
     count_a: usize,

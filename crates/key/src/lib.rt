@@ -2,12 +2,15 @@
 // Contracts speak of a key's rank, its place among all keys counted from 0, so that nothing overflows in them.
 ghost use mathlib.Core.Path.{_≡_};
 ghost use Prim.Native.Nat.{_+_, _<_};
-ghost use Rattle.key.specs.Decides.{Decides};
+ghost use Rattle.key.specs.InnerDecides.{Decides};
 ghost use Rattle.key.specs.Rank.{rank, keys, lesser, greater};
 ghost use Rattle.key.specs.Range.{kindOf, rangeOf, size, lengthOf};
 
 // The least key, of rank 0.
 pub const LEAST: i64 = -9223372036854775808;
+
+// The greatest key: no key comes after it.
+pub const GREATEST: i64 = 9223372036854775807;
 
 // The two kinds of range: start..end, and start..=end.
 pub enum RangeKind {
@@ -78,6 +81,28 @@ pub fn full(kind: RangeKind, start: i64, end: i64) -> bool
             }
             false
         }
+    }
+}
+
+// The first key after a range. One is added to an inclusive end, so a later key must be known: the greatest key may be an end.
+pub fn after(kind: RangeKind, end: i64) -> i64
+    requires { ⌜ kindOf kind .past end < keys ⌝ }
+    ensures { λ r. ⌜ rank r ≡ kindOf kind .past end ⌝ }
+{
+    match kind {
+        RangeKind::HalfOpen => end,
+        RangeKind::Inclusive => end + 1,
+    }
+}
+
+// The end of a range that goes up to a key, without it.
+pub fn end_before(kind: RangeKind, key: i64) -> i64
+    requires { ⌜ 0 < rank key ⌝ }
+    ensures { λ r. ⌜ r ≡ kindOf kind .ending (rank key) ⌝ }
+{
+    match kind {
+        RangeKind::HalfOpen => key,
+        RangeKind::Inclusive => key - 1,
     }
 }
 

@@ -22,8 +22,8 @@ use Rattle.outcomes.specs.declared.Asked.the-variants as Asked
 use Rattle.outcomes.specs.declared.Found.{Found}
 use Rattle.outcomes.specs.declared.Found.the-variants as Found
 use Rattle.outcomes.specs.declared.Part.the-variants as Part
-use Rattle.places.specs.Check.{place}
-use Rattle.places.specs.Search.{Reached, Begun}
+use Rattle.store.specs.InnerCheck.{place}
+use Rattle.store.specs.InnerSearch.{Reached, Begun}
 use Rattle.lookup.proofs.Places.{nth, Exactly, exactly-inside, missed-free, meets-none}
 use Rattle.outcomes.proofs.Formed.{good}
 use Rattle.lookup.proofs.Returns.{as-many, nth-place, the-first-range, rising, placed-at, placed-none, met-empty, met-yes, met-no, exactly-met, part-empty, part-none, part-some}

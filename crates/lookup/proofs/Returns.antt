@@ -18,9 +18,9 @@ use Rattle.outcomes.specs.declared.Asked.the-variants as Asked
 use Rattle.outcomes.specs.declared.Found.the-variants as Found
 use Rattle.outcomes.specs.declared.Part.the-variants as Part
 use Rattle.outcomes.proofs.Formed.{shape, good, length-ranges, getD-ranges}
-use Rattle.places.specs.Check.{place}
-use Rattle.places.specs.Search.{Reached, Begun}
-use Rattle.places.proofs.Checked.{formed-steps}
+use Rattle.store.specs.InnerCheck.{place}
+use Rattle.store.specs.InnerSearch.{Reached, Begun}
+use Rattle.store.proofs.Checked.{formed-steps}
 use Rattle.lookup.proofs.Places.{nth, First, Exactly, exactly-first, first-as, exactly-as, is-first, the-first, any-first, how-many, Rising, holds-meets, meets-at, meets-none, meets-part}
 
 -- a place of a map

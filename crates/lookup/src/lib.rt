@@ -1,4 +1,4 @@
-// Lookup in a map of either kind. These are the inner doors: they check nothing. From map.rs and inclusive_map.rs of rangemap.
+// Lookup in a map of either kind. These are the unchecked doors: they check nothing. From map.rs and inclusive_map.rs of rangemap.
 // The kinds differ in two places: whether an end is in its range (`reaching`, of the search), and whether a range from one key to another is
 // empty (`full`, of the keys).
 use key::RangeKind;
@@ -6,8 +6,8 @@ use key::full;
 use outcomes::Asked;
 use outcomes::Found;
 use outcomes::Part;
-use places::search::reaching;
-use places::walk::begun;
+use store::search::reaching;
+use store::walk::begun;
 ghost use mathlib.Core.Path.{_≡_};
 ghost use Prim.Native.Nat.{_≤_};
 ghost use lib.ListN.{length};

@@ -1,5 +1,5 @@
 // Module 2: the half-open map, from map.rs of rangemap. The exported functions, for C and Rust, are here: each lends all the fields of
-// its map to a function of the crate `numbers`, which answers in numbers. Rattle callers use the crates `listing`, `finding` and `changing`.
+// its map to a function of the crate `map_abi`, which answers in numbers. Rattle callers use the crates `map_ops`.
 use key::RangeKind;
 use outcomes::Applied;
 use outcomes::Count;
@@ -46,7 +46,7 @@ pub extern "C" fn range_map_new() -> RangeMap
 pub extern "C" fn range_map_is_empty(m: &RangeMap) -> Told
     ensures { λ r. ⌜ r ≡ toldOf (isEmpty halfOpen (held (now (m .entry)))) ⌝ }
 {
-    numbers::is_empty(KIND, &m.count, &m.starts, &m.ends, &m.values)
+    map_abi::is_empty(KIND, &m.count, &m.starts, &m.ends, &m.values)
 }
 
 // How many ranges are held.
@@ -54,7 +54,7 @@ pub extern "C" fn range_map_is_empty(m: &RangeMap) -> Told
 pub extern "C" fn range_map_len(m: &RangeMap) -> Count
     ensures { λ r. ⌜ r ≡ countOf (counting halfOpen (held (now (m .entry)))) ⌝ }
 {
-    numbers::len(KIND, &m.count, &m.starts, &m.ends, &m.values)
+    map_abi::len(KIND, &m.count, &m.starts, &m.ends, &m.values)
 }
 
 // The range and the value at a place.
@@ -62,7 +62,7 @@ pub extern "C" fn range_map_len(m: &RangeMap) -> Count
 pub extern "C" fn range_map_range_at(m: &RangeMap, place: usize) -> Range
     ensures { λ r. ⌜ r ≡ rangeOf (rangeAt halfOpen (held (now (m .entry))) place) ⌝ }
 {
-    numbers::range_at(KIND, &m.count, &m.starts, &m.ends, &m.values, place)
+    map_abi::range_at(KIND, &m.count, &m.starts, &m.ends, &m.values, place)
 }
 
 // The first range and its value.
@@ -70,7 +70,7 @@ pub extern "C" fn range_map_range_at(m: &RangeMap, place: usize) -> Range
 pub extern "C" fn range_map_first_range_value(m: &RangeMap) -> Range
     ensures { λ r. ⌜ r ≡ rangeOf (firstOf halfOpen (held (now (m .entry)))) ⌝ }
 {
-    numbers::first_range_value(KIND, &m.count, &m.starts, &m.ends, &m.values)
+    map_abi::first_range_value(KIND, &m.count, &m.starts, &m.ends, &m.values)
 }
 
 // The last range and its value.
@@ -78,7 +78,7 @@ pub extern "C" fn range_map_first_range_value(m: &RangeMap) -> Range
 pub extern "C" fn range_map_last_range_value(m: &RangeMap) -> Range
     ensures { λ r. ⌜ r ≡ rangeOf (lastOf halfOpen (held (now (m .entry)))) ⌝ }
 {
-    numbers::last_range_value(KIND, &m.count, &m.starts, &m.ends, &m.values)
+    map_abi::last_range_value(KIND, &m.count, &m.starts, &m.ends, &m.values)
 }
 
 // The range that holds the key, and its value.
@@ -86,7 +86,7 @@ pub extern "C" fn range_map_last_range_value(m: &RangeMap) -> Range
 pub extern "C" fn range_map_get_key_value(m: &RangeMap, key: i64) -> Range
     ensures { λ r. ⌜ r ≡ rangeOf (lookup halfOpen (held (now (m .entry))) key) ⌝ }
 {
-    numbers::get_key_value(KIND, &m.count, &m.starts, &m.ends, &m.values, key)
+    map_abi::get_key_value(KIND, &m.count, &m.starts, &m.ends, &m.values, key)
 }
 
 // Whether some range holds the key.
@@ -94,7 +94,7 @@ pub extern "C" fn range_map_get_key_value(m: &RangeMap, key: i64) -> Range
 pub extern "C" fn range_map_contains_key(m: &RangeMap, key: i64) -> Told
     ensures { λ r. ⌜ r ≡ toldOf (containing halfOpen (held (now (m .entry))) key) ⌝ }
 {
-    numbers::contains_key(KIND, &m.count, &m.starts, &m.ends, &m.values, key)
+    map_abi::contains_key(KIND, &m.count, &m.starts, &m.ends, &m.values, key)
 }
 
 // Whether some range has a key of the query.
@@ -102,7 +102,7 @@ pub extern "C" fn range_map_contains_key(m: &RangeMap, key: i64) -> Told
 pub extern "C" fn range_map_overlaps(m: &RangeMap, start: i64, end: i64) -> Told
     ensures { λ r. ⌜ r ≡ toldOf (meeting halfOpen (held (now (m .entry))) start end) ⌝ }
 {
-    numbers::overlaps(KIND, &m.count, &m.starts, &m.ends, &m.values, start, end)
+    map_abi::overlaps(KIND, &m.count, &m.starts, &m.ends, &m.values, start, end)
 }
 
 // Which consecutive stored part meets the query.
@@ -110,7 +110,7 @@ pub extern "C" fn range_map_overlaps(m: &RangeMap, start: i64, end: i64) -> Told
 pub extern "C" fn range_map_overlapping(m: &RangeMap, start: i64, end: i64) -> Stretch
     ensures { λ r. ⌜ r ≡ stretchOf (overlapping halfOpen (held (now (m .entry))) start end) ⌝ }
 {
-    numbers::overlapping(KIND, &m.count, &m.starts, &m.ends, &m.values, start, end)
+    map_abi::overlapping(KIND, &m.count, &m.starts, &m.ends, &m.values, start, end)
 }
 
 // The maximal uncovered ranges inside start..end, into the first places of two lent lists.
@@ -124,7 +124,7 @@ pub extern "C" fn range_map_gaps(
 ) -> Count
     ensures { λ r. ⌜ Listed r (now («out_starts» .exit)) (now («out_ends» .exit)) (gapsIn halfOpen (held (now (m .entry))) start end (now («out_starts» .entry)) (now («out_ends» .entry))) ⌝ }
 {
-    numbers::gaps(
+    map_abi::gaps(
         KIND,
         &m.count,
         &m.starts,
@@ -142,7 +142,7 @@ pub extern "C" fn range_map_gaps(
 pub extern "C" fn range_map_eq(a: &RangeMap, b: &RangeMap) -> Told
     ensures { λ r. ⌜ r ≡ toldOf (equality halfOpen (held (now (a .entry))) (held (now (b .entry)))) ⌝ }
 {
-    numbers::eq(
+    map_abi::eq(
         KIND,
         &a.count,
         &a.starts,
@@ -160,7 +160,7 @@ pub extern "C" fn range_map_eq(a: &RangeMap, b: &RangeMap) -> Told
 pub extern "C" fn range_map_cmp(a: &RangeMap, b: &RangeMap) -> Order
     ensures { λ r. ⌜ r ≡ orderOf (ordering halfOpen (held (now (a .entry))) (held (now (b .entry)))) ⌝ }
 {
-    numbers::cmp(
+    map_abi::cmp(
         KIND,
         &a.count,
         &a.starts,
@@ -178,7 +178,7 @@ pub extern "C" fn range_map_cmp(a: &RangeMap, b: &RangeMap) -> Order
 pub extern "C" fn range_map_insert(m: &mut RangeMap, start: i64, end: i64, value: u8) -> u8
     ensures { λ r. ⌜ leaving r (held (now (m .exit))) ≡ inserting halfOpen (held (now (m .entry))) start end value ⌝ }
 {
-    numbers::insert(
+    map_abi::insert(
         KIND,
         &mut m.count,
         &mut m.starts,
@@ -195,7 +195,7 @@ pub extern "C" fn range_map_insert(m: &mut RangeMap, start: i64, end: i64, value
 pub extern "C" fn range_map_remove(m: &mut RangeMap, start: i64, end: i64) -> u8
     ensures { λ r. ⌜ leaving r (held (now (m .exit))) ≡ removing halfOpen (held (now (m .entry))) start end ⌝ }
 {
-    numbers::remove(
+    map_abi::remove(
         KIND,
         &mut m.count,
         &mut m.starts,
@@ -211,7 +211,7 @@ pub extern "C" fn range_map_remove(m: &mut RangeMap, start: i64, end: i64) -> u8
 pub extern "C" fn range_map_clear(m: &mut RangeMap)
     ensures { λ _. ⌜ (held (now (m .exit))) ≡ cleared halfOpen ⌝ }
 {
-    numbers::clear(
+    map_abi::clear(
         KIND,
         &mut m.count,
         &mut m.starts,
@@ -230,7 +230,7 @@ pub extern "C" fn range_map_extend(
 ) -> Applied
     ensures { λ r. ⌜ extended r (held (now (m .exit))) ≡ extending halfOpen (held (now (m .entry))) (entries (now (starts .entry)) (now (ends .entry)) (now (values .entry))) ⌝ }
 {
-    numbers::extend(
+    map_abi::extend(
         KIND,
         &mut m.count,
         &mut m.starts,
@@ -247,19 +247,19 @@ pub extern "C" fn range_map_extend(
 pub extern "C" fn range_map_well_formed(m: &RangeMap) -> bool
     ensures { λ r. ⌜ r ≡ formed halfOpen (held (now (m .entry))) ⌝ }
 {
-    numbers::is_formed(KIND, &m.count, &m.starts, &m.ends, &m.values)
+    map_abi::is_formed(KIND, &m.count, &m.starts, &m.ends, &m.values)
 }
 
-// Lookup through the inner door: the map must be well formed.
+// Lookup through the unchecked door: the map must be well formed.
 #[no_mangle]
 pub extern "C" fn range_map_get_key_value_unchecked(m: &RangeMap, key: i64) -> Range
     requires { ⌜ Sound halfOpen (held (now m)) ⌝ }
     ensures { λ r. ⌜ r ≡ rangeOf (found halfOpen (held (now (m .entry))) key) ⌝ }
 {
-    numbers::get_key_value_unchecked(KIND, &m.count, &m.starts, &m.ends, &m.values, key)
+    map_abi::get_key_value_unchecked(KIND, &m.count, &m.starts, &m.ends, &m.values, key)
 }
 
-// Gaps through the inner door: the map must be well formed.
+// Gaps through the unchecked door: the map must be well formed.
 #[no_mangle]
 pub extern "C" fn range_map_gaps_unchecked(
     m: &RangeMap,
@@ -271,7 +271,7 @@ pub extern "C" fn range_map_gaps_unchecked(
     requires { ⌜ Sound halfOpen (held (now m)) ⌝ }
     ensures { λ r. ⌜ Listed r (now («out_starts» .exit)) (now («out_ends» .exit)) (uncovered halfOpen (held (now (m .entry))) start end (now («out_starts» .entry)) (now («out_ends» .entry))) ⌝ }
 {
-    numbers::gaps_unchecked(
+    map_abi::gaps_unchecked(
         KIND,
         &m.count,
         &m.starts,
@@ -284,7 +284,7 @@ pub extern "C" fn range_map_gaps_unchecked(
     )
 }
 
-// Insert through the inner door: the map must be well formed.
+// Insert through the unchecked door: the map must be well formed.
 #[no_mangle]
 pub extern "C" fn range_map_insert_unchecked(
     m: &mut RangeMap,
@@ -295,7 +295,7 @@ pub extern "C" fn range_map_insert_unchecked(
     requires { ⌜ Sound halfOpen (held (now m)) ⌝ }
     ensures { λ r. ⌜ leaving r (held (now (m .exit))) ≡ editing halfOpen places (held (now (m .entry))) start end (some value) ⌝ }
 {
-    numbers::insert_unchecked(
+    map_abi::insert_unchecked(
         KIND,
         &mut m.count,
         &mut m.starts,
@@ -307,13 +307,13 @@ pub extern "C" fn range_map_insert_unchecked(
     )
 }
 
-// Remove through the inner door: the map must be well formed.
+// Remove through the unchecked door: the map must be well formed.
 #[no_mangle]
 pub extern "C" fn range_map_remove_unchecked(m: &mut RangeMap, start: i64, end: i64) -> u8
     requires { ⌜ Sound halfOpen (held (now m)) ⌝ }
     ensures { λ r. ⌜ leaving r (held (now (m .exit))) ≡ editing halfOpen places (held (now (m .entry))) start end none ⌝ }
 {
-    numbers::remove_unchecked(
+    map_abi::remove_unchecked(
         KIND,
         &mut m.count,
         &mut m.starts,

@@ -1,4 +1,4 @@
-// The inner door of one instant of a query.
+// The unchecked door of one instant of a query.
 use map::RangeMap;
 use outcomes::PLACES;
 use outcomes::Told;

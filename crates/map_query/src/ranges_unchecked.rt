@@ -1,4 +1,4 @@
-// The inner door of the ranges of a query.
+// The unchecked door of the ranges of a query.
 use map::RangeMap;
 use outcomes::Count;
 use outcomes::PLACES;

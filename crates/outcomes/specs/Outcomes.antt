@@ -1,5 +1,5 @@
 -- Document 01, modules 2 and 3: what each function of a map answers, and what it leaves in all lent memory. `kind` is `halfOpen` or `inclusive`.
--- First what is answered of a well-formed map (the inner doors of the code promise that), then the same of any map: 4 if it is not well formed.
+-- First what is answered of a well-formed map (the unchecked doors of the code promise that), then the same of any map: 4 if it is not well formed.
 -- Refusals in the order of document 01: 4 the map is not well formed, 1 the range is empty or reversed, 5 there is none, 2 the map would be too large,
 -- 3 the lent output is too short.
 use Prim.Native.Nat.{ℕ, suc, _-_, min, Ordering, Ordering·lt, Ordering·eq, Ordering·gt}

@@ -1,5 +1,5 @@
 -- Document 01, modules 4 and 5: a set is a map whose values are all 0. What is asked of two sets, intersection and union, and of one, its total.
--- `kind` is `halfOpen` or `inclusive`. First what is answered of well-formed sets (the inner doors of the code promise that), then the same of any:
+-- `kind` is `halfOpen` or `inclusive`. First what is answered of well-formed sets (the unchecked doors of the code promise that), then the same of any:
 -- 4 if a set is not well formed or holds a value but 0, then 9 if a total is over 2^64 - 1, then 3 if the lent output is too short.
 use Prim.Native.Nat.{ℕ}
 use mathlib.Core.Path.{_≡_}
@@ -21,7 +21,7 @@ use Rattle.outcomes.specs.declared.Totalled.the-variants as Totalled
 unfoldable pub plain : Stored → Bool
 plain m = noughts (m .values)
 
--- what an inner door requires of the set that it is lent: a sound map whose values are all 0. The check finds that out
+-- what an unchecked door requires of the set that it is lent: a sound map whose values are all 0. The check finds that out
 pub record SoundSet (kind : Kind) (m : Stored) : Type 0 where
   pub sound : Sound kind m
   pub plain-too : plain m ≡ true

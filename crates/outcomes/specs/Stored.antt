@@ -85,7 +85,7 @@ Spare l n z = (k : ℕ) → n ≤ k → getD l k z ≡ z
 abbrev pub AllFit : List ℤ → Type 0
 AllFit l = (k : ℕ) → SFits w64 (getD l k (pos 0))
 
--- what an inner door requires of the map that it is lent: its columns are of one length, its keys are i64, and it is well formed. The check finds that out
+-- what an unchecked door requires of the map that it is lent: its columns are of one length, its keys are i64, and it is well formed. The check finds that out
 pub record Sound (kind : Kind) (m : Stored) : Type 0 where
   pub ends-as : length (m .ends) ≡ length (m .starts)
   pub values-as : length (m .values) ≡ length (m .starts)

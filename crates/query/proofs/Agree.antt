@@ -23,7 +23,7 @@ use Rattle.outcomes.specs.declared.Counted.{Counted}
 use Rattle.outcomes.specs.declared.Counted.the-variants as Counted
 use Rattle.outcomes.specs.declared.Count.{Count}
 use Rattle.outcomes.proofs.Sets.{covers}
-use Rattle.lists.specs.Columns.{rows}
+use Rattle.range_list.specs.InnerColumns.{rows}
 use Rattle.query_text.specs.Grammar.{Query, Is}
 use Rattle.query_text.proofs.Unambiguous.{unambiguous}
 use Rattle.query.specs.Result.{isTrue, marked}
@@ -136,7 +136,7 @@ module _ (a b : Stored) (s e : ℤ) (bytes : List ℕ) (os oe : List ℤ) where
   pub refused-list : (k : ℤ) (n : ℕ) → (n ≡ 3 → ⊥) → querying a b s e bytes os oe .answer ≡ Counted.Refused n → queryingAt a b s e bytes k ≡ Asked.Refused n
   refused-list k = answered-list (querying-answers a b s e bytes os oe k)
 
--- OF WELL-FORMED MAPS: what the inner doors promise
+-- OF WELL-FORMED MAPS: what the unchecked doors promise
 module _ (a b : Stored) (ta : Tidy 0 (ranges halfOpen a)) (tb : Tidy 0 (ranges halfOpen b)) (s e : ℤ) (bytes : List ℕ) (os oe : List ℤ) where
   pub queried-means : (n : ℕ) → queried a b s e bytes os oe .answer ≡ Counted.Count n → IsResult a b s e bytes (writtenRanges n (queried a b s e bytes os oe))
   queried-means = answered-means (queried-answers a b s e bytes os oe s ta tb)

@@ -22,7 +22,7 @@ use Rattle.outcomes.specs.declared.Count.{Count}
 use Rattle.outcomes.specs.declared.Told.{Told}
 use Rattle.outcomes.proofs.Sets.{covers}
 use Rattle.outcomes.proofs.Unique.{list-one}
-use Rattle.lists.specs.Columns.{rows}
+use Rattle.range_list.specs.InnerColumns.{rows}
 use Rattle.query_text.specs.Grammar.{Query, Is}
 use Rattle.query_text.proofs.Alike.{Alike}
 use Rattle.query.specs.Answers.{resultOf, querying, queryingAt}

@@ -14,8 +14,8 @@ use Rattle.key.proofs.Lawful.{Lawful}
 use Rattle.outcomes.specs.Stored.{spans}
 use Rattle.outcomes.specs.Outcomes.{Written, writing}
 use Rattle.outcomes.specs.declared.Counted.the-variants as Counted
-use Rattle.lists.specs.Lists.{startsOf, endsOf}
-use Rattle.lists.specs.Columns.{rows}
+use Rattle.range_list.specs.InnerLists.{startsOf, endsOf}
+use Rattle.range_list.specs.InnerColumns.{rows}
 
 module _ (kind : Kind) (law : Lawful kind) where
   rows-back : (b : ℕ) (xs : List Span) (rs re : List ℤ) → Ordered b xs → Plain xs → Upto (law .limit) xs

@@ -10,10 +10,10 @@ use lib.IntN.{ℤ}
 use Rattle.span.specs.Span.{Span, Means}
 use Rattle.key.specs.Rank.{rank, keyAt}
 use Rattle.key.specs.Range.{halfOpen}
-use Rattle.key.specs.Decides.{Decides}
+use Rattle.key.specs.InnerDecides.{Decides}
 use Rattle.outcomes.specs.Stored.{Stored, ranges}
 use Rattle.outcomes.specs.Outcomes.{Written, writing}
-use Rattle.lists.specs.Lists.{Room, Puts}
+use Rattle.range_list.specs.InnerLists.{Room, Puts}
 use Rattle.query_text.specs.declared.truth.Truth.{Truth}
 use Rattle.query.specs.Result.{marked}
 use Rattle.query.specs.InnerWalk.{saysAt}

@@ -1,7 +1,7 @@
 // The check of two lent maps.
 use key::RangeKind;
 use outcomes::PLACES;
-use places::formed::is_formed;
+use store::formed::is_formed;
 ghost use mathlib.Core.Path.{_≡_};
 ghost use mathlib.Core.Bool.{true, _&&_};
 ghost use Rattle.key.specs.Range.{halfOpen};

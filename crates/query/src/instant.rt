@@ -59,7 +59,7 @@ fn by_table(
     Asked::No
 }
 
-// THE INNER DOOR: the maps must be sound.
+// THE UNCHECKED DOOR: the maps must be sound.
 pub fn query_at_unchecked(
     count_a: usize,
     starts_a: &[i64],

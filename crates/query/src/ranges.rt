@@ -3,7 +3,6 @@ use crate::BAD_QUERY;
 use crate::formed::are_formed;
 use crate::walk::walk_at;
 use crate::written;
-use lists::shorter;
 use outcomes::Counted;
 use outcomes::EMPTY_RANGE;
 use outcomes::NOT_FORMED;
@@ -12,12 +11,13 @@ use outcomes::TOO_SHORT;
 use query_text::reader::Reading;
 use query_text::reader::read_query;
 use query_text::truth::Truth;
+use range_list::shorter;
 ghost use mathlib.Core.Path.{_≡_};
 ghost use Prim.Native.Nat.{_<_};
 ghost use Rattle.key.specs.Rank.{rank};
 ghost use Rattle.key.specs.Range.{halfOpen};
 ghost use Rattle.outcomes.specs.Stored.{lent, Sound};
-ghost use Rattle.lists.specs.Lists.{wrote};
+ghost use Rattle.range_list.specs.InnerLists.{wrote};
 ghost use Rattle.query.specs.InnerColumns.{columns};
 ghost use Rattle.query.specs.Answers.{queried, querying};
 ghost use Rattle.query.specs.InnerWritten.{Known, WritesAll};
@@ -79,7 +79,7 @@ fn by_table(
     ))
 }
 
-// THE INNER DOOR: the maps must be sound.
+// THE UNCHECKED DOOR: the maps must be sound.
 pub fn query_unchecked(
     count_a: usize,
     starts_a: &[i64],

@@ -2,10 +2,10 @@
 use crate::walk::Walk;
 use crate::walk::edge;
 use crate::walk::quick_cell;
-use lists::put;
-use pairs::pick;
-use pairs::roomy;
 use query_text::truth::Truth;
+use range_list::put;
+use two_sets::pick;
+use two_sets::roomy;
 ghost use mathlib.Core.Path.{_≡_};
 ghost use mathlib.Core.Bool.{false};
 ghost use Prim.Native.Nat.{_≤_, _<_};

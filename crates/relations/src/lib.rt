@@ -7,7 +7,7 @@ use key::RangeKind;
 use key::full;
 ghost use mathlib.Core.Path.{_≡_};
 ghost use Prim.Native.Nat.{_<_};
-ghost use Rattle.key.specs.Decides.{Decides};
+ghost use Rattle.key.specs.InnerDecides.{Decides};
 ghost use Rattle.key.specs.Rank.{rank};
 ghost use Rattle.key.specs.Range.{kindOf};
 ghost use Rattle.relations.specs.Relations.{containing, overlapping, touching, intersecting, relationNumbers, commonNumbers};

@@ -7,7 +7,7 @@ use lib.Dec.{lt→ltb}
 use lib.Ieee.{binary64, ofBits}
 use Rattle.key.specs.Rank.{rank}
 use Rattle.key.proofs.Laws.{rank-pos}
-use Rattle.duty.specs.Walk.{limit}
+use Rattle.duty.specs.InnerWalk.{limit}
 use Rattle.log_day.specs.Days.{dayOf}
 use Rattle.log_day.specs.declared.Day.the-variants as Day
 use Rattle.log_day.proofs.Spans.{held, short, long, plain}

@@ -6,7 +6,7 @@ use key::RangeKind;
 use log_day::Day;
 use outcomes::NOT_FORMED;
 use outcomes::PLACES;
-use places::formed::is_formed;
+use store::formed::is_formed;
 ghost use mathlib.Core.Path.{_≡_};
 ghost use Rattle.key.specs.Range.{halfOpen};
 ghost use Rattle.outcomes.specs.Stored.{stored, lent, Sound};

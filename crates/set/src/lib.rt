@@ -1,5 +1,5 @@
 // Module 5: the half-open set, from set.rs of rangemap. The exported functions, for C and Rust, are here: each lends all the fields of its set
-// to a function of the crate `set_numbers`, which answers in numbers. Rattle callers use the crate `sets`.
+// to a function of the crate `set_abi`, which answers in numbers. Rattle callers use the crate `set_ops`.
 use key::RangeKind;
 use outcomes::Applied;
 use outcomes::Count;
@@ -14,7 +14,7 @@ ghost use Rattle.key.specs.Range.{halfOpen};
 ghost use Rattle.outcomes.specs.Numbers.{toldOf, countOf, rangeOf, stretchOf, orderOf, totalOf};
 ghost use Rattle.outcomes.specs.Outcomes.{Listed, cleared, extended, leaving};
 ghost use Rattle.outcomes.specs.Sets.{formedSet, intersecting, uniting, totalling};
-ghost use Rattle.sets.specs.Answers.{pairs, setContaining, setCounting, setEquality, setExtending, setFirst, setGaps, setInserting, setIsEmpty, setLast, setLookup, setMeeting, setOrdering, setOverlapping, setRangeAt, setRemoving};
+ghost use Rattle.set_ops.specs.Answers.{pairs, setContaining, setCounting, setEquality, setExtending, setFirst, setGaps, setInserting, setIsEmpty, setLast, setLookup, setMeeting, setOrdering, setOverlapping, setRangeAt, setRemoving};
 ghost use Rattle.set.specs.Set.{held};
 
 // The kind of this set's ranges.
@@ -47,7 +47,7 @@ pub extern "C" fn range_set_new() -> RangeSet
 pub extern "C" fn range_set_is_empty(m: &RangeSet) -> Told
     ensures { λ r. ⌜ r ≡ toldOf (setIsEmpty halfOpen (held (now (m .entry)))) ⌝ }
 {
-    set_numbers::is_empty(KIND, &m.count, &m.starts, &m.ends, &m.values)
+    set_abi::is_empty(KIND, &m.count, &m.starts, &m.ends, &m.values)
 }
 
 // How many ranges are held.
@@ -55,7 +55,7 @@ pub extern "C" fn range_set_is_empty(m: &RangeSet) -> Told
 pub extern "C" fn range_set_len(m: &RangeSet) -> Count
     ensures { λ r. ⌜ r ≡ countOf (setCounting halfOpen (held (now (m .entry)))) ⌝ }
 {
-    set_numbers::len(KIND, &m.count, &m.starts, &m.ends, &m.values)
+    set_abi::len(KIND, &m.count, &m.starts, &m.ends, &m.values)
 }
 
 // The range at a place.
@@ -63,7 +63,7 @@ pub extern "C" fn range_set_len(m: &RangeSet) -> Count
 pub extern "C" fn range_set_range_at(m: &RangeSet, place: usize) -> Range
     ensures { λ r. ⌜ r ≡ rangeOf (setRangeAt halfOpen (held (now (m .entry))) place) ⌝ }
 {
-    set_numbers::range_at(KIND, &m.count, &m.starts, &m.ends, &m.values, place)
+    set_abi::range_at(KIND, &m.count, &m.starts, &m.ends, &m.values, place)
 }
 
 // The first range.
@@ -71,7 +71,7 @@ pub extern "C" fn range_set_range_at(m: &RangeSet, place: usize) -> Range
 pub extern "C" fn range_set_first(m: &RangeSet) -> Range
     ensures { λ r. ⌜ r ≡ rangeOf (setFirst halfOpen (held (now (m .entry)))) ⌝ }
 {
-    set_numbers::first(KIND, &m.count, &m.starts, &m.ends, &m.values)
+    set_abi::first(KIND, &m.count, &m.starts, &m.ends, &m.values)
 }
 
 // The last range.
@@ -79,7 +79,7 @@ pub extern "C" fn range_set_first(m: &RangeSet) -> Range
 pub extern "C" fn range_set_last(m: &RangeSet) -> Range
     ensures { λ r. ⌜ r ≡ rangeOf (setLast halfOpen (held (now (m .entry)))) ⌝ }
 {
-    set_numbers::last(KIND, &m.count, &m.starts, &m.ends, &m.values)
+    set_abi::last(KIND, &m.count, &m.starts, &m.ends, &m.values)
 }
 
 // The range that holds the key.
@@ -87,7 +87,7 @@ pub extern "C" fn range_set_last(m: &RangeSet) -> Range
 pub extern "C" fn range_set_get(m: &RangeSet, key: i64) -> Range
     ensures { λ r. ⌜ r ≡ rangeOf (setLookup halfOpen (held (now (m .entry))) key) ⌝ }
 {
-    set_numbers::get(KIND, &m.count, &m.starts, &m.ends, &m.values, key)
+    set_abi::get(KIND, &m.count, &m.starts, &m.ends, &m.values, key)
 }
 
 // Whether some range holds the key.
@@ -95,7 +95,7 @@ pub extern "C" fn range_set_get(m: &RangeSet, key: i64) -> Range
 pub extern "C" fn range_set_contains(m: &RangeSet, key: i64) -> Told
     ensures { λ r. ⌜ r ≡ toldOf (setContaining halfOpen (held (now (m .entry))) key) ⌝ }
 {
-    set_numbers::contains(KIND, &m.count, &m.starts, &m.ends, &m.values, key)
+    set_abi::contains(KIND, &m.count, &m.starts, &m.ends, &m.values, key)
 }
 
 // Whether some range has a key of the query.
@@ -103,7 +103,7 @@ pub extern "C" fn range_set_contains(m: &RangeSet, key: i64) -> Told
 pub extern "C" fn range_set_overlaps(m: &RangeSet, start: i64, end: i64) -> Told
     ensures { λ r. ⌜ r ≡ toldOf (setMeeting halfOpen (held (now (m .entry))) start end) ⌝ }
 {
-    set_numbers::overlaps(KIND, &m.count, &m.starts, &m.ends, &m.values, start, end)
+    set_abi::overlaps(KIND, &m.count, &m.starts, &m.ends, &m.values, start, end)
 }
 
 // Which consecutive stored part meets the query.
@@ -111,7 +111,7 @@ pub extern "C" fn range_set_overlaps(m: &RangeSet, start: i64, end: i64) -> Told
 pub extern "C" fn range_set_overlapping(m: &RangeSet, start: i64, end: i64) -> Stretch
     ensures { λ r. ⌜ r ≡ stretchOf (setOverlapping halfOpen (held (now (m .entry))) start end) ⌝ }
 {
-    set_numbers::overlapping(KIND, &m.count, &m.starts, &m.ends, &m.values, start, end)
+    set_abi::overlapping(KIND, &m.count, &m.starts, &m.ends, &m.values, start, end)
 }
 
 // The maximal uncovered ranges inside start..end, into the first places of two lent lists.
@@ -125,7 +125,7 @@ pub extern "C" fn range_set_gaps(
 ) -> Count
     ensures { λ r. ⌜ Listed r (now («out_starts» .exit)) (now («out_ends» .exit)) (setGaps halfOpen (held (now (m .entry))) start end (now («out_starts» .entry)) (now («out_ends» .entry))) ⌝ }
 {
-    set_numbers::gaps(
+    set_abi::gaps(
         KIND,
         &m.count,
         &m.starts,
@@ -143,7 +143,7 @@ pub extern "C" fn range_set_gaps(
 pub extern "C" fn range_set_eq(a: &RangeSet, b: &RangeSet) -> Told
     ensures { λ r. ⌜ r ≡ toldOf (setEquality halfOpen (held (now (a .entry))) (held (now (b .entry)))) ⌝ }
 {
-    set_numbers::eq(
+    set_abi::eq(
         KIND,
         &a.count,
         &a.starts,
@@ -161,7 +161,7 @@ pub extern "C" fn range_set_eq(a: &RangeSet, b: &RangeSet) -> Told
 pub extern "C" fn range_set_cmp(a: &RangeSet, b: &RangeSet) -> Order
     ensures { λ r. ⌜ r ≡ orderOf (setOrdering halfOpen (held (now (a .entry))) (held (now (b .entry)))) ⌝ }
 {
-    set_numbers::cmp(
+    set_abi::cmp(
         KIND,
         &a.count,
         &a.starts,
@@ -179,7 +179,7 @@ pub extern "C" fn range_set_cmp(a: &RangeSet, b: &RangeSet) -> Order
 pub extern "C" fn range_set_insert(m: &mut RangeSet, start: i64, end: i64) -> u8
     ensures { λ r. ⌜ leaving r (held (now (m .exit))) ≡ setInserting halfOpen (held (now (m .entry))) start end ⌝ }
 {
-    set_numbers::insert(
+    set_abi::insert(
         KIND,
         &mut m.count,
         &mut m.starts,
@@ -195,7 +195,7 @@ pub extern "C" fn range_set_insert(m: &mut RangeSet, start: i64, end: i64) -> u8
 pub extern "C" fn range_set_remove(m: &mut RangeSet, start: i64, end: i64) -> u8
     ensures { λ r. ⌜ leaving r (held (now (m .exit))) ≡ setRemoving halfOpen (held (now (m .entry))) start end ⌝ }
 {
-    set_numbers::remove(
+    set_abi::remove(
         KIND,
         &mut m.count,
         &mut m.starts,
@@ -211,7 +211,7 @@ pub extern "C" fn range_set_remove(m: &mut RangeSet, start: i64, end: i64) -> u8
 pub extern "C" fn range_set_extend(m: &mut RangeSet, starts: &[i64], ends: &[i64]) -> Applied
     ensures { λ r. ⌜ extended r (held (now (m .exit))) ≡ setExtending halfOpen (held (now (m .entry))) (pairs (now (starts .entry)) (now (ends .entry))) ⌝ }
 {
-    set_numbers::extend(
+    set_abi::extend(
         KIND,
         &mut m.count,
         &mut m.starts,
@@ -227,7 +227,7 @@ pub extern "C" fn range_set_extend(m: &mut RangeSet, starts: &[i64], ends: &[i64
 pub extern "C" fn range_set_clear(m: &mut RangeSet)
     ensures { λ _. ⌜ (held (now (m .exit))) ≡ cleared halfOpen ⌝ }
 {
-    set_numbers::clear(
+    set_abi::clear(
         KIND,
         &mut m.count,
         &mut m.starts,
@@ -241,7 +241,7 @@ pub extern "C" fn range_set_clear(m: &mut RangeSet)
 pub extern "C" fn range_set_well_formed(m: &RangeSet) -> bool
     ensures { λ r. ⌜ r ≡ formedSet halfOpen (held (now (m .entry))) ⌝ }
 {
-    set_numbers::is_formed(KIND, &m.count, &m.starts, &m.ends, &m.values)
+    set_abi::is_formed(KIND, &m.count, &m.starts, &m.ends, &m.values)
 }
 
 // The common points of two sets as maximal ranges, into the first places of two lent lists.
@@ -254,7 +254,7 @@ pub extern "C" fn range_set_intersection(
 ) -> Count
     ensures { λ r. ⌜ Listed r (now («out_starts» .exit)) (now («out_ends» .exit)) (intersecting halfOpen (held (now (a .entry))) (held (now (b .entry))) (now («out_starts» .entry)) (now («out_ends» .entry))) ⌝ }
 {
-    set_numbers::intersection(
+    set_abi::intersection(
         KIND,
         &a.count,
         &a.starts,
@@ -279,7 +279,7 @@ pub extern "C" fn range_set_union(
 ) -> Count
     ensures { λ r. ⌜ Listed r (now («out_starts» .exit)) (now («out_ends» .exit)) (uniting halfOpen (held (now (a .entry))) (held (now (b .entry))) (now («out_starts» .entry)) (now («out_ends» .entry))) ⌝ }
 {
-    set_numbers::union(
+    set_abi::union(
         KIND,
         &a.count,
         &a.starts,
@@ -299,5 +299,5 @@ pub extern "C" fn range_set_union(
 pub extern "C" fn range_set_total(m: &RangeSet) -> Total
     ensures { λ r. ⌜ r ≡ totalOf (totalling halfOpen (held (now (m .entry)))) ⌝ }
 {
-    set_numbers::total(KIND, &m.count, &m.starts, &m.ends, &m.values)
+    set_abi::total(KIND, &m.count, &m.starts, &m.ends, &m.values)
 }

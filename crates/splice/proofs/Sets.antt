@@ -6,7 +6,7 @@ use native.Mathlib.Omega.{arith}
 use native.Mathlib.Numerals.{add-one, sub-one}
 use native.Mathlib.Nat.{add-zero, add-suc, lt-irrefl}
 use lib.ListN.{length, getD, set, take, drop, replicate, replicate-append-replicate, length-replicate, length-drop, length-append, length-take, drop-of-length-le}
-use Rattle.splice.specs.Splice.{moved, cleared, Spare, spliced}
+use Rattle.splice.specs.InnerSplice.{moved, cleared, Spare, spliced}
 use lib.Seq.{sets, getD-set-other, set-comm, take-suc, drop-cons, getD-drop, getD-take, length-take-le, sets-eq, take-append-le, take-take, take-at, drop-at, drop-append-add, drop-drop}
 
 module _ {A : Type 0} where

@@ -3,7 +3,7 @@ ghost use mathlib.Core.List.{[], _∷_};
 ghost use Prim.Native.Nat.{_+_, _-_, _<_, _≤_};
 ghost use lib.ListN.{length, take};
 ghost use lib.IntN.{pos};
-ghost use Rattle.splice.specs.Splice.{moved, cleared, put, Spare, spliced};
+ghost use Rattle.splice.specs.InnerSplice.{moved, cleared, put, Spare, spliced};
 
 fn move_left_i64(a: &mut [i64], from: usize, to: usize, n: usize)
     requires { ⌜ (to ≤ from) × (from + n ≤ length (now a)) ⌝ }

@@ -2,8 +2,8 @@
 // program prints the reader's answer as a digit, the form of the map that is there then, which is the empty one where the reader refused, and a line's end.
 use outcomes::Counted;
 use outcomes::PLACES;
-use test_text::print;
-use test_text::print_number;
+use test_print::print;
+use test_print::print_number;
 
 fn print_first(out: &[u8], n: usize) {
     if n <= out.len() {
@@ -24,9 +24,11 @@ fn read_and_write(bytes: &[u8]) {
     let mut starts = [0i64; PLACES];
     let mut ends = [0i64; PLACES];
     let mut values = [0u8; PLACES];
-    print_number(byte_read::read(&mut count, &mut starts, &mut ends, &mut values, bytes) as u64);
+    print_number(
+        byte_io::read::read(&mut count, &mut starts, &mut ends, &mut values, bytes) as u64,
+    );
     let mut out = [0u8; 9000];
-    let wrote = byte_write::write(&count, &starts, &ends, &values, &mut out);
+    let wrote = byte_io::write::write(&count, &starts, &ends, &values, &mut out);
     print_written(&out, wrote);
 }
 

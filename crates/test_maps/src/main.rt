@@ -13,15 +13,15 @@ use outcomes::PLACES;
 use outcomes::Range;
 use outcomes::Stretch;
 use outcomes::Told;
-use test_text::Ends;
-use test_text::print;
-use test_text::print_field;
-use test_text::print_key;
-use test_text::print_list;
-use test_text::print_number;
-use test_text::print_range;
-use test_text::print_told;
-use test_text::read_byte;
+use test_print::Ends;
+use test_print::print;
+use test_print::print_field;
+use test_print::print_key;
+use test_print::print_list;
+use test_print::print_number;
+use test_print::print_range;
+use test_print::print_told;
+use test_print::read_byte;
 
 // As many places as the lists of a step have at most.
 const LISTED: usize = 9;
@@ -213,11 +213,11 @@ fn print_applied(r: Applied) {
 }
 
 fn len(m: Map) -> Count {
-    numbers::len(m.kind, &m.count, &m.starts, &m.ends, &m.values)
+    map_abi::len(m.kind, &m.count, &m.starts, &m.ends, &m.values)
 }
 
 fn range_at(m: Map, place: usize) -> Range {
-    numbers::range_at(m.kind, &m.count, &m.starts, &m.ends, &m.values, place)
+    map_abi::range_at(m.kind, &m.count, &m.starts, &m.ends, &m.values, place)
 }
 
 // The comma before all places but the first.
@@ -314,7 +314,7 @@ fn insert(m: Map, r: Ends, value: u8) -> Edited {
     let mut starts = m.starts;
     let mut ends = m.ends;
     let mut values = m.values;
-    let answer = numbers::insert(
+    let answer = map_abi::insert(
         kind,
         &mut count,
         &mut starts,
@@ -349,7 +349,7 @@ fn remove(m: Map, r: Ends) -> Edited {
     let mut starts = m.starts;
     let mut ends = m.ends;
     let mut values = m.values;
-    let answer = numbers::remove(
+    let answer = map_abi::remove(
         kind,
         &mut count,
         &mut starts,
@@ -382,7 +382,7 @@ fn clear(m: Map) -> Map {
     let mut starts = m.starts;
     let mut ends = m.ends;
     let mut values = m.values;
-    numbers::clear(kind, &mut count, &mut starts, &mut ends, &mut values);
+    map_abi::clear(kind, &mut count, &mut starts, &mut ends, &mut values);
     io::write_all(1, b"clear\n");
     Map {
         kind: kind,
@@ -494,10 +494,10 @@ fn answer_overlapping<'a>(
     values: &'a [u8; PLACES],
     r: Ends,
 ) {
-    print_stretch(numbers::overlapping(kind, count, starts, ends, values, r.start, r.end));
+    print_stretch(map_abi::overlapping(kind, count, starts, ends, values, r.start, r.end));
     print(b'\n');
     print_asked(b"overlaps", kind, r);
-    print_yes(numbers::overlaps(kind, count, starts, ends, values, r.start, r.end));
+    print_yes(map_abi::overlaps(kind, count, starts, ends, values, r.start, r.end));
 }
 
 fn answer_gaps_into<'a>(
@@ -510,7 +510,7 @@ fn answer_gaps_into<'a>(
     out_starts: &mut [i64],
     out_ends: &mut [i64],
 ) {
-    print_count(numbers::gaps(
+    print_count(map_abi::gaps(
         kind,
         count,
         starts,
@@ -560,25 +560,25 @@ fn answer<'a>(
 ) {
     let what = s.what;
     match what {
-        b'e' => print_yes(numbers::is_empty(kind, count, starts, ends, values)),
-        b'n' => print_count(numbers::len(kind, count, starts, ends, values)),
+        b'e' => print_yes(map_abi::is_empty(kind, count, starts, ends, values)),
+        b'n' => print_count(map_abi::len(kind, count, starts, ends, values)),
         b'h' => print_found(
             kind,
-            numbers::first_range_value(kind, count, starts, ends, values),
+            map_abi::first_range_value(kind, count, starts, ends, values),
         ),
         b'l' => print_found(
             kind,
-            numbers::last_range_value(kind, count, starts, ends, values),
+            map_abi::last_range_value(kind, count, starts, ends, values),
         ),
         b'p' => print_found(
             kind,
-            numbers::range_at(kind, count, starts, ends, values, digit(s.one) as usize),
+            map_abi::range_at(kind, count, starts, ends, values, digit(s.one) as usize),
         ),
         b'g' => print_found(
             kind,
-            numbers::get_key_value(kind, count, starts, ends, values, key_of(s.one)),
+            map_abi::get_key_value(kind, count, starts, ends, values, key_of(s.one)),
         ),
-        b'k' => print_yes(numbers::contains_key(kind, count, starts, ends, values, key_of(s.one))),
+        b'k' => print_yes(map_abi::contains_key(kind, count, starts, ends, values, key_of(s.one))),
         b'o' => answer_overlapping(kind, count, starts, ends, values, ends_of(s)),
         b'w' => answer_gaps(
             kind,
@@ -611,7 +611,7 @@ fn compare_by<'a, 'b>(
     values2: &'b [u8; PLACES],
 ) {
     io::write_all(1, b"eq");
-    print_yes(numbers::eq(
+    print_yes(map_abi::eq(
         kind,
         count,
         starts,
@@ -623,7 +623,7 @@ fn compare_by<'a, 'b>(
         values2,
     ));
     io::write_all(1, b", cmp");
-    print_order(numbers::cmp(
+    print_order(map_abi::cmp(
         kind,
         count,
         starts,
@@ -690,7 +690,7 @@ fn extend(m: Map, new_starts: &[i64], new_ends: &[i64], new_values: &[u8]) -> Ma
     let mut starts = m.starts;
     let mut ends = m.ends;
     let mut values = m.values;
-    print_applied(numbers::extend(
+    print_applied(map_abi::extend(
         kind,
         &mut count,
         &mut starts,

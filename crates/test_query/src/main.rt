@@ -9,13 +9,13 @@ use outcomes::PLACES;
 use outcomes::Told;
 use outcomes::count_of;
 use outcomes::told_of;
-use test_text::print;
-use test_text::print_key;
-use test_text::print_list;
-use test_text::print_number;
-use test_text::print_range;
-use test_text::print_told;
-use test_text::read_byte;
+use test_print::print;
+use test_print::print_key;
+use test_print::print_list;
+use test_print::print_number;
+use test_print::print_range;
+use test_print::print_told;
+use test_print::read_byte;
 
 // No question has a longer query.
 const MOST: usize = 80;

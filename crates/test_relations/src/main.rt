@@ -7,14 +7,14 @@ use relations::Intersected;
 use relations::Related;
 use relations::half_open;
 use relations::inclusive;
-use test_text::Ends;
-use test_text::key_at;
-use test_text::print;
-use test_text::print_found;
-use test_text::print_key;
-use test_text::print_range;
-use test_text::print_told;
-use test_text::range_at;
+use test_print::Ends;
+use test_print::key_at;
+use test_print::print;
+use test_print::print_found;
+use test_print::print_key;
+use test_print::print_range;
+use test_print::print_told;
+use test_print::range_at;
 
 // ---- both kinds go through the same lines
 

@@ -3,9 +3,9 @@
 use key::RangeKind;
 use outcomes::PLACES;
 use report::DayReport;
-use test_text::print;
-use test_text::print_found;
-use test_text::print_number;
+use test_print::print;
+use test_print::print_found;
+use test_print::print_number;
 
 struct Map {
     count: usize,

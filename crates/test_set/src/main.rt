@@ -12,14 +12,14 @@ use outcomes::Range;
 use outcomes::Stretch;
 use outcomes::Told;
 use outcomes::Total;
-use test_text::Ends;
-use test_text::key_at;
-use test_text::print;
-use test_text::print_field;
-use test_text::print_key;
-use test_text::print_list;
-use test_text::print_range;
-use test_text::range_at;
+use test_print::Ends;
+use test_print::key_at;
+use test_print::print;
+use test_print::print_field;
+use test_print::print_key;
+use test_print::print_list;
+use test_print::print_range;
+use test_print::range_at;
 
 struct Set {
     count: usize,
@@ -91,7 +91,7 @@ fn edit(kind: RangeKind, m: Set, r: Ends, inserts: bool) -> Edited {
     let mut ends = m.ends;
     let mut values = m.values;
     let answer = if inserts {
-        set_numbers::insert(
+        set_abi::insert(
             kind,
             &mut count,
             &mut starts,
@@ -101,7 +101,7 @@ fn edit(kind: RangeKind, m: Set, r: Ends, inserts: bool) -> Edited {
             r.end,
         )
     } else {
-        set_numbers::remove(
+        set_abi::remove(
             kind,
             &mut count,
             &mut starts,
@@ -206,7 +206,7 @@ fn print_order(what: u8, r: Order) {
 }
 
 fn range_of_set(kind: RangeKind, m: Set, place: usize) -> Range {
-    set_numbers::range_at(kind, &m.count, &m.starts, &m.ends, &m.values, place)
+    set_abi::range_at(kind, &m.count, &m.starts, &m.ends, &m.values, place)
 }
 
 // The range at a place, if there is one.
@@ -244,27 +244,20 @@ fn ask_whole<'a>(
     ends: &'a [i64; PLACES],
     values: &'a [u8; PLACES],
 ) {
-    print_told(
-        b'e',
-        set_numbers::is_empty(kind, count, starts, ends, values),
-    );
-    print_count(b'n', set_numbers::len(kind, count, starts, ends, values));
+    print_told(b'e', set_abi::is_empty(kind, count, starts, ends, values));
+    print_count(b'n', set_abi::len(kind, count, starts, ends, values));
     print_found(
         b'f',
         kind,
-        set_numbers::first(kind, count, starts, ends, values),
+        set_abi::first(kind, count, starts, ends, values),
     );
-    print_found(
-        b'l',
-        kind,
-        set_numbers::last(kind, count, starts, ends, values),
-    );
+    print_found(b'l', kind, set_abi::last(kind, count, starts, ends, values));
     print_found(
         b's',
         kind,
-        set_numbers::range_at(kind, count, starts, ends, values, 1),
+        set_abi::range_at(kind, count, starts, ends, values, 1),
     );
-    print_total(b't', set_numbers::total(kind, count, starts, ends, values));
+    print_total(b't', set_abi::total(kind, count, starts, ends, values));
     print(b'\n');
 }
 
@@ -285,11 +278,11 @@ fn ask_at<'a>(
     print_found(
         b'g',
         kind,
-        set_numbers::get(kind, count, starts, ends, values, key),
+        set_abi::get(kind, count, starts, ends, values, key),
     );
     print_told(
         b'c',
-        set_numbers::contains(kind, count, starts, ends, values, key),
+        set_abi::contains(kind, count, starts, ends, values, key),
     );
     print(b'\n');
 }
@@ -313,17 +306,17 @@ fn ask_over<'a>(
 ) {
     print_stretch(
         b'o',
-        set_numbers::overlapping(kind, count, starts, ends, values, start, end),
+        set_abi::overlapping(kind, count, starts, ends, values, start, end),
     );
     print_told(
         b'v',
-        set_numbers::overlaps(kind, count, starts, ends, values, start, end),
+        set_abi::overlaps(kind, count, starts, ends, values, start, end),
     );
     let mut gap_starts = [0i64; 3];
     let mut gap_ends = [0i64; 3];
     print_count(
         b'w',
-        set_numbers::gaps(
+        set_abi::gaps(
             kind,
             count,
             starts,
@@ -379,7 +372,7 @@ fn ask_intersection<'a, 'b>(
     let mut out_ends = [0i64; 3];
     print_count(
         b'a',
-        set_numbers::intersection(
+        set_abi::intersection(
             kind,
             count,
             starts,
@@ -412,7 +405,7 @@ fn ask_union<'a, 'b>(
     let mut out_ends = [0i64; 3];
     print_count(
         b'u',
-        set_numbers::union(
+        set_abi::union(
             kind,
             count,
             starts,
@@ -443,7 +436,7 @@ fn ask_pair<'a, 'b>(
 ) {
     print_told(
         b'q',
-        set_numbers::eq(
+        set_abi::eq(
             kind,
             count,
             starts,
@@ -457,7 +450,7 @@ fn ask_pair<'a, 'b>(
     );
     print_order(
         b'm',
-        set_numbers::cmp(
+        set_abi::cmp(
             kind,
             count,
             starts,

@@ -7,7 +7,7 @@ use mathlib.Core.Path.{_≡_, refl, sym, ap, _∙_}
 use mathlib.Core.List.{List, [], _∷_, _++_}
 use lib.ListN.{length, getD, set, take, drop, replicate, length-append, length-replicate, replicate-append-replicate}
 use lib.Seq.{sets, sets-eq, length-sets, take-suc, take-at}
-use Rattle.bytes_of.proofs.Stores.{sets-append}
+use Rattle.byte_form.proofs.Stores.{sets-append}
 use Rattle.text.specs.Text.{space, Adds, rightOf, leftOf}
 
 -- no text changes nothing

@@ -7,8 +7,8 @@ use Rattle.outcomes.specs.Outcomes.{Written, writing}
 use Rattle.outcomes.specs.Sets.{SoundSet, unionOf, joining}
 use Rattle.key.specs.Range.{kindOf}
 use Rattle.key.specs.declared.RangeKind.{RangeKind}
-use Rattle.pairs.proofs.Doors.{rows-are}
-use Rattle.union_walk.specs.Found.{either}
+use Rattle.two_sets.proofs.Doors.{rows-are}
+use Rattle.union.specs.InnerFound.{either}
 
 pub answered : (kind : RangeKind) {a b : Stored} → SoundSet (kindOf kind) a → SoundSet (kindOf kind) b → (os oe : List ℤ) {w : Written}
     → w ≡ writing (kindOf kind) (either kind (a .starts) (a .ends) (a .count) (b .starts) (b .ends) (b .count)) os oe → w ≡ joining (kindOf kind) a b os oe

@@ -1,26 +1,28 @@
-// UNION of two sets: the points of either, ascending and disjoint, from operations.rs, by one walk over both (crate `union_walk`).
+// UNION of two sets: the points of either, ascending and disjoint, from operations.rs, by one walk over both (crate `union::walk`).
 // Nothing is written before it is known that the lent lists are long enough; the ranges are counted for that only where there may be too many.
+mod walk;
+
+use crate::walk::counted_from;
+use crate::walk::next;
+use crate::walk::write_from;
 use key::RangeKind;
-use lists::shorter;
 use outcomes::Counted;
 use outcomes::NOT_FORMED;
 use outcomes::PLACES;
 use outcomes::TOO_SHORT;
-use pairs::are_sets;
-use pairs::roomy;
-use union_walk::counted_from;
-use union_walk::next;
-use union_walk::write_from;
+use range_list::shorter;
+use two_sets::are_sets;
+use two_sets::roomy;
 ghost use mathlib.Core.Path.{_≡_};
 ghost use Prim.Native.Nat.{_≤_};
 ghost use lib.ListN.{length};
-ghost use Rattle.key.specs.Decides.{Decides};
+ghost use Rattle.key.specs.InnerDecides.{Decides};
 ghost use Rattle.key.specs.Range.{kindOf};
 ghost use Rattle.outcomes.specs.Stored.{lent, stored};
 ghost use Rattle.outcomes.specs.Sets.{SoundSet, joining, uniting};
-ghost use Rattle.lists.specs.Lists.{wrote, Room, Puts};
-ghost use Rattle.pairs.specs.Sides.{Side};
-ghost use Rattle.union_walk.specs.Found.{either};
+ghost use Rattle.range_list.specs.InnerLists.{wrote, Room, Puts};
+ghost use Rattle.two_sets.specs.InnerSides.{Side};
+ghost use Rattle.union.specs.InnerFound.{either};
 
 // How many ranges the union has.
 fn counted(
@@ -116,7 +118,7 @@ fn fits(
     true
 }
 
-// THE INNER DOOR: the sets must be sound. The values are lent as a part of the sets, and none is read.
+// THE UNCHECKED DOOR: the sets must be sound. The values are lent as a part of the sets, and none is read.
 pub fn union_unchecked(
     kind: RangeKind,
     count_a: usize,

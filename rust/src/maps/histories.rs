@@ -131,7 +131,7 @@ impl<'a, K: Kind> History<'a, K> {
         if let Some(inner) = K::OURS.inner {
             // SAFETY: the map is well formed.
             let ours = unsafe { (inner.get)(&mut self.map, key) };
-            report.same(format_args!("inner door, {input}"), ours, expected);
+            report.same(format_args!("unchecked door, {input}"), ours, expected);
         }
     }
 
@@ -173,7 +173,7 @@ impl<'a, K: Kind> History<'a, K> {
             report.same(input, &ours, &expected);
             if let Some(inner) = K::OURS.inner {
                 let ours = written(inner.gaps, &mut self.map, r, lengths);
-                report.same(format_args!("inner door, {input}"), &ours, &expected);
+                report.same(format_args!("unchecked door, {input}"), &ours, &expected);
             }
         }
     }

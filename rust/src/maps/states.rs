@@ -135,7 +135,7 @@ fn compare_key<K: Kind>(report: &mut Report, state: &mut State<K>, key: i64) {
     );
     if let Some(inner) = K::OURS.inner {
         report.same(
-            format_args!("get, inner door, {shown} of {of}"),
+            format_args!("get, unchecked door, {shown} of {of}"),
             // SAFETY: the map is well formed.
             unsafe { (inner.get)(map, key) },
             range_of(held),
@@ -236,7 +236,7 @@ fn compare_gaps<K: Kind>(report: &mut Report, state: &mut State<K>, r: Ends, par
         report.same(input, &ours, &expected);
         if let Some(inner) = K::OURS.inner {
             let ours = written(inner.gaps, &mut state.map, r, lengths);
-            report.same(format_args!("inner door, {input}"), &ours, &expected);
+            report.same(format_args!("unchecked door, {input}"), &ours, &expected);
         }
     }
 }
@@ -250,7 +250,7 @@ fn compare_gaps_refused<K: Kind>(report: &mut Report, state: &mut State<K>, r: E
         if let Some(inner) = K::OURS.inner {
             let ours = written(inner.gaps, &mut state.map, r, lengths);
             report.same(
-                format_args!("inner door, {input}"),
+                format_args!("unchecked door, {input}"),
                 ours,
                 refused(1, lengths),
             );

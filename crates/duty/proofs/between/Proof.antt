@@ -5,19 +5,19 @@ use mathlib.Core.Path.{sym, ap, _∙_}
 use Rattle.key.proofs.Laws.{rank-back}
 use Rattle.key.proofs.Lawful.{half-open}
 use Rattle.outcomes.specs.Stored.{stored}
-use Rattle.places.proofs.Seeking.{searched}
+use Rattle.store.proofs.Seeking.{searched}
 use Rattle.duty.specs.declared.Tallied.the-variants as Tallied
 use Rattle.duty.proofs.Walking.{Found, found-strange, found-counted, counted-room, counted-is}
 use Rattle.duty.proofs.between.Statement.{statement}
 use Rattle.duty.proofs.between.Tie as tie
 
-ended-requires : tie.Need-ended-requires
-ended-requires c κs = searched (c .before .pre .0) half-open
+reaching-requires : tie.Need-reaching-requires
+reaching-requires c κs = searched (c .before .pre .0) half-open
 
 walk-requires : tie.Need-walk-requires
 walk-requires c κs =
     let p = c .before .before .pre in
-    simp rank-back (p .0, simp rank-back at (c .ended .ensures), p .1, p .2)
+    (p .0, c .reaching .ensures, simp rank-back (p .1), simp rank-back (p .2))
 
 enum-known-w : tie.Need-enum-known-w
 enum-known-w c = search needs
@@ -52,7 +52,7 @@ pub between-spec : {M : Type 1} → statement M
 between-spec =
     tie.close
     (tie.spec
-    ended-requires
+    reaching-requires
     walk-requires
     enum-known-w
     seconds-requires

@@ -1,35 +1,49 @@
 -- `edit::touched` meets its contract.
 use native.Mathlib.Omega.{arith}
+use lib.ListN.{getD}
+use lib.IntN.{pos}
+use mir.Facts.{toZ-ofZ}
 use Rattle.key.specs.Rank.{rank}
-use Rattle.key.specs.Range.{halfOpen}
+use Rattle.key.specs.Range.{kindOf}
 use Rattle.key.proofs.Laws.{rank-back}
-use Rattle.key.proofs.Lawful.{half-open}
+use Rattle.key.proofs.Lawful.{lawful, inclusive-too}
 use Rattle.outcomes.specs.Stored.{Stored, stored}
 use Rattle.outcomes.proofs.Formed.{good}
-use Rattle.places.proofs.Seeking.{searched}
-use Rattle.plan.proofs.Places.{touching}
+use Rattle.store.proofs.Seeking.{searched, reached-after}
+use Rattle.edit.proofs.Places.{touching}
 use Rattle.edit.proofs.touched.Statement.{statement}
 use Rattle.edit.proofs.touched.Tie as tie
 
-short-of-requires : tie.Need-short-of-requires
-short-of-requires c κs = searched (c .before .pre .0) half-open
+least-end-requires : tie.Need-least-end-requires
+least-end-requires c κs = tt
+
+greatest-start-requires : tie.Need-greatest-start-requires
+greatest-start-requires c κs = tt
+
+reaching-requires : tie.Need-reaching-requires
+reaching-requires c κs = let s = c .before .before .before in searched (s .pre .0) (lawful (s .args .kind))
 
 begun-requires : tie.Need-begun-requires
-begun-requires c κs =
-    let s = c .before .before in
-    let g = s .args in
-    let m : Stored = stored (g .count) (g .starts .now) (g .ends .now) (g .values .now) in
-    (c .short-of .ensures .within, good (s .pre .0) .held)
+begun-requires c κs = (c .reaching .ensures .within, good (c .before .before .before .before .pre .0) .held)
 
 returns : tie.Need-returns
 returns c =
-    let s = c .before .before .before in
+    let s = c .before .before .before .before .before in
     let g = s .args in
     let m : Stored = stored (g .count) (g .starts .now) (g .ends .now) (g .values .now) in
-    let from = c .before .short-of .ensures in
+    let law = lawful (g .kind) in
+    let least = rw (toZ-ofZ (s .fits .start)) at (c .before .before .before .least-end .ensures) in
+    let greatest = rw (toZ-ofZ (s .fits .end)) at (c .before .before .greatest-start .ensures) in
+    let from = c .before .reaching .ensures in
     let to = c .begun .ensures in
-    touching halfOpen half-open m (s .pre .0) (rank (g .start)) (rank (g .end)) _ _ (omega arith) (to .from) (to .within)
-    (simp rank-back at (from .less)) (simp rank-back at (from .more)) (λ k h b. omega (arith, simp rank-back at (to .before k b h))) (λ h. omega (arith, simp rank-back at (to .at h)))
+    let more = reached-after inclusive-too (searched (s .pre .0) law .1) from in
+    touching (kindOf (g .kind)) law m (s .pre .0) (rank (g .start)) (kindOf (g .kind) .past (g .end)) _ _ (omega arith) (to .from) (to .within)
+    (λ k h. least .short (getD (g .ends .now) k (pos 0)) (omega (arith, simp rank-back at (from .below k h))))
+    (λ k h b. least .reaches (getD (g .ends .now) k (pos 0)) (omega (arith, simp rank-back at (more k h b))))
+    (λ k h b. greatest .begins (getD (g .starts .now) k (pos 0)) (omega (arith, simp rank-back at (to .before k b h))))
+    (λ h. greatest .off (getD (g .starts .now) (c .begun .result) (pos 0)) (omega (arith, simp rank-back at (to .at h))))
 
 pub touched-spec : {M : Type 1} → statement M
-touched-spec = tie.close (tie.spec short-of-requires begun-requires returns)
+touched-spec =
+    tie.close
+    (tie.spec least-end-requires greatest-start-requires reaching-requires begun-requires returns)

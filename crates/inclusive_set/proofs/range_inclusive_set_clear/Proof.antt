@@ -1,14 +1,14 @@
--- `inclusive_set::range_inclusive_set_clear` meets its contract: it lends all the fields of each set to `set_numbers::clear`, and passes the rest on (`thin`, Thin.antt).
+-- `inclusive_set::range_inclusive_set_clear` meets its contract: it lends all the fields of each set to `set_abi::clear`, and passes the rest on (`thin`, Thin.antt).
 use mathlib.Core.Path.{refl}
 use mathlib.Core.List.{[], _∷_}
 use base.Logic.{id⊢}
 use Rattle.thin.proofs.Thin.{literal, lend-mut, proves}
 use Rattle.thin.proofs.Numbers.{unit}
-use Rattle.thin_types.proofs.Types.{the-kind}
+use Rattle.thin_answers.proofs.Types.{the-kind}
 use Rattle.inclusive_set.proofs.Sets.{range-inclusive-set}
-use Rattle.set_numbers.proofs.clear as g
-use Rattle.set_numbers.proofs.clear.Symbol as g-def
-use Rattle.set_numbers.proofs.clear.Met as g-thm
+use Rattle.set_abi.proofs.clear as g
+use Rattle.set_abi.proofs.clear.Symbol as g-def
+use Rattle.set_abi.proofs.clear.Met as g-thm
 use Rattle.inclusive_set.proofs.range_inclusive_set_clear as f
 use Rattle.inclusive_set.proofs.range_inclusive_set_clear.Key as f-key
 use Rattle.inclusive_set.proofs.range_inclusive_set_clear.Statement as stated
@@ -19,4 +19,4 @@ unfolding code.routine
 range-inclusive-set-clear-spec 𝓤 H 𝓜 𝓖 𝓡 =
     proves 𝓤 H 𝓜 𝓖 𝓡 (literal (the-kind code.function) ∷ lend-mut range-inclusive-set ∷ []) unit
     (f.clauses 𝓤 H) (g.clauses 𝓤 H) (λ κs a k x. (tt, id⊢ 𝓤 _, λ r zs. id⊢ 𝓤 _))
-    code.env f-key.name code.function (code.unfolded 𝓤 H 𝓜 𝓡) g-def.name code.calls-set-numbers·clear (g-thm.met 𝓤 H 𝓜 𝓖 𝓡) (λ κs a. (refl, refl, refl))
+    code.env f-key.name code.function (code.unfolded 𝓤 H 𝓜 𝓡) g-def.name code.calls-set-abi·clear (g-thm.met 𝓤 H 𝓜 𝓖 𝓡) (λ κs a. (refl, refl, refl))

@@ -1,15 +1,15 @@
--- `inclusive_set::range_inclusive_set_overlapping` meets its contract: it lends all the fields of each set to `set_numbers::overlapping`, and passes the rest on (`thin`, Thin.antt).
+-- `inclusive_set::range_inclusive_set_overlapping` meets its contract: it lends all the fields of each set to `set_abi::overlapping`, and passes the rest on (`thin`, Thin.antt).
 use mathlib.Core.Path.{refl}
 use mathlib.Core.List.{[], _∷_}
 use mir.Syntax.{w64}
 use base.Logic.{id⊢}
 use Rattle.thin.proofs.Thin.{literal, lend, value, proves}
 use Rattle.thin.proofs.Numbers.{sint}
-use Rattle.thin_types.proofs.Types.{the-kind, stretch}
+use Rattle.thin_answers.proofs.Types.{the-kind, stretch}
 use Rattle.inclusive_set.proofs.Sets.{range-inclusive-set}
-use Rattle.set_numbers.proofs.overlapping as g
-use Rattle.set_numbers.proofs.overlapping.Symbol as g-def
-use Rattle.set_numbers.proofs.overlapping.Met as g-thm
+use Rattle.set_abi.proofs.overlapping as g
+use Rattle.set_abi.proofs.overlapping.Symbol as g-def
+use Rattle.set_abi.proofs.overlapping.Met as g-thm
 use Rattle.inclusive_set.proofs.range_inclusive_set_overlapping as f
 use Rattle.inclusive_set.proofs.range_inclusive_set_overlapping.Key as f-key
 use Rattle.inclusive_set.proofs.range_inclusive_set_overlapping.Statement as stated
@@ -20,4 +20,4 @@ unfolding code.routine
 range-inclusive-set-overlapping-spec 𝓤 H 𝓜 𝓖 𝓡 =
     proves 𝓤 H 𝓜 𝓖 𝓡 (literal (the-kind code.function) ∷ lend range-inclusive-set ∷ value (sint w64) ∷ value (sint w64) ∷ []) stretch
     (f.clauses 𝓤 H) (g.clauses 𝓤 H) (λ κs a k x. (tt, id⊢ 𝓤 _, λ r zs. id⊢ 𝓤 _))
-    code.env f-key.name code.function (code.unfolded 𝓤 H 𝓜 𝓡) g-def.name code.calls-set-numbers·overlapping (g-thm.met 𝓤 H 𝓜 𝓖 𝓡) (λ κs a. (refl, refl, refl))
+    code.env f-key.name code.function (code.unfolded 𝓤 H 𝓜 𝓡) g-def.name code.calls-set-abi·overlapping (g-thm.met 𝓤 H 𝓜 𝓖 𝓡) (λ κs a. (refl, refl, refl))

@@ -1,15 +1,15 @@
--- `inclusive_set::range_inclusive_set_range_at` meets its contract: it lends all the fields of each set to `set_numbers::range_at`, and passes the rest on (`thin`, Thin.antt).
+-- `inclusive_set::range_inclusive_set_range_at` meets its contract: it lends all the fields of each set to `set_abi::range_at`, and passes the rest on (`thin`, Thin.antt).
 use mathlib.Core.Path.{refl}
 use mathlib.Core.List.{[], _∷_}
 use mir.Syntax.{w64}
 use base.Logic.{id⊢}
 use Rattle.thin.proofs.Thin.{literal, lend, value, proves}
 use Rattle.thin.proofs.Numbers.{uint}
-use Rattle.thin_types.proofs.Types.{the-kind, range}
+use Rattle.thin_answers.proofs.Types.{the-kind, range}
 use Rattle.inclusive_set.proofs.Sets.{range-inclusive-set}
-use Rattle.set_numbers.proofs.range_at as g
-use Rattle.set_numbers.proofs.range_at.Symbol as g-def
-use Rattle.set_numbers.proofs.range_at.Met as g-thm
+use Rattle.set_abi.proofs.range_at as g
+use Rattle.set_abi.proofs.range_at.Symbol as g-def
+use Rattle.set_abi.proofs.range_at.Met as g-thm
 use Rattle.inclusive_set.proofs.range_inclusive_set_range_at as f
 use Rattle.inclusive_set.proofs.range_inclusive_set_range_at.Key as f-key
 use Rattle.inclusive_set.proofs.range_inclusive_set_range_at.Statement as stated
@@ -20,4 +20,4 @@ unfolding code.routine
 range-inclusive-set-range-at-spec 𝓤 H 𝓜 𝓖 𝓡 =
     proves 𝓤 H 𝓜 𝓖 𝓡 (literal (the-kind code.function) ∷ lend range-inclusive-set ∷ value (uint w64) ∷ []) range
     (f.clauses 𝓤 H) (g.clauses 𝓤 H) (λ κs a k x. (tt, id⊢ 𝓤 _, λ r zs. id⊢ 𝓤 _))
-    code.env f-key.name code.function (code.unfolded 𝓤 H 𝓜 𝓡) g-def.name code.calls-set-numbers·range-at (g-thm.met 𝓤 H 𝓜 𝓖 𝓡) (λ κs a. (refl, refl, refl))
+    code.env f-key.name code.function (code.unfolded 𝓤 H 𝓜 𝓡) g-def.name code.calls-set-abi·range-at (g-thm.met 𝓤 H 𝓜 𝓖 𝓡) (λ κs a. (refl, refl, refl))

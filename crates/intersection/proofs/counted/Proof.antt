@@ -4,11 +4,11 @@ use native.Mathlib.Omega.{arith}
 use mathlib.Core.Bool.{not}
 use borrow.Author.Tests.{ltb-true, ltb-false}
 use mir.Val.{boolByte}
-use Rattle.pairs.specs.Lists.{Counting}
-use Rattle.pairs.proofs.Writing.{counting-step, counting-done}
-use Rattle.pairs.proofs.Columns.{one-goes}
-use Rattle.common_walk.specs.Found.{shared, sharedFrom}
-use Rattle.common_walk.proofs.Steps.{most, found-all, found-none, found-no, step-found}
+use Rattle.two_sets.specs.InnerLists.{Counting}
+use Rattle.two_sets.proofs.Writing.{counting-step, counting-done}
+use Rattle.two_sets.proofs.Columns.{one-goes}
+use Rattle.intersection.specs.InnerFound.{shared, sharedFrom}
+use Rattle.intersection.proofs.Steps.{most, found-all, found-none, found-no, step-found}
 use Rattle.intersection.proofs.counted.Statement.{statement}
 use Rattle.intersection.proofs.counted.Tie as tie
 

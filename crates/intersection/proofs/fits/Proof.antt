@@ -1,7 +1,7 @@
 -- `intersection::fits` meets its contract.
 use native.Mathlib.Omega.{arith}
 use Rattle.key.proofs.Answers.{holds, fails}
-use Rattle.common_walk.proofs.Steps.{most}
+use Rattle.intersection.proofs.Steps.{most}
 use Rattle.intersection.proofs.fits.Statement.{statement}
 use Rattle.intersection.proofs.fits.Tie as tie
 

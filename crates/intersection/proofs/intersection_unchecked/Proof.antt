@@ -4,9 +4,9 @@ use native.Mathlib.Omega.{arith}
 use lib.ListN.{length}
 use borrow.Author.Tests.{not-true, not-false}
 use Rattle.key.specs.Range.{kindOf}
-use Rattle.lists.proofs.Answering.{answers-short, enough, answers-done}
-use Rattle.pairs.proofs.Doors.{side}
-use Rattle.common_walk.specs.Found.{shared}
+use Rattle.range_list.proofs.Answering.{answers-short, enough, answers-done}
+use Rattle.two_sets.proofs.Doors.{side}
+use Rattle.intersection.specs.InnerFound.{shared}
 use Rattle.intersection.proofs.Answers.{answered}
 use Rattle.intersection.proofs.intersection_unchecked.Statement.{statement}
 use Rattle.intersection.proofs.intersection_unchecked.Tie as tie

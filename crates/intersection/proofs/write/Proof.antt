@@ -8,10 +8,10 @@ use borrow.Author.Tests.{ltb-true, ltb-false}
 use mir.Val.{boolByte}
 use Rattle.key.proofs.Laws.{rank-back}
 use Rattle.key.specs.Range.{kindOf}
-use Rattle.pairs.proofs.Writing.{first-room, first-written, none-written}
-use Rattle.pairs.proofs.Columns.{one-goes}
-use Rattle.common_walk.specs.Found.{shared, sharedFrom}
-use Rattle.common_walk.proofs.Steps.{found-all, found-none, found-no, first-found, none-found}
+use Rattle.two_sets.proofs.Writing.{first-room, first-written, none-written}
+use Rattle.two_sets.proofs.Columns.{one-goes}
+use Rattle.intersection.specs.InnerFound.{shared, sharedFrom}
+use Rattle.intersection.proofs.Steps.{found-all, found-none, found-no, first-found, none-found}
 use Rattle.intersection.proofs.write.Statement.{statement}
 use Rattle.intersection.proofs.write.Tie as tie
 

@@ -4,14 +4,14 @@ use borrow.Author.Needs.{needs}
 use borrow.Author.Tests.{not-true, not-false}
 use mir.Facts.{toZ-ofZ}
 use Prim.Native.Nat.{_<_}
-use Rattle.key.specs.Decides.{Decides}
+use Rattle.key.specs.InnerDecides.{Decides}
 use Rattle.key.specs.Rank.{rank}
 use Rattle.key.specs.Range.{kindOf}
 use Rattle.key.proofs.Lawful.{lawful}
-use Rattle.places.specs.Search.{Reached, Begun}
+use Rattle.store.specs.InnerSearch.{Reached, Begun}
 use Rattle.key.proofs.Answers.{not-full}
 use Rattle.outcomes.proofs.Formed.{good}
-use Rattle.places.proofs.Seeking.{searched}
+use Rattle.store.proofs.Seeking.{searched}
 use Rattle.lookup.proofs.Returns.{part-empty, part-none, part-some}
 use Rattle.lookup.proofs.overlapping.Statement.{statement}
 use Rattle.lookup.proofs.overlapping.Tie as tie

@@ -8,14 +8,14 @@ use mir.Syntax.{w64}
 use mir.Val.{SFits}
 use mir.Facts.{toZ-ofZ}
 use Prim.Native.Nat.{_<_}
-use Rattle.key.specs.Decides.{Decides}
+use Rattle.key.specs.InnerDecides.{Decides}
 use Rattle.key.specs.Rank.{rank}
 use Rattle.key.specs.Range.{kindOf}
 use Rattle.key.proofs.Lawful.{lawful}
-use Rattle.places.specs.Search.{Reached}
+use Rattle.store.specs.InnerSearch.{Reached}
 use Rattle.key.proofs.Answers.{not-full}
 use Rattle.outcomes.proofs.Formed.{good}
-use Rattle.places.proofs.Seeking.{searched}
+use Rattle.store.proofs.Seeking.{searched}
 use Rattle.lookup.proofs.Returns.{met-empty, met-yes, met-no}
 use Rattle.lookup.proofs.overlaps.Statement.{statement}
 use Rattle.lookup.proofs.overlaps.Tie as tie

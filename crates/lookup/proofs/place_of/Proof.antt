@@ -4,9 +4,9 @@ use mir.Facts.{toZ-ofZ}
 use Rattle.key.specs.Range.{kindOf}
 use Rattle.key.proofs.Lawful.{lawful}
 use Rattle.key.proofs.Laws.{tests}
-use Rattle.places.specs.Search.{Reached}
+use Rattle.store.specs.InnerSearch.{Reached}
 use Rattle.outcomes.proofs.Formed.{good}
-use Rattle.places.proofs.Seeking.{searched}
+use Rattle.store.proofs.Seeking.{searched}
 use Rattle.lookup.proofs.Returns.{place-found, place-none}
 use Rattle.lookup.proofs.place_of.Statement.{statement}
 use Rattle.lookup.proofs.place_of.Tie as tie

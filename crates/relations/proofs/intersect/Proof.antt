@@ -4,7 +4,7 @@ use mathlib.Core.Path.{_≡_}
 use mir.Facts.{toZ-ofZ}
 use borrow.Author.Needs.{needs}
 use borrow.Author.Tests.{not-true, not-false}
-use Rattle.key.specs.Decides.{Decides}
+use Rattle.key.specs.InnerDecides.{Decides}
 use Rattle.key.specs.Rank.{rank, lesser, greater}
 use Rattle.key.specs.Range.{kindOf}
 use Rattle.key.proofs.Laws.{lesser-fits, greater-fits}

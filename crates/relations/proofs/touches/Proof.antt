@@ -2,7 +2,7 @@
 use Prim.Native.Nat.{_<_}
 use mir.Facts.{toZ-ofZ}
 use borrow.Author.Tests.{not-true, not-false}
-use Rattle.key.specs.Decides.{Decides}
+use Rattle.key.specs.InnerDecides.{Decides}
 use Rattle.key.specs.Rank.{rank}
 use Rattle.key.specs.Range.{kindOf}
 use Rattle.key.proofs.Answers.{not-full}

@@ -1,15 +1,15 @@
--- `set::range_set_remove` meets its contract: it lends all the fields of each set to `set_numbers::remove`, and passes the rest on (`thin`, Thin.antt).
+-- `set::range_set_remove` meets its contract: it lends all the fields of each set to `set_abi::remove`, and passes the rest on (`thin`, Thin.antt).
 use mathlib.Core.Path.{refl}
 use mathlib.Core.List.{[], _∷_}
 use mir.Syntax.{w8, w64}
 use base.Logic.{id⊢}
 use Rattle.thin.proofs.Thin.{literal, lend-mut, value, proves}
 use Rattle.thin.proofs.Numbers.{number, sint, uint}
-use Rattle.thin_types.proofs.Types.{the-kind}
+use Rattle.thin_answers.proofs.Types.{the-kind}
 use Rattle.set.proofs.Sets.{range-set}
-use Rattle.set_numbers.proofs.remove as g
-use Rattle.set_numbers.proofs.remove.Symbol as g-def
-use Rattle.set_numbers.proofs.remove.Met as g-thm
+use Rattle.set_abi.proofs.remove as g
+use Rattle.set_abi.proofs.remove.Symbol as g-def
+use Rattle.set_abi.proofs.remove.Met as g-thm
 use Rattle.set.proofs.range_set_remove as f
 use Rattle.set.proofs.range_set_remove.Key as f-key
 use Rattle.set.proofs.range_set_remove.Statement as stated
@@ -20,4 +20,4 @@ unfolding code.routine
 range-set-remove-spec 𝓤 H 𝓜 𝓖 𝓡 =
     proves 𝓤 H 𝓜 𝓖 𝓡 (literal (the-kind code.function) ∷ lend-mut range-set ∷ value (sint w64) ∷ value (sint w64) ∷ []) (number (uint w8))
     (f.clauses 𝓤 H) (g.clauses 𝓤 H) (λ κs a k x. (tt, id⊢ 𝓤 _, λ r zs. id⊢ 𝓤 _))
-    code.env f-key.name code.function (code.unfolded 𝓤 H 𝓜 𝓡) g-def.name code.calls-set-numbers·remove (g-thm.met 𝓤 H 𝓜 𝓖 𝓡) (λ κs a. (refl, refl, refl))
+    code.env f-key.name code.function (code.unfolded 𝓤 H 𝓜 𝓡) g-def.name code.calls-set-abi·remove (g-thm.met 𝓤 H 𝓜 𝓖 𝓡) (λ κs a. (refl, refl, refl))

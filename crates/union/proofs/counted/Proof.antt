@@ -3,7 +3,7 @@ use native.Mathlib.Omega.{arith}
 use mathlib.Core.Path.{sym, ap, _∙_}
 use lib.ListN.{length}
 use Rattle.key.proofs.Laws.{rank-back}
-use Rattle.union_walk.proofs.Steps.{first-open, either-none}
+use Rattle.union.proofs.Steps.{first-open, either-none}
 use Rattle.union.proofs.counted.Statement.{statement}
 use Rattle.union.proofs.counted.Tie as tie
 

@@ -1,7 +1,7 @@
 -- `union::fits` meets its contract.
 use native.Mathlib.Omega.{arith}
 use Rattle.key.proofs.Answers.{holds, fails}
-use Rattle.union_walk.proofs.Steps.{most}
+use Rattle.union.proofs.Steps.{most}
 use Rattle.union.proofs.fits.Statement.{statement}
 use Rattle.union.proofs.fits.Tie as tie
 

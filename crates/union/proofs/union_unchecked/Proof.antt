@@ -4,9 +4,9 @@ use native.Mathlib.Omega.{arith}
 use lib.ListN.{length}
 use borrow.Author.Tests.{not-true, not-false}
 use Rattle.key.specs.Range.{kindOf}
-use Rattle.lists.proofs.Answering.{answers-short, enough, answers-done}
-use Rattle.pairs.proofs.Doors.{side}
-use Rattle.union_walk.specs.Found.{either}
+use Rattle.range_list.proofs.Answering.{answers-short, enough, answers-done}
+use Rattle.two_sets.proofs.Doors.{side}
+use Rattle.union.specs.InnerFound.{either}
 use Rattle.union.proofs.Answers.{answered}
 use Rattle.union.proofs.union_unchecked.Statement.{statement}
 use Rattle.union.proofs.union_unchecked.Tie as tie

@@ -3,8 +3,8 @@ use native.Mathlib.Omega.{arith}
 use mathlib.Core.Path.{refl}
 use Rattle.key.proofs.Laws.{rank-back}
 use Rattle.key.specs.Range.{kindOf}
-use Rattle.pairs.proofs.Writing.{first-room, first-written, none-written}
-use Rattle.union_walk.proofs.Steps.{first-open, either-none}
+use Rattle.two_sets.proofs.Writing.{first-room, first-written, none-written}
+use Rattle.union.proofs.Steps.{first-open, either-none}
 use Rattle.union.proofs.write.Statement.{statement}
 use Rattle.union.proofs.write.Tie as tie
 

@@ -7,7 +7,7 @@ use base.Logic.{id⊢}
 use denote.Builtin.{u8}
 use Rattle.thin.proofs.Thin.{lend, slice, value, proves}
 use Rattle.thin.proofs.Numbers.{sint}
-use Rattle.thin_types.proofs.Types.{told}
+use Rattle.thin_answers.proofs.Types.{told}
 use Rattle.map.proofs.Maps.{range-map}
 use Rattle.map_query.proofs.instant_unchecked.in_numbers as g
 use Rattle.map_query.proofs.instant_unchecked.in_numbers.Symbol as g-def

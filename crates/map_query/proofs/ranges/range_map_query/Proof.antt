@@ -6,7 +6,7 @@ use base.Logic.{id⊢}
 use denote.Builtin.{u8, i64}
 use Rattle.thin.proofs.Thin.{lend, slice, slice-mut, value, proves}
 use Rattle.thin.proofs.Numbers.{sint}
-use Rattle.thin_types.proofs.Types.{count}
+use Rattle.thin_answers.proofs.Types.{count}
 use Rattle.map.proofs.Maps.{range-map}
 use Rattle.map_query.proofs.ranges.in_numbers as g
 use Rattle.map_query.proofs.ranges.in_numbers.Symbol as g-def

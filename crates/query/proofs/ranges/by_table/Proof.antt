@@ -4,7 +4,7 @@ use mathlib.Core.Path.{_≡_, _∙_}
 use mir.Facts.{toZ-ofZ}
 use borrow.Author.Tests.{not-true, not-false}
 use Rattle.key.specs.Range.{halfOpen}
-use Rattle.lists.proofs.Answering.{answers-short, answers-done, enough}
+use Rattle.range_list.proofs.Answering.{answers-short, answers-done, enough}
 use Rattle.query.proofs.ranges.by_table.Statement.{statement}
 use Rattle.query.proofs.ranges.by_table.Tie as tie
 

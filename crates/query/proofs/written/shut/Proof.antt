@@ -5,7 +5,7 @@ use mathlib.Core.Path.{_≡_, refl}
 use mir.Val.{ofZ}
 use mir.Syntax.{w64}
 use Rattle.key.proofs.Laws.{tests}
-use Rattle.lists.proofs.Answering.{put-start}
+use Rattle.range_list.proofs.Answering.{put-start}
 use Rattle.query.proofs.written.shut.Statement.{statement}
 use Rattle.query.proofs.written.shut.Tie as tie
 

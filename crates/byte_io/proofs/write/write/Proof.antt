@@ -1,0 +1,34 @@
+-- `byte_io::write::write` meets its contract.
+use mathlib.Core.Path.{sym, _∙_}
+use borrow.Author.Tests.{not-true, not-false}
+use borrow.Author.Needs.{needs}
+use Rattle.key.specs.Range.{halfOpen}
+use Rattle.outcomes.specs.Stored.{places}
+use Rattle.outcomes.proofs.Formed.{formed}
+use Rattle.byte_form.specs.Form.{writing}
+use Rattle.byte_io.proofs.write.write.Statement.{statement}
+use Rattle.byte_io.proofs.write.write.Tie as tie
+
+is-formed-requires : tie.Need-is-formed-requires
+is-formed-requires c κs = search needs
+
+returns : tie.Need-returns
+unfolding writing
+returns c = rw (sym (c .before .is-formed .ensures .0) ∙ not-true _ (c .if1 .taken))
+
+write-formed-requires : tie.Need-write-formed-requires
+write-formed-requires c κs =
+    let f = c .before .before .is-formed in
+    let yes = not-false _ (c .before .if1 .left) in
+    (f .ensures .1 yes, formed halfOpen places _ (sym (f .ensures .0) ∙ yes) .held)
+
+same-length : tie.Need-same-length
+same-length c = search needs
+
+returns-2 : tie.Need-returns-2
+unfolding writing
+returns-2 c = rw (sym (c .before .before .before .before .before .is-formed .ensures .0) ∙ not-false _ (c .before .before .before .before .if1 .left)) (c .before .before .write-formed .ensures)
+
+pub write-spec : {M : Type 1} → statement M
+write-spec =
+    tie.close (tie.spec is-formed-requires returns write-formed-requires same-length returns-2)

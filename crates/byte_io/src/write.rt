@@ -1,0 +1,94 @@
+// The writer of the byte form. Nothing is written before it is known that the map is well formed and that the lent output is long enough.
+use key::RangeKind;
+use outcomes::Count;
+use outcomes::Counted;
+use outcomes::NOT_FORMED;
+use outcomes::PLACES;
+use outcomes::TOO_SHORT;
+use outcomes::count_of;
+use store::formed::is_formed;
+ghost use mathlib.Core.Path.{_≡_};
+ghost use mathlib.Core.List.{_++_};
+ghost use Prim.Native.Nat.{_≤_};
+ghost use lib.ListN.{length};
+ghost use lib.Seq.{sets};
+ghost use Rattle.key.specs.Range.{halfOpen};
+ghost use Rattle.outcomes.specs.Stored.{places, stored, lent, Sound};
+ghost use Rattle.outcomes.specs.Outcomes.{formed};
+ghost use Rattle.byte_form.specs.Bytes.{bytesOf};
+ghost use Rattle.byte_form.specs.Form.{mark, entriesOf, rangesBytes, formOf, output, put, writing, Wrote};
+ghost use Rattle.byte_io.specs.InnerWrite.{Room};
+
+// The mark and the count.
+fn write_head(out: &mut [u8], count: usize)
+    requires { ⌜ 8 ≤ length (now out) ⌝ }
+    ensures { λ _. ⌜ now (out .exit) ≡ sets (now (out .entry)) 0 (mark ++ bytesOf 4 count) ⌝ }
+{
+    out[0] = 0x52;
+    out[1] = 0x4D;
+    out[2] = 0x30;
+    out[3] = 0x31;
+    byte_form::put_u32(&mut out[4..], count as u64);
+}
+
+// Range after range, each into its own 17 bytes.
+fn write_ranges(starts: &[i64], ends: &[i64], values: &[u8], count: usize, out: &mut [u8])
+    requires { ⌜ Room count (now starts) (now ends) (now values) (now out) ⌝ }
+    ensures { λ _. ⌜ now (out .exit) ≡ sets (now (out .entry)) 8 (rangesBytes (entriesOf (stored count (now (starts .entry)) (now (ends .entry)) (now (values .entry))))) ⌝ }
+{
+    let mut i = 0;
+    while i < count {
+        let at = 8 + 17 * i;
+        byte_form::put_range(&mut out[at..at + 17], starts[i], ends[i], values[i]);
+        i += 1;
+    }
+}
+
+// The form of a well-formed map, and its length.
+fn write_formed(
+    count: usize,
+    starts: &[i64; PLACES],
+    ends: &[i64; PLACES],
+    values: &[u8; PLACES],
+    out: &mut [u8],
+) -> Counted
+    requires { ⌜ Sound halfOpen (stored count (now starts) (now ends) (now values)) × (count ≤ places) ⌝ }
+    ensures { λ r. ⌜ output r (now (out .exit)) ≡ put (formOf (stored count (now (starts .entry)) (now (ends .entry)) (now (values .entry)))) (now (out .entry)) ⌝ }
+{
+    let n = 8 + 17 * count;
+    if out.len() < n {
+        return Counted::Refused(TOO_SHORT);
+    }
+    write_head(out, count);
+    write_ranges(starts, ends, values, count, out);
+    Counted::Count(n)
+}
+
+// The form of any map.
+pub fn write<'a>(
+    count: &'a usize,
+    starts: &'a [i64; PLACES],
+    ends: &'a [i64; PLACES],
+    values: &'a [u8; PLACES],
+    out: &mut [u8],
+) -> Counted
+    ensures { λ r. ⌜ output r (now (out .exit)) ≡ writing (lent (count .entry) (starts .entry) (ends .entry) (values .entry)) (now (out .entry)) ⌝ }
+{
+    if !is_formed(RangeKind::HalfOpen, *count, starts, ends, values) {
+        return Counted::Refused(NOT_FORMED);
+    }
+    write_formed(*count, starts, ends, values, out)
+}
+
+// The same answer as a struct of numbers: what C and Rust see.
+pub fn write_number<'a>(
+    count: &'a usize,
+    starts: &'a [i64; PLACES],
+    ends: &'a [i64; PLACES],
+    values: &'a [u8; PLACES],
+    out: &mut [u8],
+) -> Count
+    ensures { λ r. ⌜ Wrote r (now (out .exit)) (writing (lent (count .entry) (starts .entry) (ends .entry) (values .entry)) (now (out .entry))) ⌝ }
+{
+    count_of(write(count, starts, ends, values, out))
+}

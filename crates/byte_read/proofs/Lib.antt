@@ -1,2 +1,0 @@
--- Reading: what stands in bytes at a place, the check, and the stores.
-pub mod Reading

@@ -1,2 +1,0 @@
--- Writing: the steps of the writer.
-pub mod Writing

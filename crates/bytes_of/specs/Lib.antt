@@ -1,2 +1,0 @@
--- What a reader must believe of numbers and ranges as bytes.
-pub mod Bytes

@@ -1,2 +1,0 @@
--- Steps (the walk, one step at a time).
-pub mod Steps

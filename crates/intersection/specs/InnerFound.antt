@@ -1,0 +1,39 @@
+-- What the walk finds from two places on, in two sets that are lent as columns.
+use Prim.Native.Nat.{ℕ, _+_, min, max}
+use mathlib.Core.Path.{_≡_}
+use mathlib.Core.Bool.{Bool}
+use mathlib.Core.List.{List}
+use lib.Dec.{ltb}
+use lib.ListN.{getD}
+use lib.IntN.{ℤ, pos}
+use Rattle.span.specs.Span.{Span, span}
+use Rattle.span.specs.Operations.{common}
+use Rattle.key.specs.Rank.{rank}
+use Rattle.key.specs.Range.{kindOf}
+use Rattle.key.specs.declared.RangeKind.{RangeKind}
+use Rattle.two_sets.specs.InnerKind.{wide}
+use Rattle.range_list.specs.InnerColumns.{rows, rest}
+
+-- what the two sets have in common
+abbrev pub shared : RangeKind → List ℤ → List ℤ → ℕ → List ℤ → List ℤ → ℕ → List Span
+shared kind sa ea na sb eb nb = common (rows (kindOf kind) sa ea na) (rows (kindOf kind) sb eb nb)
+
+-- what they have in common from place i of the first and place j of the second on
+abbrev pub sharedFrom : RangeKind → List ℤ → List ℤ → ℕ → ℕ → List ℤ → List ℤ → ℕ → ℕ → List Span
+sharedFrom kind sa ea na i sb eb nb j = common (rest (kindOf kind) sa ea na i) (rest (kindOf kind) sb eb nb j)
+
+-- the range that is open
+abbrev pub piece : RangeKind → ℤ → ℤ → Span
+piece kind s e = span (rank s) (wide kind + rank e) 0
+
+-- the rank of the key at a place of a column
+abbrev pub keyRank : List ℤ → ℕ → ℕ
+keyRank l i = rank (getD l i (pos 0))
+
+-- a step over two ranges, by the ranks s and t of their starts and e and f of their ends: from the greater start to the lesser end, if that has a key;
+-- the range that ends first goes, and the second of two that end alike
+pub record Stepped (kind : RangeKind) (s e t f : ℕ) (lo hi : ℤ) (found left : Bool) : Type 0 where
+  pub start : rank lo ≡ max s t
+  pub end : rank hi ≡ min e f
+  pub met : found ≡ ltb (rank lo) (wide kind + rank hi)
+  pub first : left ≡ ltb e f

@@ -1,0 +1,263 @@
+// THE WALK over two sets that finds what they have in common, with two positions; the range that ends first goes.
+use key::RangeKind;
+use range_list::put;
+use two_sets::meets;
+use two_sets::pick;
+ghost use mathlib.Core.Path.{_≡_};
+ghost use mathlib.Core.List.{_∷_};
+ghost use Prim.Native.Nat.{_+_, _≤_, _<_};
+ghost use lib.ListN.{length};
+ghost use Rattle.key.specs.Rank.{rank};
+ghost use Rattle.key.specs.Range.{kindOf};
+ghost use Rattle.range_list.specs.InnerLists.{Room, Puts};
+ghost use Rattle.two_sets.specs.InnerSides.{Side};
+ghost use Rattle.two_sets.specs.InnerLists.{Going};
+ghost use Rattle.intersection.specs.InnerFound.{sharedFrom, piece, keyRank, Stepped};
+ghost use Rattle.intersection.specs.InnerAhead.{Carries};
+
+// A step of the walk: what the two ranges at hand have in common, whether that is anything, and whether the left one goes.
+pub struct Overlap {
+    pub start: i64,
+    pub end: i64,
+    pub found: bool,
+    pub left: bool,
+}
+
+// The step over a range of each set.
+fn step_over(kind: RangeKind, start_a: i64, end_a: i64, start_b: i64, end_b: i64) -> Overlap
+    ensures { λ r. ⌜ Stepped kind (rank «start_a») (rank «end_a») (rank «start_b») (rank «end_b») (r .start) (r .end) (r .found) (r .left) ⌝ }
+{
+    let start = key::max(start_a, start_b);
+    let end = key::min(end_a, end_b);
+    Overlap {
+        start,
+        end,
+        found: meets(kind, start, end),
+        left: end_a < end_b,
+    }
+}
+
+// The step at places `i` and `j`.
+pub fn step(
+    kind: RangeKind,
+    starts_a: &[i64],
+    ends_a: &[i64],
+    i: usize,
+    starts_b: &[i64],
+    ends_b: &[i64],
+    j: usize,
+) -> Overlap
+    requires { ⌜ (i < length (now «starts_a»)) × (i < length (now «ends_a»)) × (j < length (now «starts_b»)) × (j < length (now «ends_b»)) ⌝ }
+    ensures { λ r. ⌜ Stepped kind (keyRank (now («starts_a» .entry)) i) (keyRank (now («ends_a» .entry)) i) (keyRank (now («starts_b» .entry)) j) (keyRank (now («ends_b» .entry)) j) (r .start) (r .end) (r .found) (r .left) ⌝ }
+{
+    step_over(kind, starts_a[i], ends_a[i], starts_b[j], ends_b[j])
+}
+
+// The end at place `i`, if the set has such a place.
+fn end_at(ends: &[i64], count: usize, i: usize) -> i64
+    requires { ⌜ count ≤ length (now ends) ⌝ }
+    ensures { λ r. ⌜ (i < count → rank r ≡ keyRank (now (ends .entry)) i) ⌝ }
+{
+    if i < count {
+        return ends[i];
+    }
+    0
+}
+
+// A step, and the ends at hand after it, of the first set and of the second.
+struct Carried {
+    start: i64,
+    end: i64,
+    found: bool,
+    left: bool,
+    here: i64,
+    there: i64,
+}
+
+// The step at places `i` and `j` where the two ends at hand are carried along. The next end of each set is read before it is known which of the two is wanted:
+// so no comparison waits for a read that waits for the comparison before.
+fn step_ahead(
+    kind: RangeKind,
+    starts_a: &[i64],
+    ends_a: &[i64],
+    i: usize,
+    end_a: i64,
+    starts_b: &[i64],
+    ends_b: &[i64],
+    j: usize,
+    end_b: i64,
+) -> Carried
+    requires { ⌜ (i < length (now «starts_a»)) × (i + 1 < length (now «ends_a»)) × (j < length (now «starts_b»)) × (j + 1 < length (now «ends_b»))
+        × (rank «end_a» ≡ keyRank (now «ends_a») i) × (rank «end_b» ≡ keyRank (now «ends_b») j) ⌝ }
+    ensures { λ r. ⌜ Carries kind (now («starts_a» .entry)) (now («ends_a» .entry)) i (now («starts_b» .entry)) (now («ends_b» .entry)) j r ⌝ }
+{
+    let next_a = ends_a[i + 1];
+    let next_b = ends_b[j + 1];
+    let s = step_over(kind, starts_a[i], end_a, starts_b[j], end_b);
+    Carried {
+        start: s.start,
+        end: s.end,
+        found: s.found,
+        left: s.left,
+        here: pick(s.left, next_a, end_a),
+        there: pick(s.left, end_b, next_b),
+    }
+}
+
+// Where the walk is: so many ranges are written, it is at places `i` and `j`, and the range from `start` to `end` is open.
+struct Reached {
+    at: usize,
+    i: usize,
+    j: usize,
+    start: i64,
+    end: i64,
+}
+
+// Writes the range from `start` to `end` and what the sets have in common from places `from_a` and `from_b` on, until either set is at its last range.
+// Each step writes the open range, and a range that is found becomes the open one: so no branch depends on the keys.
+fn write_most(
+    kind: RangeKind,
+    starts_a: &[i64],
+    ends_a: &[i64],
+    count_a: usize,
+    from_a: usize,
+    starts_b: &[i64],
+    ends_b: &[i64],
+    count_b: usize,
+    from_b: usize,
+    start: i64,
+    end: i64,
+    out_starts: &mut [i64],
+    out_ends: &mut [i64],
+) -> Reached
+    requires { ⌜ Side (kindOf kind) (now «starts_a») (now «ends_a») «count_a» × Side (kindOf kind) (now «starts_b») (now «ends_b») «count_b»
+        × («from_a» ≤ «count_a») × («from_b» ≤ «count_b»)
+        × Room 0 (piece kind start end ∷ sharedFrom kind (now «starts_a») (now «ends_a») «count_a» «from_a» (now «starts_b») (now «ends_b») «count_b» «from_b») (now «out_starts») (now «out_ends») ⌝ }
+    ensures { λ r. ⌜ (r .i ≤ «count_a») × (r .j ≤ «count_b»)
+        × Going (kindOf kind) 0 (now («out_starts» .entry)) (now («out_ends» .entry)) (piece kind start end ∷ sharedFrom kind (now («starts_a» .entry)) (now («ends_a» .entry)) «count_a» «from_a» (now («starts_b» .entry)) (now («ends_b» .entry)) «count_b» «from_b»)
+        (r .at) (piece kind (r .start) (r .end) ∷ sharedFrom kind (now («starts_a» .entry)) (now («ends_a» .entry)) «count_a» (r .i) (now («starts_b» .entry)) (now («ends_b» .entry)) «count_b» (r .j)) (now («out_starts» .exit)) (now («out_ends» .exit)) ⌝ }
+{
+    let mut end_a = end_at(ends_a, count_a, from_a);
+    let mut end_b = end_at(ends_b, count_b, from_b);
+    let mut at = 0;
+    let mut i = from_a;
+    let mut j = from_b;
+    let mut lo = start;
+    let mut hi = end;
+    while i + 1 < count_a && j + 1 < count_b {
+        put(out_starts, out_ends, at, lo, hi);
+        let t = step_ahead(kind, starts_a, ends_a, i, end_a, starts_b, ends_b, j, end_b);
+        end_a = t.here;
+        end_b = t.there;
+        i += t.left as usize;
+        j += !t.left as usize;
+        at += t.found as usize;
+        lo = pick(t.found, t.start, lo);
+        hi = pick(t.found, t.end, hi);
+    }
+    Reached {
+        at,
+        i,
+        j,
+        start: lo,
+        end: hi,
+    }
+}
+
+// Writes the range from `start` to `end` into place `first`, and behind it all that the sets have in common from places `from_a` and `from_b` on.
+fn write_rest(
+    kind: RangeKind,
+    starts_a: &[i64],
+    ends_a: &[i64],
+    count_a: usize,
+    from_a: usize,
+    starts_b: &[i64],
+    ends_b: &[i64],
+    count_b: usize,
+    from_b: usize,
+    first: usize,
+    start: i64,
+    end: i64,
+    out_starts: &mut [i64],
+    out_ends: &mut [i64],
+) -> usize
+    requires { ⌜ Side (kindOf kind) (now «starts_a») (now «ends_a») «count_a» × Side (kindOf kind) (now «starts_b») (now «ends_b») «count_b»
+        × («from_a» ≤ «count_a») × («from_b» ≤ «count_b»)
+        × Room first (piece kind start end ∷ sharedFrom kind (now «starts_a») (now «ends_a») «count_a» «from_a» (now «starts_b») (now «ends_b») «count_b» «from_b») (now «out_starts») (now «out_ends») ⌝ }
+    ensures { λ r. ⌜ (r ≡ first + length (piece kind start end ∷ sharedFrom kind (now («starts_a» .entry)) (now («ends_a» .entry)) «count_a» «from_a» (now («starts_b» .entry)) (now («ends_b» .entry)) «count_b» «from_b»))
+        × Puts (kindOf kind) first (piece kind start end ∷ sharedFrom kind (now («starts_a» .entry)) (now («ends_a» .entry)) «count_a» «from_a» (now («starts_b» .entry)) (now («ends_b» .entry)) «count_b» «from_b»)
+        (now («out_starts» .entry)) (now («out_ends» .entry)) (now («out_starts» .exit)) (now («out_ends» .exit)) ⌝ }
+{
+    let mut at = first;
+    let mut i = from_a;
+    let mut j = from_b;
+    let mut lo = start;
+    let mut hi = end;
+    while i < count_a && j < count_b {
+        put(out_starts, out_ends, at, lo, hi);
+        let s = step(kind, starts_a, ends_a, i, starts_b, ends_b, j);
+        i += s.left as usize;
+        j += !s.left as usize;
+        at += s.found as usize;
+        lo = pick(s.found, s.start, lo);
+        hi = pick(s.found, s.end, hi);
+    }
+    put(out_starts, out_ends, at, lo, hi);
+    at + 1
+}
+
+// Writes the range from `start` to `end`, and all that the sets have in common from places `from_a` and `from_b` on.
+pub fn write_from(
+    kind: RangeKind,
+    starts_a: &[i64],
+    ends_a: &[i64],
+    count_a: usize,
+    from_a: usize,
+    starts_b: &[i64],
+    ends_b: &[i64],
+    count_b: usize,
+    from_b: usize,
+    start: i64,
+    end: i64,
+    out_starts: &mut [i64],
+    out_ends: &mut [i64],
+) -> usize
+    requires { ⌜ Side (kindOf kind) (now «starts_a») (now «ends_a») «count_a» × Side (kindOf kind) (now «starts_b») (now «ends_b») «count_b»
+        × («from_a» ≤ «count_a») × («from_b» ≤ «count_b»)
+        × Room 0 (piece kind start end ∷ sharedFrom kind (now «starts_a») (now «ends_a») «count_a» «from_a» (now «starts_b») (now «ends_b») «count_b» «from_b») (now «out_starts») (now «out_ends») ⌝ }
+    ensures { λ r. ⌜ (r ≡ length (piece kind start end ∷ sharedFrom kind (now («starts_a» .entry)) (now («ends_a» .entry)) «count_a» «from_a» (now («starts_b» .entry)) (now («ends_b» .entry)) «count_b» «from_b»))
+        × Puts (kindOf kind) 0 (piece kind start end ∷ sharedFrom kind (now («starts_a» .entry)) (now («ends_a» .entry)) «count_a» «from_a» (now («starts_b» .entry)) (now («ends_b» .entry)) «count_b» «from_b»)
+        (now («out_starts» .entry)) (now («out_ends» .entry)) (now («out_starts» .exit)) (now («out_ends» .exit)) ⌝ }
+{
+    let w = write_most(
+        kind,
+        starts_a,
+        ends_a,
+        count_a,
+        from_a,
+        starts_b,
+        ends_b,
+        count_b,
+        from_b,
+        start,
+        end,
+        out_starts,
+        out_ends,
+    );
+    write_rest(
+        kind,
+        starts_a,
+        ends_a,
+        count_a,
+        w.i,
+        starts_b,
+        ends_b,
+        count_b,
+        w.j,
+        w.at,
+        w.start,
+        w.end,
+        out_starts,
+        out_ends,
+    )
+}

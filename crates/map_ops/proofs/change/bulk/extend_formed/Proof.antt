@@ -1,0 +1,131 @@
+-- `map_ops::change::bulk::extend_formed` meets its contract.
+use Prim.Native.Nat.{suc, _-_, _≤_, _<_}
+use native.Mathlib.Omega.{arith}
+use native.Mathlib.Numerals.{add-one}
+use mathlib.Core.Path.{_≡_, refl, ap, sym, _∙_}
+use mathlib.Core.List.{[], _∷_}
+use lib.ListN.{length, drop, drop-of-length-le}
+use lib.Seq.{drop-cons}
+use mir.Facts.{toZ-ofZ}
+use borrow.Author.Needs.{sfits-of}
+use Rattle.key.specs.Range.{kindOf}
+use Rattle.key.proofs.Lawful.{lawful}
+use Rattle.outcomes.specs.Stored.{stored, Sound}
+use Rattle.outcomes.specs.Outcomes.{Entry, entries, inserts}
+use Rattle.outcomes.proofs.Bulk.{length-entries, getD-entries, entry-at, entry-refused, entry-done, entry-sound}
+use Rattle.map_ops.proofs.change.bulk.extend_formed.Statement.{statement}
+use Rattle.map_ops.proofs.change.bulk.extend_formed.Tie as tie
+
+abbrev Inv-loop : tie.InvT-loop
+Inv-loop kind count₀ starts₀ ends₀ values₀ new-starts new-ends new-values n i₀ count starts ends values i = (i ≤ n) × Sound (kindOf kind) (stored count starts ends values) × (inserts (kindOf kind) (stored count₀ starts₀ ends₀ values₀) 0 (entries new-starts new-ends new-values) ≡ inserts (kindOf kind) (stored count starts ends values) i (drop i (entries new-starts new-ends new-values)))
+
+abbrev μ-loop : tie.MeasureT-loop
+μ-loop kind count₀ starts₀ ends₀ values₀ new-starts new-ends new-values n i₀ count starts ends values i = n - i
+
+shorter-requires : tie.Need-shorter-requires Inv-loop μ-loop
+shorter-requires c κs = tt
+
+shorter-requires-2 : tie.Need-shorter-requires-2 Inv-loop μ-loop
+shorter-requires-2 c κs = tt
+
+loop-holds : tie.Need-loop-holds Inv-loop μ-loop
+loop-holds c = (omega arith, c .before .before .before .pre, refl)
+
+mul-insert : tie.Need-mul-insert Inv-loop μ-loop
+mul-insert c = omega (arith, c .before .before .before .before .before .before .before .shorter .ensures, c .before .before .before .before .before .before .shorter2 .ensures)
+
+shared-slice-copy-out-insert : tie.Need-shared-slice-copy-out-insert Inv-loop μ-loop
+shared-slice-copy-out-insert c = omega (arith, c .before .before .before .before .before .before .before .shorter .ensures, c .before .before .before .before .before .before .shorter2 .ensures)
+
+mul-insert-2 : tie.Need-mul-insert-2 Inv-loop μ-loop
+mul-insert-2 c = omega (arith, c .before .before .before .before .before .before .before .before .shorter .ensures, c .before .before .before .before .before .before .before .shorter2 .ensures)
+
+shared-slice-copy-out-insert-2 : tie.Need-shared-slice-copy-out-insert-2 Inv-loop μ-loop
+shared-slice-copy-out-insert-2 c = omega (arith, c .before .before .before .before .before .before .before .before .shorter .ensures, c .before .before .before .before .before .before .before .shorter2 .ensures)
+
+shared-slice-read-insert : tie.Need-shared-slice-read-insert Inv-loop μ-loop
+shared-slice-read-insert c = omega (arith, c .before .before .before .before .before .before .before .before .before .before .shorter .ensures, c .before .before .before .before .before .before .before .before .before .shorter2 .ensures)
+
+insert-requires : tie.Need-insert-requires Inv-loop μ-loop
+insert-requires c κs = c .before .before .before .before .before .before .before .before .loop .inv .1
+
+returns : tie.Need-returns Inv-loop μ-loop
+returns c =
+    let s = c .before .before .before .before .before .before .before .before .before .before .before .before .before .before in
+    let a = s .args in
+    let l = c .before .before .before .before .before .before .before .before .before .before .loop in
+    let ss = a .new-starts .now in
+    let es = a .new-ends .now in
+    let vs = a .new-values .now in
+    let n = length-entries ss es vs in
+    let xs = entries ss es vs in
+    let m = stored (l .count) (l .starts) (l .ends) (l .values) in
+    let h : l .i < length xs = omega (arith, c .before .before .before .before .before .before .before .before .before .before .before .before .shorter .ensures, c .before .before .before .before .before .before .before .before .before .before .before .shorter2 .ensures) in
+    let x = entry-at ss es vs (l .i) in
+    let rest = drop (suc (l .i)) xs in
+    let cut : drop (l .i) xs ≡ x ∷ rest = drop-cons xs (l .i) _ h ∙ ap (λ (e : Entry). e ∷ rest) (getD-entries ss es vs (l .i) h) in
+    let is = rw (toZ-ofZ (sfits-of (c .before .before .before .before .insert-arg5 .given)), toZ-ofZ (sfits-of (c .before .before .before .insert-arg6 .given))) at (c .before .insert .ensures) in
+    entry-refused (kindOf (a .kind)) m (l .i) x rest is (c .if1 .taken) ∙ sym (l .inv .2 ∙ ap (inserts (kindOf (a .kind)) m (l .i)) cut)
+
+add-i : tie.Need-add-i Inv-loop μ-loop
+add-i c = omega arith
+
+loop-less : tie.Need-loop-less Inv-loop μ-loop
+loop-less c = omega arith
+
+loop-again : tie.Need-loop-again Inv-loop μ-loop
+loop-again c =
+    let s = c .before .before .before .before .before .before .before .before .before .before .before .before .before .before in
+    let a = s .args in
+    let l = c .before .before .before .before .before .before .before .before .before .before .loop in
+    let ss = a .new-starts .now in
+    let es = a .new-ends .now in
+    let vs = a .new-values .now in
+    let n = length-entries ss es vs in
+    let xs = entries ss es vs in
+    let m = stored (l .count) (l .starts) (l .ends) (l .values) in
+    let h : l .i < length xs = omega (arith, c .before .before .before .before .before .before .before .before .before .before .before .before .shorter .ensures, c .before .before .before .before .before .before .before .before .before .before .before .shorter2 .ensures) in
+    let x = entry-at ss es vs (l .i) in
+    let rest = drop (suc (l .i)) xs in
+    let cut : drop (l .i) xs ≡ x ∷ rest = drop-cons xs (l .i) _ h ∙ ap (λ (e : Entry). e ∷ rest) (getD-entries ss es vs (l .i) h) in
+    let is = rw (toZ-ofZ (sfits-of (c .before .before .before .before .insert-arg5 .given)), toZ-ofZ (sfits-of (c .before .before .before .insert-arg6 .given))) at (c .before .insert .ensures) in (
+      omega arith,
+      entry-sound (kindOf (a .kind)) m (l .i) x rest is (lawful (a .kind)) (l .inv .1) (c .if1 .left) .0,
+      rw (add-one (l .i)) (l .inv .2 ∙ ap (inserts (kindOf (a .kind)) m (l .i)) cut ∙ sym (entry-done (kindOf (a .kind)) m (l .i) x rest is (c .if1 .left))),
+    )
+
+returns-2 : tie.Need-returns-2 Inv-loop μ-loop
+unfolding inserts
+returns-2 c =
+    let s = c .before .before .before .before .before in
+    let a = s .args in
+    let l = c .before .loop in
+    let ss = a .new-starts .now in
+    let es = a .new-ends .now in
+    let vs = a .new-values .now in
+    let n = length-entries ss es vs in
+    let xs = entries ss es vs in
+    let m = stored (l .count) (l .starts) (l .ends) (l .values) in
+    let e : drop (l .i) xs ≡ [] = drop-of-length-le xs {i = l .i} (omega (arith, c .before .before .before .shorter .ensures, c .before .before .shorter2 .ensures)) in
+    sym (l .inv .2 ∙ ap (inserts (kindOf (a .kind)) m (l .i)) e)
+
+pub extend-formed-spec : {M : Type 1} → statement M
+extend-formed-spec =
+    tie.close
+    (tie.spec
+    Inv-loop
+    μ-loop
+    shorter-requires
+    shorter-requires-2
+    loop-holds
+    mul-insert
+    shared-slice-copy-out-insert
+    mul-insert-2
+    shared-slice-copy-out-insert-2
+    shared-slice-read-insert
+    insert-requires
+    returns
+    add-i
+    loop-less
+    loop-again
+    returns-2)

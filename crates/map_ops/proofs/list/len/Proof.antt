@@ -1,0 +1,21 @@
+-- `map_ops::list::len` meets its contract.
+use mathlib.Core.Path.{sym, _∙_}
+use borrow.Author.Tests.{not-true, not-false}
+use Rattle.outcomes.specs.Outcomes.{counting}
+use borrow.Author.Needs.{needs}
+use Rattle.map_ops.proofs.list.len.Statement.{statement}
+use Rattle.map_ops.proofs.list.len.Tie as tie
+
+is-formed-requires : tie.Need-is-formed-requires
+is-formed-requires c κs = search needs
+
+returns : tie.Need-returns
+unfolding counting
+returns c = rw (sym (c .before .is-formed .ensures .0) ∙ not-true _ (c .if1 .taken))
+
+returns-2 : tie.Need-returns-2
+unfolding counting
+returns-2 c = rw (sym (c .before .is-formed .ensures .0) ∙ not-false _ (c .if1 .left))
+
+pub len-spec : {M : Type 1} → statement M
+len-spec = tie.close (tie.spec is-formed-requires returns returns-2)

@@ -1,0 +1,65 @@
+// Edits of a map, over all its fields, for either kind: the check of the lent map, and then the unchecked door of its kind. Any map is taken.
+use key::RangeKind;
+use outcomes::NOT_FORMED;
+use outcomes::PLACES;
+use store::formed::is_formed;
+
+pub mod bulk;
+pub mod unchecked;
+
+ghost use mathlib.Core.Path.{_≡_};
+ghost use Rattle.key.specs.Range.{Kind, kindOf};
+ghost use Rattle.outcomes.specs.Stored.{lent};
+ghost use Rattle.outcomes.specs.Outcomes.{cleared, inserting, leaving, removing};
+
+// Gives the value to each instant of the range and to no other.
+pub fn insert(
+    kind: RangeKind,
+    count: &mut usize,
+    starts: &mut [i64; PLACES],
+    ends: &mut [i64; PLACES],
+    values: &mut [u8; PLACES],
+    start: i64,
+    end: i64,
+    value: u8,
+) -> u8
+    ensures { λ r. ⌜ leaving r (lent (count .exit) (starts .exit) (ends .exit) (values .exit)) ≡ inserting (kindOf kind) (lent (count .entry) (starts .entry) (ends .entry) (values .entry)) start end value ⌝ }
+{
+    if !is_formed(kind, *count, starts, ends, values) {
+        return NOT_FORMED;
+    }
+    unchecked::insert(kind, count, starts, ends, values, start, end, value)
+}
+
+// Uncovers exactly the instants of the range.
+pub fn remove(
+    kind: RangeKind,
+    count: &mut usize,
+    starts: &mut [i64; PLACES],
+    ends: &mut [i64; PLACES],
+    values: &mut [u8; PLACES],
+    start: i64,
+    end: i64,
+) -> u8
+    ensures { λ r. ⌜ leaving r (lent (count .exit) (starts .exit) (ends .exit) (values .exit)) ≡ removing (kindOf kind) (lent (count .entry) (starts .entry) (ends .entry) (values .entry)) start end ⌝ }
+{
+    if !is_formed(kind, *count, starts, ends, values) {
+        return NOT_FORMED;
+    }
+    unchecked::remove(kind, count, starts, ends, values, start, end)
+}
+
+// Leaves nothing held, whatever the kind. It overwrites the map, so it does not check it.
+pub fn clear(
+    count: &mut usize,
+    starts: &mut [i64; PLACES],
+    ends: &mut [i64; PLACES],
+    values: &mut [u8; PLACES],
+)
+    ensures { λ _. ⌜ ((k : Kind) → lent (count .exit) (starts .exit) (ends .exit) (values .exit) ≡ cleared k) ⌝ }
+{
+    *count = 0;
+    splice::clear_i64(starts, 0, PLACES);
+    splice::clear_i64(ends, 0, PLACES);
+    splice::clear_u8(values, 0, PLACES);
+}

@@ -1,4 +1,0 @@
--- What the walks over two sets read and write. What the doors promise is `intersected` and `joining`, of the crate `outcomes`.
-pub mod Kind
-pub mod Sides
-pub mod Lists

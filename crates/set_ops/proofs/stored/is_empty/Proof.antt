@@ -1,0 +1,25 @@
+-- `set_ops::stored::is_empty` meets its contract.
+use mathlib.Core.Path.{sym, _∙_}
+use borrow.Author.Tests.{not-true, not-false}
+use Rattle.outcomes.specs.Sets.{plain}
+use Rattle.set_ops.specs.Answers.{setIsEmpty}
+use borrow.Author.Needs.{needs}
+use Rattle.set_ops.proofs.stored.is_empty.Statement.{statement}
+use Rattle.set_ops.proofs.stored.is_empty.Tie as tie
+
+plain-requires : tie.Need-plain-requires
+plain-requires c κs = search needs
+
+returns : tie.Need-returns
+unfolding setIsEmpty plain
+returns c = rw (sym (c .before .plain .ensures) ∙ not-true _ (c .if1 .taken))
+
+is-empty-requires : tie.Need-is-empty-requires
+is-empty-requires c κs = search needs
+
+returns-2 : tie.Need-returns-2
+unfolding setIsEmpty plain
+returns-2 c = rw (sym (c .before .before .plain .ensures) ∙ not-false _ (c .before .if1 .left)) (c .is-empty .ensures)
+
+pub is-empty-spec : {M : Type 1} → statement M
+is-empty-spec = tie.close (tie.spec plain-requires returns is-empty-requires returns-2)

@@ -1,0 +1,25 @@
+-- `set_ops::stored::len` meets its contract.
+use mathlib.Core.Path.{sym, _∙_}
+use borrow.Author.Tests.{not-true, not-false}
+use Rattle.outcomes.specs.Sets.{plain}
+use Rattle.set_ops.specs.Answers.{setCounting}
+use borrow.Author.Needs.{needs}
+use Rattle.set_ops.proofs.stored.len.Statement.{statement}
+use Rattle.set_ops.proofs.stored.len.Tie as tie
+
+plain-requires : tie.Need-plain-requires
+plain-requires c κs = search needs
+
+returns : tie.Need-returns
+unfolding setCounting plain
+returns c = rw (sym (c .before .plain .ensures) ∙ not-true _ (c .if1 .taken))
+
+len-requires : tie.Need-len-requires
+len-requires c κs = search needs
+
+returns-2 : tie.Need-returns-2
+unfolding setCounting plain
+returns-2 c = rw (sym (c .before .before .plain .ensures) ∙ not-false _ (c .before .if1 .left)) (c .len .ensures)
+
+pub len-spec : {M : Type 1} → statement M
+len-spec = tie.close (tie.spec plain-requires returns len-requires returns-2)

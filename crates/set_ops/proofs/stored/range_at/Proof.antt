@@ -1,0 +1,25 @@
+-- `set_ops::stored::range_at` meets its contract.
+use mathlib.Core.Path.{sym, _∙_}
+use borrow.Author.Tests.{not-true, not-false}
+use Rattle.outcomes.specs.Sets.{plain}
+use Rattle.set_ops.specs.Answers.{setRangeAt}
+use borrow.Author.Needs.{needs}
+use Rattle.set_ops.proofs.stored.range_at.Statement.{statement}
+use Rattle.set_ops.proofs.stored.range_at.Tie as tie
+
+plain-requires : tie.Need-plain-requires
+plain-requires c κs = search needs
+
+returns : tie.Need-returns
+unfolding setRangeAt plain
+returns c = rw (sym (c .before .plain .ensures) ∙ not-true _ (c .if1 .taken))
+
+range-at-requires : tie.Need-range-at-requires
+range-at-requires c κs = search needs
+
+returns-2 : tie.Need-returns-2
+unfolding setRangeAt plain
+returns-2 c = rw (sym (c .before .before .plain .ensures) ∙ not-false _ (c .before .if1 .left)) (c .range-at .ensures)
+
+pub range-at-spec : {M : Type 1} → statement M
+range-at-spec = tie.close (tie.spec plain-requires returns range-at-requires returns-2)

@@ -1,0 +1,160 @@
+// What a set holds as a list: a set is a map whose values are all 0, so the answer is the map's.
+use key::RangeKind;
+use outcomes::Asked;
+use outcomes::Compared;
+use outcomes::Counted;
+use outcomes::Found;
+use outcomes::NOT_FORMED;
+use outcomes::PLACES;
+use store::plain::plain;
+ghost use mathlib.Core.Path.{_≡_};
+ghost use Rattle.key.specs.Range.{kindOf};
+ghost use Rattle.outcomes.specs.Stored.{lent};
+ghost use Rattle.set_ops.specs.Answers.{setCounting, setEquality, setFirst, setIsEmpty, setLast, setOrdering, setRangeAt};
+
+// Whether nothing is held.
+pub fn is_empty<'a>(
+    kind: RangeKind,
+    count: &'a usize,
+    starts: &'a [i64; PLACES],
+    ends: &'a [i64; PLACES],
+    values: &'a [u8; PLACES],
+) -> Asked
+    ensures { λ r. ⌜ r ≡ setIsEmpty (kindOf kind) (lent (count .entry) (starts .entry) (ends .entry) (values .entry)) ⌝ }
+{
+    if !plain(values) {
+        return Asked::Refused(NOT_FORMED);
+    }
+    map_ops::list::is_empty(kind, count, starts, ends, values)
+}
+
+// How many ranges are held.
+pub fn len<'a>(
+    kind: RangeKind,
+    count: &'a usize,
+    starts: &'a [i64; PLACES],
+    ends: &'a [i64; PLACES],
+    values: &'a [u8; PLACES],
+) -> Counted
+    ensures { λ r. ⌜ r ≡ setCounting (kindOf kind) (lent (count .entry) (starts .entry) (ends .entry) (values .entry)) ⌝ }
+{
+    if !plain(values) {
+        return Counted::Refused(NOT_FORMED);
+    }
+    map_ops::list::len(kind, count, starts, ends, values)
+}
+
+// The range at a place.
+pub fn range_at<'a>(
+    kind: RangeKind,
+    count: &'a usize,
+    starts: &'a [i64; PLACES],
+    ends: &'a [i64; PLACES],
+    values: &'a [u8; PLACES],
+    place: usize,
+) -> Found
+    ensures { λ r. ⌜ r ≡ setRangeAt (kindOf kind) (lent (count .entry) (starts .entry) (ends .entry) (values .entry)) place ⌝ }
+{
+    if !plain(values) {
+        return Found::Refused(NOT_FORMED);
+    }
+    map_ops::list::range_at(kind, count, starts, ends, values, place)
+}
+
+// The first range.
+pub fn first<'a>(
+    kind: RangeKind,
+    count: &'a usize,
+    starts: &'a [i64; PLACES],
+    ends: &'a [i64; PLACES],
+    values: &'a [u8; PLACES],
+) -> Found
+    ensures { λ r. ⌜ r ≡ setFirst (kindOf kind) (lent (count .entry) (starts .entry) (ends .entry) (values .entry)) ⌝ }
+{
+    if !plain(values) {
+        return Found::Refused(NOT_FORMED);
+    }
+    map_ops::list::first_range_value(kind, count, starts, ends, values)
+}
+
+// The last range.
+pub fn last<'a>(
+    kind: RangeKind,
+    count: &'a usize,
+    starts: &'a [i64; PLACES],
+    ends: &'a [i64; PLACES],
+    values: &'a [u8; PLACES],
+) -> Found
+    ensures { λ r. ⌜ r ≡ setLast (kindOf kind) (lent (count .entry) (starts .entry) (ends .entry) (values .entry)) ⌝ }
+{
+    if !plain(values) {
+        return Found::Refused(NOT_FORMED);
+    }
+    map_ops::list::last_range_value(kind, count, starts, ends, values)
+}
+
+// Which of two sets comes first.
+pub fn cmp<'a, 'b>(
+    kind: RangeKind,
+    count: &'a usize,
+    starts: &'a [i64; PLACES],
+    ends: &'a [i64; PLACES],
+    values: &'a [u8; PLACES],
+    count2: &'b usize,
+    starts2: &'b [i64; PLACES],
+    ends2: &'b [i64; PLACES],
+    values2: &'b [u8; PLACES],
+) -> Compared
+    ensures { λ r. ⌜ r ≡ setOrdering (kindOf kind) (lent (count .entry) (starts .entry) (ends .entry) (values .entry)) (lent (count2 .entry) (starts2 .entry) (ends2 .entry) (values2 .entry)) ⌝ }
+{
+    if !plain(values) {
+        return Compared::Refused(NOT_FORMED);
+    }
+    if !plain(values2) {
+        return Compared::Refused(NOT_FORMED);
+    }
+    map_ops::list::cmp(
+        kind,
+        count,
+        starts,
+        ends,
+        values,
+        count2,
+        starts2,
+        ends2,
+        values2,
+    )
+}
+
+// Whether two sets hold the same ranges.
+pub fn eq<'a, 'b>(
+    kind: RangeKind,
+    count: &'a usize,
+    starts: &'a [i64; PLACES],
+    ends: &'a [i64; PLACES],
+    values: &'a [u8; PLACES],
+    count2: &'b usize,
+    starts2: &'b [i64; PLACES],
+    ends2: &'b [i64; PLACES],
+    values2: &'b [u8; PLACES],
+) -> Asked
+    ensures { λ r. ⌜ r ≡ setEquality (kindOf kind) (lent (count .entry) (starts .entry) (ends .entry) (values .entry)) (lent (count2 .entry) (starts2 .entry) (ends2 .entry) (values2 .entry)) ⌝ }
+{
+    if !plain(values) {
+        return Asked::Refused(NOT_FORMED);
+    }
+    if !plain(values2) {
+        return Asked::Refused(NOT_FORMED);
+    }
+    map_ops::list::eq(
+        kind,
+        count,
+        starts,
+        ends,
+        values,
+        count2,
+        starts2,
+        ends2,
+        values2,
+    )
+}

@@ -1,0 +1,12 @@
+-- The total of a set that is lent as columns.
+use Prim.Native.Nat.{ℕ}
+use mathlib.Core.List.{List}
+use lib.IntN.{ℤ}
+use Rattle.span.specs.Operations.{total}
+use Rattle.key.specs.Range.{kindOf}
+use Rattle.key.specs.declared.RangeKind.{RangeKind}
+use Rattle.range_list.specs.InnerColumns.{rows}
+
+-- how many keys the ranges of the first n places have
+abbrev pub sumOf : RangeKind → List ℤ → List ℤ → ℕ → ℕ
+sumOf kind ss es n = total (rows (kindOf kind) ss es n)

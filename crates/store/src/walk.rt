@@ -1,0 +1,23 @@
+// The walk over the starts of a map, from the place that the search among its ends has found.
+use key::RangeKind;
+use key::full;
+ghost use Prim.Native.Nat.{_≤_};
+ghost use lib.ListN.{length};
+ghost use Rattle.key.specs.Range.{kindOf};
+ghost use Rattle.store.specs.InnerSearch.{Begun};
+
+// The first place from `from` on that begins too late for a range up to `end`: `count` if there is none. It walks, since few ranges are met.
+pub fn begun(kind: RangeKind, starts: &[i64], from: usize, count: usize, end: i64) -> usize
+    requires { ⌜ (from ≤ count) × (count ≤ length (now starts)) ⌝ }
+    ensures { λ r. ⌜ Begun (kindOf kind) count (now (starts .entry)) from end r ⌝ }
+{
+    let mut k = from;
+    while k < count {
+        let first = starts[k];
+        if !full(kind, first, end) {
+            return k;
+        }
+        k += 1;
+    }
+    k
+}

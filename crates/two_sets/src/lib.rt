@@ -1,0 +1,73 @@
+// What the walks over two sets share, for either kind of range. A walk has no branch that depends on the keys: what would be a branch is a choice of two values,
+// since no processor foresees which of two sets comes next.
+use key::RangeKind;
+use key::full;
+use outcomes::PLACES;
+use store::plain::is_set;
+ghost use mathlib.Core.Path.{_≡_};
+ghost use mathlib.Core.Bool.{true, _&&_, cond};
+ghost use Prim.Native.Nat.{_+_, _≤_};
+ghost use lib.Dec.{ltb};
+ghost use Rattle.key.specs.Rank.{rank};
+ghost use Rattle.key.specs.Range.{kindOf};
+ghost use Rattle.outcomes.specs.Stored.{stored};
+ghost use Rattle.outcomes.specs.Sets.{formedSet, SoundSet};
+ghost use Rattle.two_sets.specs.InnerKind.{wide};
+
+// Whether two lent sets are as they must be: the first is checked, then the second.
+pub fn are_sets(
+    kind: RangeKind,
+    count_a: usize,
+    starts_a: &[i64; PLACES],
+    ends_a: &[i64; PLACES],
+    values_a: &[u8; PLACES],
+    count_b: usize,
+    starts_b: &[i64; PLACES],
+    ends_b: &[i64; PLACES],
+    values_b: &[u8; PLACES],
+) -> bool
+    ensures { λ r. ⌜ r ≡ (formedSet (kindOf kind) (stored «count_a» (now («starts_a» .entry)) (now («ends_a» .entry)) (now («values_a» .entry))) && formedSet (kindOf kind) (stored «count_b» (now («starts_b» .entry)) (now («ends_b» .entry)) (now («values_b» .entry)))) ⌝ }
+    ensures { λ r. ⌜ (r ≡ true → SoundSet (kindOf kind) (stored «count_a» (now («starts_a» .entry)) (now («ends_a» .entry)) (now («values_a» .entry))) × SoundSet (kindOf kind) (stored «count_b» (now («starts_b» .entry)) (now («ends_b» .entry)) (now («values_b» .entry)))) ⌝ }
+{
+    if !is_set(kind, count_a, starts_a, ends_a, values_a) {
+        return false;
+    }
+    is_set(kind, count_b, starts_b, ends_b, values_b)
+}
+
+// Whether a range from `start` to `end` has a key, as an equation: the walks compute with it.
+pub fn meets(kind: RangeKind, start: i64, end: i64) -> bool
+    ensures { λ r. ⌜ r ≡ ltb (rank start) (wide kind + rank end) ⌝ }
+{
+    full(kind, start, end)
+}
+
+// How far past its end a range reaches: 1 if the end is in it.
+pub fn width(kind: RangeKind) -> u64
+    ensures { λ r. ⌜ r ≡ wide kind ⌝ }
+{
+    match kind {
+        RangeKind::HalfOpen => 0,
+        RangeKind::Inclusive => 1,
+    }
+}
+
+// One of two keys.
+pub fn pick(yes: bool, a: i64, b: i64) -> i64
+    ensures { λ r. ⌜ rank r ≡ cond yes (rank a) (rank b) ⌝ }
+{
+    if yes {
+        return a;
+    }
+    b
+}
+
+// Whether there is room for as many ranges as two sets have together. Then none need be counted.
+pub fn roomy(count_a: usize, count_b: usize, room: usize) -> bool
+    ensures { λ r. ⌜ (r ≡ true → «count_a» + «count_b» ≤ room) ⌝ }
+{
+    if room < count_a {
+        return false;
+    }
+    count_b <= room - count_a
+}

@@ -1,0 +1,149 @@
+// THE WALK over two sets that joins them, with two positions; the range that starts first is taken.
+// Ranges that overlap become one. Ranges that only touch stay apart, as in the Rust.
+use key::RangeKind;
+use range_list::put;
+use two_sets::meets;
+use two_sets::pick;
+ghost use mathlib.Core.Path.{_≡_};
+ghost use Prim.Native.Nat.{_+_, _≤_, _<_};
+ghost use lib.Dec.{ltb};
+ghost use lib.ListN.{length};
+ghost use Rattle.key.specs.Rank.{rank};
+ghost use Rattle.key.specs.Range.{kindOf};
+ghost use Rattle.range_list.specs.InnerLists.{Room, Puts};
+ghost use Rattle.two_sets.specs.InnerKind.{wide};
+ghost use Rattle.two_sets.specs.InnerSides.{Side};
+ghost use Rattle.union.specs.InnerFound.{openFrom, Opened, Next};
+
+// A range that is taken, and whether it is the left set's.
+pub struct Taken {
+    pub start: i64,
+    pub end: i64,
+    pub left: bool,
+}
+
+// The next range, by its start, where one set is at place `i` and the other at place `j`.
+pub fn next(
+    starts_a: &[i64],
+    ends_a: &[i64],
+    count_a: usize,
+    i: usize,
+    starts_b: &[i64],
+    ends_b: &[i64],
+    count_b: usize,
+    j: usize,
+) -> Taken
+    requires { ⌜ («count_a» ≤ length (now «starts_a»)) × (length (now «ends_a») ≡ length (now «starts_a»)) × («count_b» ≤ length (now «starts_b»)) × (length (now «ends_b») ≡ length (now «starts_b»))
+        × (i ≤ «count_a») × (j ≤ «count_b») × (i + j < «count_a» + «count_b») ⌝ }
+    ensures { λ r. ⌜ Next (now («starts_a» .entry)) (now («ends_a» .entry)) «count_a» i (now («starts_b» .entry)) (now («ends_b» .entry)) «count_b» j r ⌝ }
+{
+    if count_b <= j {
+        return Taken {
+            start: starts_a[i],
+            end: ends_a[i],
+            left: true,
+        };
+    }
+    if count_a <= i {
+        return Taken {
+            start: starts_b[j],
+            end: ends_b[j],
+            left: false,
+        };
+    }
+    let start_a = starts_a[i];
+    let start_b = starts_b[j];
+    let left = start_a < start_b;
+    Taken {
+        start: pick(left, start_a, start_b),
+        end: pick(left, ends_a[i], ends_b[j]),
+        left,
+    }
+}
+
+// Whether a range up to `end` overlaps one that starts at `start`, no sooner than it. Only then do the two become one: ranges that touch stay apart.
+fn overlaps(kind: RangeKind, end: i64, start: i64) -> bool
+    ensures { λ r. ⌜ r ≡ ltb (rank start) (wide kind + rank end) ⌝ }
+{
+    meets(kind, start, end)
+}
+
+// How many ranges there are where the range from `start` to `end` is open.
+pub fn counted_from(
+    kind: RangeKind,
+    starts_a: &[i64],
+    ends_a: &[i64],
+    count_a: usize,
+    from_a: usize,
+    starts_b: &[i64],
+    ends_b: &[i64],
+    count_b: usize,
+    from_b: usize,
+    start: i64,
+    end: i64,
+) -> usize
+    requires { ⌜ Side (kindOf kind) (now «starts_a») (now «ends_a») «count_a» × Side (kindOf kind) (now «starts_b») (now «ends_b») «count_b»
+        × Opened kind (rank start) (rank end) (now «starts_a») (now «ends_a») «count_a» «from_a» (now «starts_b») (now «ends_b») «count_b» «from_b» ⌝ }
+    ensures { λ r. ⌜ r ≡ length (openFrom kind (rank start) (rank end) (now («starts_a» .entry)) (now («ends_a» .entry)) «count_a» «from_a» (now («starts_b» .entry)) (now («ends_b» .entry)) «count_b» «from_b») ⌝ }
+{
+    let total = count_a + count_b;
+    let mut n = 0;
+    let mut i = from_a;
+    let mut j = from_b;
+    let mut lo = start;
+    let mut hi = end;
+    while i + j < total {
+        let t = next(starts_a, ends_a, count_a, i, starts_b, ends_b, count_b, j);
+        let joins = overlaps(kind, hi, t.start);
+        i += t.left as usize;
+        j += !t.left as usize;
+        n += !joins as usize;
+        lo = pick(joins, lo, t.start);
+        hi = key::max(hi, t.end);
+    }
+    n + 1
+}
+
+// Writes the ranges, where the range from `start` to `end` is open. Each step writes the open range; the next one makes it longer, or becomes the open one:
+// so no branch depends on the keys.
+pub fn write_from(
+    kind: RangeKind,
+    starts_a: &[i64],
+    ends_a: &[i64],
+    count_a: usize,
+    from_a: usize,
+    starts_b: &[i64],
+    ends_b: &[i64],
+    count_b: usize,
+    from_b: usize,
+    start: i64,
+    end: i64,
+    out_starts: &mut [i64],
+    out_ends: &mut [i64],
+) -> usize
+    requires { ⌜ Side (kindOf kind) (now «starts_a») (now «ends_a») «count_a» × Side (kindOf kind) (now «starts_b») (now «ends_b») «count_b»
+        × Opened kind (rank start) (rank end) (now «starts_a») (now «ends_a») «count_a» «from_a» (now «starts_b») (now «ends_b») «count_b» «from_b»
+        × Room 0 (openFrom kind (rank start) (rank end) (now «starts_a») (now «ends_a») «count_a» «from_a» (now «starts_b») (now «ends_b») «count_b» «from_b») (now «out_starts») (now «out_ends») ⌝ }
+    ensures { λ r. ⌜ (r ≡ length (openFrom kind (rank start) (rank end) (now («starts_a» .entry)) (now («ends_a» .entry)) «count_a» «from_a» (now («starts_b» .entry)) (now («ends_b» .entry)) «count_b» «from_b»))
+        × Puts (kindOf kind) 0 (openFrom kind (rank start) (rank end) (now («starts_a» .entry)) (now («ends_a» .entry)) «count_a» «from_a» (now («starts_b» .entry)) (now («ends_b» .entry)) «count_b» «from_b»)
+        (now («out_starts» .entry)) (now («out_ends» .entry)) (now («out_starts» .exit)) (now («out_ends» .exit)) ⌝ }
+{
+    let total = count_a + count_b;
+    let mut at = 0;
+    let mut i = from_a;
+    let mut j = from_b;
+    let mut lo = start;
+    let mut hi = end;
+    while i + j < total {
+        put(out_starts, out_ends, at, lo, hi);
+        let t = next(starts_a, ends_a, count_a, i, starts_b, ends_b, count_b, j);
+        let same = overlaps(kind, hi, t.start);
+        i += t.left as usize;
+        j += !t.left as usize;
+        at += !same as usize;
+        lo = pick(same, lo, t.start);
+        hi = key::max(hi, t.end);
+    }
+    put(out_starts, out_ends, at, lo, hi);
+    at + 1
+}

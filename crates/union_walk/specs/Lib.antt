@@ -1,2 +1,0 @@
--- Found (what the walk finds from two places on, and the range that is taken next).
-pub mod Found
