@@ -544,7 +544,7 @@ LogDay log_day(uint8_t zone, uint16_t year, uint8_t month, uint8_t day);
 /*
  * The report of a day of the log: its start and end as keys, the seconds of each duty in it and those that are
  * unrecorded, and the same five as hours. Each hour is the double nearest seconds / 3600, exact where 225 divides
- * the seconds. The four duties and the unrecorded seconds sum to end - start. Link the static library day_report.
+ * the seconds, in the default rounding mode; in another one of the caller's the division follows that. The four duties and the unrecorded seconds sum to end - start.
  *   4  lent map not well formed    8  bad zone or date    10  status outside 1 to 4 in the day
  * Where several apply, the first of 4, 8, 10 is given. Unless the answer is 0, all else is 0 and the hours are +0.0.
  */
@@ -579,7 +579,7 @@ DayReport range_map_day_report_unchecked(const RangeMap *m, uint8_t zone, uint16
  * A query is 1 to 64 bytes of text, with no end mark. Its atoms are A or B and a digit, as in A3: the instants where that map
  * holds that value. ! binds tightest, then &, then |; parentheses group; there are no spaces. At most 16 of ! and ( are open at
  * once; a ! is open until its operand ends. All is relative to the window start..end: !A3 is true in the window wherever A does
- * not hold 3. Link the static library map_query.
+ * not hold 3.
  *   4  A, or else B, not well formed    1  window empty or reversed    7  bytes not a query    3  lists too short
  * Where several apply, the first of 4, 1, 7, 3 is given. The two may be the same map.
  */
