@@ -5,11 +5,13 @@ use libc::STDOUT_FILENO;
 ghost use Prim.Native.Nat.{_≤_};
 ghost use lib.ListN.{length};
 
-// Bytes, all at once.
+// Bytes, all at once. What could not be written is said: a form that is cut short must not pass for a whole one.
 pub fn print(fd: i32, bytes: &[u8], n: usize)
     requires { ⌜ n ≤ length (now bytes) ⌝ }
 {
-    io::write_all(fd, &bytes[..n]);
+    if !io::write_all(fd, &bytes[..n]) {
+        os::fail(b"standard output");
+    }
 }
 
 // The number of a refusal.
