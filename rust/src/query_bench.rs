@@ -209,7 +209,7 @@ pub fn race_queries(wanted: &mut Vec<Wanted>) {
             checked / knowing
         );
         if pairs == PAIRS {
-            for (door, most, time) in [("inner", 0.7, inner), ("checked", 1.2, checked)] {
+            for (door, most, time) in [("unchecked", 0.7, inner), ("checked", 1.2, checked)] {
                 wanted.push(Wanted {
                     what: format!("{what}, {door} door, ratio"),
                     most,
