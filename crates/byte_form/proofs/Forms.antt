@@ -72,7 +72,7 @@ unfolding entriesOf
 keyed-of {m} i = keyed (m .count) (m .starts) (m .ends) (m .values) (i .starts-fit) (i .ends-fit)
 
 -- a column whose places from c on hold z is its first c places, filled up
-filled-take : {A : Type 0} (n c : ℕ) (z : A) (l : List A) → length l ≡ n → c ≤ n → Spare l c z → filled n z (take c l) ≡ l
+pub filled-take : {A : Type 0} (n c : ℕ) (z : A) (l : List A) → length l ≡ n → c ≤ n → Spare l c z → filled n z (take c l) ≡ l
 unfolding filled
 filled-take n c z l e h s =
     let t : length (take c l) ≡ c = length-take-le c l (omega arith) in

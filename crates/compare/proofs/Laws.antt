@@ -1,5 +1,5 @@
 -- The comparison is the same for both kinds of range; and it is a total order of well-formed maps, in which equal maps and no others are equal.
-use Prim.Native.Nat.{ℕ, zero, suc, _<_, Ordering·lt, Ordering·eq, compare·suc-suc}
+use Prim.Native.Nat.{ℕ, _<_, Ordering·lt, Ordering·eq, compare·suc-suc}
 use native.Mathlib.Omega.{arith}
 use native.Mathlib.Decide.{decLt}
 use mathlib.Core.Path.{_≡_, refl, sym, ap, _∙_}
@@ -12,14 +12,15 @@ use Rattle.span.specs.Span.{Span, span}
 use Rattle.span.specs.Operations.{flat, lex, order, flipped}
 use Rattle.span.proofs.Order.{order-refl, order-same, order-flip, order-trans}
 use Rattle.key.specs.Rank.{rank}
-use Rattle.key.specs.Range.{Kind, halfOpen, inclusive, rangeOf, kindOf}
+use Rattle.key.specs.Range.{Kind, halfOpen, inclusive, kindOf}
 use Rattle.key.specs.declared.RangeKind.{RangeKind}
 use Rattle.key.specs.declared.RangeKind.the-variants as RangeKind
 use Rattle.key.proofs.Laws.{rank-inj}
 use Rattle.key.proofs.Lawful.{Lawful}
-use Rattle.outcomes.specs.Stored.{Stored, stored, spans, ranges, AllFit, Spare}
+use Rattle.outcomes.specs.Stored.{Stored, stored, ranges, AllFit, Spare}
 use Rattle.outcomes.specs.Outcomes.{Entry, entries, compared}
 use Rattle.outcomes.proofs.Formed.{Formed, Shaped, length-ranges, getD-ranges}
+use Rattle.outcomes.proofs.Bulk.{range, entries-ranges}
 use Rattle.compare.proofs.Walk.{placeOf}
 
 -- ONE ORDER FOR BOTH KINDS
@@ -27,18 +28,6 @@ use Rattle.compare.proofs.Walk.{placeOf}
 -- a kind whose ends ascend as their keys do
 abbrev pub Ascends : Kind → Type 0
 Ascends kind = (e e′ : ℤ) → ltb (kind .past e) (kind .past e′) ≡ ltb (rank e) (rank e′)
-
--- the range of an entry
-abbrev range : Kind → Entry → Span
-range kind x = rangeOf kind (x .start) (x .end) (x .value)
-
-entries-ranges : (kind : Kind) (n : ℕ) (ss es : List ℤ) (vs : List ℕ) → take n (spans kind ss es vs) ≡ map (range kind) (take n (entries ss es vs))
-unfolding spans entries
-entries-ranges kind zero ss es vs = refl
-entries-ranges kind (suc n) [] es vs = refl
-entries-ranges kind (suc n) (s ∷ ss) [] vs = refl
-entries-ranges kind (suc n) (s ∷ ss) (e ∷ es) [] = refl
-entries-ranges kind (suc n) (s ∷ ss) (e ∷ es) (v ∷ vs) = rw (entries-ranges kind n ss es vs)
 
 module _ (kind : Kind) (up : Ascends kind) where
   entries-order : (xs ys : List Entry) → order (map (range kind) xs) (map (range kind) ys) ≡ order (map (range halfOpen) xs) (map (range halfOpen) ys)

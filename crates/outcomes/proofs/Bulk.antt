@@ -11,10 +11,10 @@ use lib.Dec.{leb, ltb}
 use lib.ListN.{length, getD, take}
 use lib.IntN.{ℤ, pos}
 use Rattle.key.specs.Rank.{rank}
-use Rattle.key.specs.Range.{Kind}
+use Rattle.key.specs.Range.{Kind, rangeOf}
 use Rattle.key.proofs.Lawful.{Lawful}
-use Rattle.span.specs.Span.{given}
-use Rattle.outcomes.specs.Stored.{places, Stored, ranges, storing, wellFormed, Sound}
+use Rattle.span.specs.Span.{Span, given}
+use Rattle.outcomes.specs.Stored.{places, Stored, spans, ranges, storing, wellFormed, Sound}
 use Rattle.outcomes.specs.Outcomes.{Entry, entries, Edited, leaving, editing, edited, extended, inserts, Change, run}
 use Rattle.outcomes.proofs.Formed.{formed}
 use Rattle.outcomes.proofs.Edits.{done, edit-sound, edit-length}
@@ -42,6 +42,19 @@ getD-entries (s ∷ ss) [] vs k h = absurd (omega arith)
 getD-entries (s ∷ ss) (e ∷ es) [] k h = absurd (omega arith)
 getD-entries (s ∷ ss) (e ∷ es) (v ∷ vs) zero h = refl
 getD-entries (s ∷ ss) (e ∷ es) (v ∷ vs) (suc k) h = getD-entries ss es vs k (omega arith)
+
+-- the range of an entry
+abbrev pub range : Kind → Entry → Span
+range kind x = rangeOf kind (x .start) (x .end) (x .value)
+
+-- the first ranges of three lists are those of their first entries
+pub entries-ranges : (kind : Kind) (n : ℕ) (ss es : List ℤ) (vs : List ℕ) → take n (spans kind ss es vs) ≡ map (range kind) (take n (entries ss es vs))
+unfolding spans entries
+entries-ranges kind zero ss es vs = refl
+entries-ranges kind (suc n) [] es vs = refl
+entries-ranges kind (suc n) (s ∷ ss) [] vs = refl
+entries-ranges kind (suc n) (s ∷ ss) (e ∷ es) [] = refl
+entries-ranges kind (suc n) (s ∷ ss) (e ∷ es) (v ∷ vs) = rw (entries-ranges kind n ss es vs)
 
 module _ (kind : Kind) (m : Stored) (i : ℕ) (x : Entry) (xs : List Entry) {a : ℕ} {left : Stored}
     (is : leaving a left ≡ editing kind places m (x .start) (x .end) (some (x .value))) where

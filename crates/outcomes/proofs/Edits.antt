@@ -70,7 +70,7 @@ module _ (kind : Kind) (law : Lawful kind) (n : ℕ) (m : Stored) (tidy : Tidy 0
   edit-length = ap (λ (t : Stored). length (t .starts)) (d .left-is) ∙ length-storing kind law n xs tidy-next upto-next (d .room)
 
 -- an edit of any map that answers 0 found it well formed
-accepted : (kind : Kind) (m : Stored) (s e : ℤ) (new : Option ℕ) → edited kind m s e new .answer ≡ 0
+pub accepted : (kind : Kind) (m : Stored) (s e : ℤ) (new : Option ℕ) → edited kind m s e new .answer ≡ 0
     → (wellFormed kind places m ≡ true) × (edited kind m s e new ≡ editing kind places m s e new) × (editing kind places m s e new .answer ≡ 0)
 unfolding edited
 accepted kind m s e new h = go (wellFormed kind places m) refl h
@@ -81,7 +81,7 @@ accepted kind m s e new h = go (wellFormed kind places m) refl h
     go false a h = absurd (omega arith)
 
 -- edits of which none was refused: neither the first, nor the others
-none-refused : (one rest : Edited) → cond (eqb (one .answer) 0) rest one .answer ≡ 0 → (one .answer ≡ 0) × (rest .answer ≡ 0)
+pub none-refused : (one rest : Edited) → cond (eqb (one .answer) 0) rest one .answer ≡ 0 → (one .answer ≡ 0) × (rest .answer ≡ 0)
 none-refused one rest h = go (eqb (one .answer) 0) refl h
   where
     go : (t : Bool) → eqb (one .answer) 0 ≡ t → cond t rest one .answer ≡ 0 → (one .answer ≡ 0) × (rest .answer ≡ 0)

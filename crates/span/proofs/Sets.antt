@@ -41,7 +41,7 @@ or-swap : (t : Bool) (v : ℕ) (a old : Option ℕ) → (t ≡ true → a ≡ no
 or-swap true v a old h = rw (h refl)
 or-swap false v a old h = refl
 
-last-puts : (b : ℕ) (m : List Span) (k : ℕ) (old : Option ℕ) → Ordered b m → last (puts m) k old ≡ or-else (at m k) old
+pub last-puts : (b : ℕ) (m : List Span) (k : ℕ) (old : Option ℕ) → Ordered b m → last (puts m) k old ≡ or-else (at m k) old
 unfolding puts last at
 last-puts b [] k old o = refl
 last-puts b (x ∷ xs) k old o = last-puts (x .hi) xs k _ (o .2)

@@ -55,7 +55,7 @@ bound : List Span → ℕ
 bound [] = 0
 bound (x ∷ xs) = max (x .hi) (bound xs)
 
-upto-more : {b c : ℕ} (m : List Span) → b ≤ c → Upto b m → Upto c m
+pub upto-more : {b c : ℕ} (m : List Span) → b ≤ c → Upto b m → Upto c m
 upto-more [] h u = tt
 upto-more (x ∷ xs) h u = (omega arith, upto-more xs h (u .1))
 
