@@ -1,0 +1,204 @@
+-- HISTORIES: after any events from a new map each key holds the last value given it, or none; events that agree on this leave the same stored map.
+use Prim.Native.Nat.{ℕ}
+use native.Mathlib.Omega.{arith}
+use mathlib.Core.Path.{_≡_, refl, sym, ap, subst, _∙_}
+use mathlib.Core.Bool.{Bool, true, false, cond}
+use mathlib.Core.List.{List, [], _∷_, map}
+use mathlib.Core.Option.{Option, some, none}
+use borrow.Author.Tests.{eqb-true, eqb-false, eq-eqb}
+use lib.Dec.{eqb}
+use lib.ListN.{take}
+use lib.IntN.{ℤ}
+use mir.Syntax.{w64}
+use mir.Val.{SFits}
+use Rattle.span.specs.Span.{Span, at, Ordered, Edit, last}
+use Rattle.span.specs.Operations.{puts}
+use Rattle.span.proofs.Tests.{cases}
+use Rattle.span.proofs.Holding.{or-none}
+use Rattle.span.proofs.Sets.{last-puts}
+use Rattle.key.specs.Rank.{rank}
+use Rattle.key.specs.Range.{Kind, halfOpen}
+use Rattle.key.proofs.Lawful.{Lawful}
+use Rattle.outcomes.specs.Stored.{Stored, ranges}
+use Rattle.outcomes.specs.Numbers as Numbers
+use Rattle.outcomes.specs.declared.Found.the-variants as Found
+use Rattle.outcomes.specs.Outcomes.{lookup, Entry, Edited, leaving, Change, edited, cleared, inserts, extending, run, changes}
+use Rattle.outcomes.proofs.Edits.{none-refused, ranges-cleared}
+use Rattle.outcomes.proofs.Bulk.{range, entries-ranges, bulk-singles}
+use Rattle.byte_form.specs.Bytes.{Bytes}
+use Rattle.byte_form.specs.Form.{entriesOf, mapIn, isForm, reading}
+use Rattle.one_map.specs.Events.{Proper, valueAt, Event, insert, remove, bulkInsert, clear, readBytes, happens, afterEvents, lastValue}
+use Rattle.one_map.specs.Events.{Effect, changed, anew, ifAccepted, entryChange, effect, leftAt}
+use Rattle.one_map.proofs.Known.{some-found, proper-formed, proper-tidy, value-at, none-found, same-lookups}
+use Rattle.one_map.proofs.OneMap.{edit-proper, edit-instants, clear-proper, clear-holds, read-proper}
+use Rattle.one_map.proofs.Refusals.{edit-unchanged, read-unchanged}
+
+-- a proper map is left, which holds at every instant what the effect gave it, or else what was held
+pub record Left (kind : Kind) (m left : Stored) (x : Effect) : Type 0 where
+  pub proper : Proper kind left
+  pub holds : (k : ℕ) → at (ranges kind left) k ≡ last (changes kind (x .made)) k (cond (x .fresh) none (at (ranges kind m) k))
+
+-- nothing done
+same-left : {kind : Kind} {m left : Stored} → Proper kind m → left ≡ m → Left kind m left (changed [])
+unfolding last changes
+same-left {kind} {m} p e = subst (λ (l : Stored). Left kind m l (changed [])) (sym e) (record { proper = p; holds = λ k. refl })
+
+-- what answered 0 did what it meant, and what did not did nothing
+done-or-not : {kind : Kind} {m : Stored} (o : Edited) (x : Effect) → Proper kind m
+    → (o .answer ≡ 0 → Left kind m (o .left) x) → ((o .answer ≡ 0 → ⊥) → o .left ≡ m) → Left kind m (o .left) (ifAccepted o x)
+done-or-not {kind} {m} o x p f g =
+    cases (eqb (o .answer) 0) (Left kind m (o .left)) (λ t. f (eqb-true (o .answer) 0 t)) (λ t. same-left p (g (eqb-false (o .answer) 0 t)))
+
+module _ {kind : Kind} (law : Lawful kind) where
+  -- one edit
+  edit-left : {m : Stored} → Proper kind m → (s e : ℤ) (new : Option ℕ) → edited kind m s e new .answer ≡ 0
+      → Left kind m (edited kind m s e new .left) (changed (record { start = s; end = e; new = new } ∷ []))
+  unfolding last changes
+  edit-left p s e new z = record { proper = edit-proper law p s e new z; holds = edit-instants law p s e new z }
+
+  -- edits of which none is refused
+  run-left : (cs : List Change) {m : Stored} → Proper kind m → run kind m cs .answer ≡ 0 → Left kind m (run kind m cs .left) (changed cs)
+  unfolding run changes last
+  run-left [] p z = record { proper = p; holds = λ k. refl }
+  run-left (c ∷ cs) {m} p z =
+      let one = edited kind m (c .start) (c .end) (c .new) in
+      let (first, others) = none-refused one (run kind (one .left) cs) z in
+      let l = edit-left p (c .start) (c .end) (c .new) first in
+      let r = run-left cs (l .proper) others in
+      rw (eq-eqb (one .answer) 0 first) (record { proper = r .proper; holds = λ k. r .holds k ∙ ap (last (changes kind cs) k) (l .holds k) })
+
+  -- bulk insert: the entries that were applied
+  bulk-left : {m : Stored} → Proper kind m → (xs : List Entry)
+      → Left kind m (extending kind m xs .left) (changed (map entryChange (take (extending kind m xs .told .applied) xs)))
+  unfolding extending
+  bulk-left {m} p xs =
+      let cs : List Change = map entryChange (take (inserts kind m 0 xs .told .applied) xs) in
+      let is : run kind m cs ≡ leaving 0 (inserts kind m 0 xs .left) = bulk-singles kind law m xs (p .sound) (p .all-places) in
+      rw (proper-formed p)
+      (subst (λ (l : Stored). Left kind m l (changed cs)) (ap (λ (o : Edited). o .left) is) (run-left cs p (ap (λ (o : Edited). o .answer) is)))
+
+  -- clear
+  clear-left : (m : Stored) → Left kind m (cleared kind) (anew [])
+  unfolding last changes at
+  clear-left m = record { proper = clear-proper law; holds = λ k. ap (λ (xs : List Span). at xs k) (ranges-cleared kind law) }
+
+-- entries as changes are their ranges, put one after the other
+changes-puts : (kind : Kind) (xs : List Entry) → changes kind (map entryChange xs) ≡ puts (map (range kind) xs)
+unfolding changes puts
+changes-puts kind [] = refl
+changes-puts kind (x ∷ xs) = rw (changes-puts kind xs)
+
+-- the ranges of a map are those of its entries
+ranges-entries : (kind : Kind) (m : Stored) → ranges kind m ≡ map (range kind) (entriesOf m)
+unfolding ranges entriesOf
+ranges-entries kind m = entries-ranges kind (m .count) (m .starts) (m .ends) (m .values)
+
+-- bytes that are read leave the map that stands in them
+pub read-done : (m : Stored) (bs : List ℕ) → reading m bs .answer ≡ 0 → reading m bs ≡ leaving 0 (mapIn bs)
+unfolding reading
+read-done m bs z = go (isForm bs) z
+  where
+    go : (t : Bool) → cond t (leaving 0 (mapIn bs)) (leaving 6 m) .answer ≡ 0 → cond t (leaving 0 (mapIn bs)) (leaving 6 m) ≡ leaving 0 (mapIn bs)
+    go true z = refl
+    go false z = absurd (omega arith)
+
+-- read: the ranges of that map, put one after the other
+read-left : {m : Stored} → (bs : List ℕ) → Bytes bs → reading m bs .answer ≡ 0
+    → Left halfOpen m (reading m bs .left) (anew (map entryChange (entriesOf (mapIn bs))))
+read-left {m} bs fit z =
+    let xs : List Entry = entriesOf (mapIn bs) in
+    let is = read-done m bs z in
+    let p = read-proper m bs fit is .0 in
+    let r : ranges halfOpen (mapIn bs) ≡ map (range halfOpen) xs = ranges-entries halfOpen (mapIn bs) in
+    let o : Ordered 0 (map (range halfOpen) xs) = subst (Ordered 0) r (proper-tidy p .ordered) in
+    subst (λ (l : Edited). Left halfOpen m (l .left) (anew (map entryChange xs))) (sym is) (record {
+      proper = p;
+      holds = λ k. ap (λ (l : List Span). at l k) r ∙ sym (or-none (at (map (range halfOpen) xs) k)) ∙ sym (last-puts 0 (map (range halfOpen) xs) k none o)
+          ∙ ap (λ (l : List Edit). last l k none) (sym (changes-puts halfOpen xs));
+    })
+
+-- ANY EVENT, accepted or refused
+module _ {kind : Kind} (law : Lawful kind) where
+  -- each event leaves what its effect says
+  pub event-left : (x : Event kind) {m : Stored} → Proper kind m → Left kind m (happens x m .left) (effect x m)
+  event-left (insert s e v) {m} p = done-or-not (edited kind m s e (some v)) _ p (edit-left law p s e (some v)) (edit-unchanged kind m s e (some v))
+  event-left (remove s e) {m} p = done-or-not (edited kind m s e none) _ p (edit-left law p s e none) (edit-unchanged kind m s e none)
+  event-left (bulkInsert xs) p = bulk-left law p xs
+  event-left clear {m} p = clear-left law m
+  event-left (readBytes is bs fit) {m} p =
+      let cs : List Change = map entryChange (entriesOf (mapIn bs)) in
+      let as-read : reading m bs .answer ≡ 0 → Left kind m (reading m bs .left) (anew cs) =
+      λ z. subst (λ (k : Kind). Left k m (reading m bs .left) (anew cs)) (sym is) (read-left bs fit z) in
+      done-or-not (reading m bs) (anew cs) p as-read (read-unchanged m bs)
+
+  -- an event leaves a well-formed map
+  pub event-proper : (x : Event kind) {m : Stored} → Proper kind m → Proper kind (happens x m .left)
+  event-proper x p = event-left x p .proper
+
+  -- ONE EVENT, as lookups tell: each key holds what the event gave it, or else what it held
+  pub event-holds : (x : Event kind) {m : Stored} → Proper kind m → (k : ℤ) → valueAt kind (happens x m .left) k ≡ leftAt kind (effect x m) k (valueAt kind m k)
+  unfolding leftAt
+  event-holds x {m} p k =
+      value-at (event-proper x p) k ∙ event-left x p .holds (rank k)
+      ∙ ap (λ (o : Option ℕ). last (changes kind (effect x m .made)) (rank k) (cond (effect x m .fresh) none o)) (sym (value-at p k))
+
+  -- events leave a well-formed map
+  pub events-proper : (xs : List (Event kind)) {m : Stored} → Proper kind m → Proper kind (afterEvents xs m)
+  unfolding afterEvents
+  events-proper [] p = p
+  events-proper (x ∷ xs) p = events-proper xs (event-proper x p)
+
+  -- ANY EVENTS: each key holds the last value that they gave it, or else what it held
+  pub events-hold : (xs : List (Event kind)) {m : Stored} → Proper kind m → (k : ℤ) → valueAt kind (afterEvents xs m) k ≡ lastValue xs m k (valueAt kind m k)
+  unfolding afterEvents lastValue
+  events-hold [] p k = refl
+  events-hold (x ∷ xs) {m} p k = events-hold xs (event-proper x p) k ∙ ap (lastValue xs (happens x m .left) k) (event-holds x p k)
+
+  -- HISTORIES: after any events from a new map, each key holds the last value given it, or none
+  pub last-value-held : (xs : List (Event kind)) (k : ℤ) → valueAt kind (afterEvents xs (cleared kind)) k ≡ lastValue xs (cleared kind) k none
+  last-value-held xs k = events-hold xs (clear-proper law) k ∙ ap (lastValue xs (cleared kind) k) (clear-holds law k)
+
+  -- so lookup answers 0 with that value
+  pub last-value-told : (xs : List (Event kind)) (k : ℤ) {v : ℕ} → lastValue xs (cleared kind) k none ≡ some v
+      → let r = Numbers.rangeOf (lookup kind (afterEvents xs (cleared kind)) k) in (r .answer ≡ 0) × (r .value ≡ v)
+  last-value-told xs k e = some-found (lookup kind (afterEvents xs (cleared kind)) k) (last-value-held xs k ∙ e)
+
+  -- or 5 where there is none
+  pub no-value-told : (xs : List (Event kind)) (k : ℤ) → lastValue xs (cleared kind) k none ≡ none
+      → lookup kind (afterEvents xs (cleared kind)) k ≡ Found.Refused 5
+  no-value-told xs k e = none-found (events-proper xs (clear-proper law)) k (last-value-held xs k ∙ e)
+
+  -- and two histories that agree at every key leave the same stored map, unused places included
+  pub same-histories : (xs ys : List (Event kind)) → ((k : ℤ) → SFits w64 k → lastValue xs (cleared kind) k none ≡ lastValue ys (cleared kind) k none)
+      → afterEvents xs (cleared kind) ≡ afterEvents ys (cleared kind)
+  same-histories xs ys e =
+      let new = clear-proper law in
+      same-lookups law (events-proper xs new) (events-proper ys new) (λ k fit. last-value-held xs k ∙ e k fit ∙ sym (last-value-held ys k))
+
+-- an event that is done as a whole or not at all: any but a bulk insert
+abbrev pub Whole : {kind : Kind} → Event kind → Type 0
+Whole (insert s e v) = Unit {0}
+Whole (remove s e) = Unit {0}
+Whole (bulkInsert xs) = ⊥
+Whole clear = Unit {0}
+Whole (readBytes is bs fit) = Unit {0}
+
+-- A REFUSED EVENT leaves the map as it was
+pub refused-leaves : {kind : Kind} (x : Event kind) (m : Stored) → Whole x → (happens x m .answer ≡ 0 → ⊥) → happens x m .left ≡ m
+refused-leaves {kind} (insert s e v) m w n = edit-unchanged kind m s e (some v) n
+refused-leaves {kind} (remove s e) m w n = edit-unchanged kind m s e none n
+refused-leaves (bulkInsert xs) m w n = absurd w
+refused-leaves clear m w n = absurd (n refl)
+refused-leaves (readBytes is bs fit) m w n = read-unchanged m bs n
+
+-- so it may as well not have happened
+pub refused-skipped : {kind : Kind} (x : Event kind) (xs : List (Event kind)) (m : Stored) → Whole x → (happens x m .answer ≡ 0 → ⊥)
+    → afterEvents (x ∷ xs) m ≡ afterEvents xs m
+unfolding afterEvents
+refused-skipped x xs m w n = ap (afterEvents xs) (refused-leaves x m w n)
+
+-- A BULK INSERT leaves what its first entries leave, as many as it applied, each inserted and none refused
+pub bulk-leaves : {kind : Kind} → Lawful kind → {m : Stored} → Proper kind m → (xs : List Entry)
+    → run kind m (map entryChange (take (extending kind m xs .told .applied) xs)) ≡ leaving 0 (happens {kind = kind} (bulkInsert xs) m .left)
+unfolding extending
+bulk-leaves {kind} law {m} p xs = rw (proper-formed p) (bulk-singles kind law m xs (p .sound) (p .all-places))

@@ -1,0 +1,80 @@
+-- WHAT EVENTS LEAVE IN MEMORY: a map whose values are u8, so that what any history leaves is written and read back.
+use Prim.Native.Nat.{ℕ, zero, suc, _<_}
+use native.Mathlib.Omega.{arith}
+use mathlib.Core.Path.{_≡_, sym, subst, _∙_}
+use mathlib.Core.List.{List, [], _∷_, map}
+use lib.ListN.{getD, take}
+use lib.IntN.{ℤ}
+use Rattle.span.specs.Span.{Span, at}
+use Rattle.key.specs.Range.{Kind, halfOpen}
+use Rattle.key.proofs.Lawful.{Lawful, half-open}
+use Rattle.outcomes.specs.Stored.{Stored}
+use Rattle.outcomes.specs.Outcomes.{Entry, entries, leaving, cleared, inserting, removing, extending}
+use Rattle.outcomes.proofs.Edits.{ranges-cleared}
+use Rattle.byte_form.specs.Form.{entriesOf, formOf, reading, InMemory}
+use Rattle.byte_form.proofs.Forms.{write-read, read-write}
+use Rattle.one_map.specs.Events.{Proper, Event, insert, remove, bulkInsert, clear, readBytes, afterEvents, entryChange, effect}
+use Rattle.one_map.specs.Events.{EntriesU8, ValuesU8, AllU8}
+use Rattle.one_map.proofs.Known.{proper-formed}
+use Rattle.one_map.proofs.OneMap.{clear-proper}
+use Rattle.one_map.proofs.Histories.{read-done, event-proper, events-proper}
+use Rattle.one_map.proofs.Values.{Gives, AllGive, Holds, event-values, accepted-gives, all-values}
+
+abbrev IsU8 : ℕ → Type 0
+IsU8 v = v < 256
+
+-- the first entries of a list
+entries-u8 : (n : ℕ) (xs : List Entry) → EntriesU8 xs → AllGive IsU8 (map entryChange (take n xs))
+entries-u8 zero xs u = tt
+entries-u8 (suc n) [] u = tt
+entries-u8 (suc n) (x ∷ xs) u = (u .0, entries-u8 n xs (u .1))
+
+-- the entries of a map whose values are u8
+map-u8 : (n : ℕ) (ss es : List ℤ) (vs : List ℕ) → ((k : ℕ) → getD vs k 0 < 256) → AllGive IsU8 (map entryChange (take n (entries ss es vs)))
+unfolding entries
+map-u8 zero ss es vs h = tt
+map-u8 (suc n) [] es vs h = tt
+map-u8 (suc n) (s ∷ ss) [] vs h = tt
+map-u8 (suc n) (s ∷ ss) (e ∷ es) [] h = tt
+map-u8 (suc n) (s ∷ ss) (e ∷ es) (v ∷ vs) h = (h 0, map-u8 n ss es vs (λ k. h (suc k)))
+
+memory-u8 : {m : Stored} → InMemory m → AllGive IsU8 (map entryChange (entriesOf m))
+unfolding entriesOf
+memory-u8 {m} i = map-u8 (m .count) (m .starts) (m .ends) (m .values) (i .values-fit)
+
+event-u8 : {kind : Kind} (x : Event kind) (m : Stored) → ValuesU8 x → AllGive IsU8 (effect x m .made)
+event-u8 {kind} (insert s e v) m u = accepted-gives IsU8 (inserting kind m s e v) _ (λ z. (u, tt))
+event-u8 {kind} (remove s e) m u = accepted-gives IsU8 (removing kind m s e) _ (λ z. (tt, tt))
+event-u8 {kind} (bulkInsert xs) m u = entries-u8 (extending kind m xs .told .applied) xs u
+event-u8 clear m u = tt
+event-u8 (readBytes is bs fit) m u = accepted-gives IsU8 (reading m bs) _ (λ z. memory-u8 (read-write m bs fit (read-done m bs z) .memory))
+
+module _ {kind : Kind} (law : Lawful kind) where
+  events-u8 : (xs : List (Event kind)) {m : Stored} → Proper kind m → AllU8 xs → Holds IsU8 kind m → Holds IsU8 kind (afterEvents xs m)
+  unfolding afterEvents
+  events-u8 [] p u h = h
+  events-u8 (x ∷ xs) {m} p u h = events-u8 xs (event-proper law x p) (u .1) (event-values IsU8 law x p (event-u8 x m (u .0)) h)
+
+  new-u8 : Holds IsU8 kind (cleared kind)
+  unfolding at
+  new-u8 k = subst (λ (xs : List Span). Gives IsU8 (at xs k)) (sym (ranges-cleared kind law)) tt
+
+  -- a well-formed map whose values are u8 is one as memory holds it
+  proper-memory : {m : Stored} → Proper kind m → Holds IsU8 kind m → InMemory m
+  proper-memory p h = record {
+    starts-all = p .all-places;
+    ends-all = p .sound .ends-as ∙ p .all-places;
+    values-all = p .sound .values-as ∙ p .all-places;
+    starts-fit = p .sound .starts-fit;
+    ends-fit = p .sound .ends-fit;
+    values-fit = all-values IsU8 p (omega arith) h;
+  }
+
+  -- any events from a new map leave a map as memory holds it
+  pub history-memory : (xs : List (Event kind)) → AllU8 xs → InMemory (afterEvents xs (cleared kind))
+  history-memory xs u = proper-memory (events-proper law xs (clear-proper law)) (events-u8 xs (clear-proper law) u new-u8)
+
+-- WRITTEN AND READ BACK: what any events leave of a half-open map is read from its written form, whatever map is overwritten
+pub history-read-back : (xs : List (Event halfOpen)) → AllU8 xs → (old : Stored)
+    → reading old (formOf (afterEvents xs (cleared halfOpen))) ≡ leaving 0 (afterEvents xs (cleared halfOpen))
+history-read-back xs u old = write-read old (history-memory half-open xs u) (proper-formed (events-proper half-open xs (clear-proper half-open)))

@@ -1,0 +1,114 @@
+-- Histories in document 01's words: what can happen to a map, what each event leaves, and the last value that a key was given.
+-- What a map holds is said by what its lookup answers at keys.
+use Prim.Native.Nat.{ℕ, _<_}
+use mathlib.Core.Path.{_≡_}
+use mathlib.Core.Bool.{Bool, true, false, cond}
+use mathlib.Core.List.{List, [], _∷_, map}
+use mathlib.Core.Option.{Option, some, none}
+use lib.Dec.{eqb}
+use lib.ListN.{length, take}
+use lib.IntN.{ℤ}
+use Rattle.span.specs.Span.{inside, last}
+use Rattle.key.specs.Rank.{rank}
+use Rattle.key.specs.Range.{Kind, halfOpen}
+use Rattle.outcomes.specs.Stored.{places, Stored, Sound}
+use Rattle.outcomes.specs.Outcomes.{Entry, Edited, leaving, Change, lookup, cleared, inserting, removing, extending, changes}
+use Rattle.outcomes.specs.declared.Found.{Found}
+use Rattle.outcomes.specs.declared.Found.the-variants as Found
+use Rattle.byte_form.specs.Bytes.{Bytes}
+use Rattle.byte_form.specs.Form.{entriesOf, mapIn, reading}
+
+-- a well-formed map with all its places, its keys i64
+pub record Proper (kind : Kind) (m : Stored) : Type 0 where
+  pub sound : Sound kind m
+  pub all-places : length (m .starts) ≡ places
+
+-- what the answer of a lookup tells of its key: the value that is held there, or none
+abbrev pub valueOf : Found → Option ℕ
+valueOf (Found.Range s e v) = some v
+valueOf (Found.Refused n) = none
+
+-- the value that a map holds at a key, as its lookup answers
+abbrev pub valueAt : Kind → Stored → ℤ → Option ℕ
+valueAt kind m k = valueOf (lookup kind m k)
+
+-- is the key in the range from s to e
+abbrev pub inRange : Kind → ℤ → ℤ → ℤ → Bool
+inRange kind s e k = inside (rank s) (kind .past e) (rank k)
+
+-- AN EVENT: insert of a range and a value, remove of a range, bulk insert of a list, clear, and read of bytes, which half-open maps alone have
+pub data Event (kind : Kind) : Type 0 where
+  insert : ℤ → ℤ → ℕ → Event kind
+  remove : ℤ → ℤ → Event kind
+  bulkInsert : List Entry → Event kind
+  clear : Event kind
+  readBytes : kind ≡ halfOpen → (bs : List ℕ) → Bytes bs → Event kind
+
+-- the values of a list's entries are u8
+abbrev pub EntriesU8 : List Entry → Type 0
+EntriesU8 [] = Unit {0}
+EntriesU8 (x ∷ xs) = (x .value < 256) × EntriesU8 xs
+
+-- the values of an event are u8, as its function takes them
+abbrev pub ValuesU8 : {kind : Kind} → Event kind → Type 0
+ValuesU8 (insert s e v) = v < 256
+ValuesU8 (remove s e) = Unit {0}
+ValuesU8 (bulkInsert xs) = EntriesU8 xs
+ValuesU8 clear = Unit {0}
+ValuesU8 (readBytes is bs fit) = Unit {0}
+
+-- those of all events are
+abbrev pub AllU8 : {kind : Kind} → List (Event kind) → Type 0
+AllU8 [] = Unit {0}
+AllU8 (x ∷ xs) = ValuesU8 x × AllU8 xs
+
+-- what an event answers, and the map that it leaves, accepted or refused
+abbrev pub happens : {kind : Kind} → Event kind → Stored → Edited
+happens {kind} (insert s e v) m = inserting kind m s e v
+happens {kind} (remove s e) m = removing kind m s e
+happens {kind} (bulkInsert xs) m = leaving (extending kind m xs .told .answer) (extending kind m xs .left)
+happens {kind} clear m = leaving 0 (cleared kind)
+happens {kind} (readBytes is bs fit) m = reading m bs
+
+-- the map after some events
+unfoldable pub afterEvents : {kind : Kind} → List (Event kind) → Stored → Stored
+afterEvents [] m = m
+afterEvents (x ∷ xs) m = afterEvents xs (happens x m .left)
+
+-- what an event did: is all that was held before gone, and which changes were made then, in order
+pub record Effect : Type 0 where
+  pub fresh : Bool
+  pub made : List Change
+
+-- changes of what was held
+abbrev pub changed : List Change → Effect
+changed cs = record { fresh = false; made = cs }
+
+-- changes from nothing
+abbrev pub anew : List Change → Effect
+anew cs = record { fresh = true; made = cs }
+
+-- what was accepted did so, and what was refused did nothing
+abbrev pub ifAccepted : Edited → Effect → Effect
+ifAccepted o x = cond (eqb (o .answer) 0) x (changed [])
+
+-- an entry of a list, as a change
+abbrev pub entryChange : Entry → Change
+entryChange x = record { start = x .start; end = x .end; new = some (x .value) }
+
+-- WHAT AN EVENT DID. Of a bulk insert the entries that were applied stay, refused or not; a read puts the ranges in its bytes in place of all that was held
+abbrev pub effect : {kind : Kind} → Event kind → Stored → Effect
+effect {kind} (insert s e v) m = ifAccepted (inserting kind m s e v) (changed (record { start = s; end = e; new = some v } ∷ []))
+effect {kind} (remove s e) m = ifAccepted (removing kind m s e) (changed (record { start = s; end = e; new = none } ∷ []))
+effect {kind} (bulkInsert xs) m = changed (map entryChange (take (extending kind m xs .told .applied) xs))
+effect {kind} clear m = anew []
+effect {kind} (readBytes is bs fit) m = ifAccepted (reading m bs) (anew (map entryChange (entriesOf (mapIn bs))))
+
+-- what an effect leaves at a key where old was held: what the last change over the key gives, or else old, unless all that was held is gone
+unfoldable pub leftAt : Kind → Effect → ℤ → Option ℕ → Option ℕ
+leftAt kind x k old = last (changes kind (x .made)) (rank k) (cond (x .fresh) none old)
+
+-- THE LAST VALUE that some events, in order, gave a key, or none; and old where they did not touch it
+unfoldable pub lastValue : {kind : Kind} → List (Event kind) → Stored → ℤ → Option ℕ → Option ℕ
+lastValue [] m k old = old
+lastValue {kind} (x ∷ xs) m k old = lastValue xs (happens x m .left) k (leftAt kind (effect x m) k old)
