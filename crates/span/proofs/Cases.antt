@@ -16,8 +16,12 @@ comb zero b = []
 comb (suc n) b = span b (b + 1) 1 ∷ comb n (b + 2)
 
 -- `unfolding all` opens every definition that a case computes with
+unfoldable of-edits : Unit {0}
+unfolding inside keep before after joins push joined given history
+of-edits = tt
+
 unfoldable all : Unit {0}
-unfolding inside keep before after joins push joined given history puts cuts gaps over within parts common relabelled chosen overlaps merged absorb united total comb
+unfolding of-edits puts cuts gaps over within parts common relabelled chosen overlaps merged absorb united total comb
 all = tt
 
 insert-joins : inserted 5 8 1 (span 0 5 1 ∷ []) ≡ span 0 8 1 ∷ []

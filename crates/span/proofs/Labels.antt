@@ -69,7 +69,8 @@ last-relabelled : (f : ℕ → Option ℕ) (es : List Edit) (k : ℕ) (old : Opt
 unfolding relabelledEdits last
 last-relabelled f [] k old = refl
 last-relabelled f (e ∷ es) k old =
-    ap (last (relabelledEdits f es) k) (through-cond f (inside (e .lo) (e .hi) k) (e .new) old) ∙ last-relabelled f es k (cond (inside (e .lo) (e .hi) k) (e .new) old)
+    ap (last (relabelledEdits f es) k) (through-cond f (inside (e .lo) (e .hi) k) (e .new) old)
+    ∙ last-relabelled f es k (cond (inside (e .lo) (e .hi) k) (e .new) old)
 
 -- EDITS COMMUTE WITH IT: what edits leave, with other labels and joined, is what the edits with other labels leave of the list with other labels and joined
 pub history-relabelled : (f : ℕ → Option ℕ) (es : List Edit) (m : List Span) → Real es → Tidy 0 m

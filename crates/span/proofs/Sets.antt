@@ -5,11 +5,12 @@ use mathlib.Core.Path.{_≡_, refl, sym, _∙_}
 use mathlib.Core.List.{List, [], _∷_}
 use mathlib.Core.Bool.{Bool, true, false, cond}
 use mathlib.Core.Option.{Option, some, none}
-use Rattle.span.specs.Span.{Span, span, inside, at, or-else, Ordered, Upto, Tidy, Means, before, put, last, Real}
+use Rattle.span.specs.Span.{Span, inside, at, or-else, Ordered, Upto, Tidy, Means, before, put, last, Real}
 use Rattle.span.specs.Operations.{Plain, puts, cuts, gaps, over, within, parts, common, chosen, is, unless, when}
 use Rattle.span.specs.Labels.{equals, member}
-use Rattle.span.proofs.Tests.{Within, cases, in-cases, below, among, beyond, place, in-yes, yes-in, in-no}
-use Rattle.span.proofs.Holding.{at-in, at-out, at-behind, at-below, at-upto, at-app, at-before, at-after, or-none, ordered-from, ordered-app, ordered-before, ordered-after, upto-before, upto-after}
+use Rattle.span.proofs.Tests.{in-cases, below, among, beyond, place, in-yes, yes-in, in-no}
+use Rattle.span.proofs.Holding.{at-in, at-behind, at-below, at-upto, at-app, at-before, at-after, or-none}
+use Rattle.span.proofs.Holding.{ordered-from, ordered-app, ordered-before, ordered-after, upto-before, upto-after}
 use Rattle.span.proofs.Laws.{only, reworded, nothing, itself, joined-means, history-means}
 use Rattle.span.proofs.Labels.{relabelled-means}
 

@@ -102,7 +102,8 @@ ends-by : (n : ℕ) (m : List Span) → bound m ≤ n → Ordered 0 m → EndsBy
 ends-by n m h o = record { ordered = o; upto = upto-more {b = bound m} m h (upto-bound m) }
 
 -- A UNION AND AN INTERSECTION have together as many instants as the two sets
-tally-both : (s t : Bool) → tally (cond (s || t) (some 0) none) + tally (when (cond s (some 0) none) (cond t (some 0) none)) ≡ tally (cond s (some 0) none) + tally (cond t (some 0) none)
+tally-both : (s t : Bool) → tally (cond (s || t) (some 0) none) + tally (when (cond s (some 0) none) (cond t (some 0) none))
+    ≡ tally (cond s (some 0) none) + tally (cond t (some 0) none)
 tally-both true true = refl
 tally-both true false = refl
 tally-both false true = refl
@@ -117,7 +118,8 @@ total-both a b o q l m =
     (ends-by n (common a b) (omega arith) (c .tidy .ordered))
     (ends-by n a (omega arith) o)
     (ends-by n b (omega arith) q)
-    (λ k. rw (c .holds k, at-plain (united a b) k (plain-united a b l m), holds-united k a b o q, at-plain a k l, at-plain b k m) (tally-both (any (holds k) a) (any (holds k) b)))
+    (λ k. rw (c .holds k, at-plain (united a b) k (plain-united a b l m), holds-united k a b o q, at-plain a k l, at-plain b k m)
+    (tally-both (any (holds k) a) (any (holds k) b)))
 
 -- THE SPANS THAT PASS A TEST: their total, span by span, is no more than that of all
 pub total-those : (p : ℕ → Bool) (x : Span) (xs : List Span) → total (those p (x ∷ xs)) ≡ cond (p (x .label)) (x .hi - x .lo) 0 + total (those p xs)

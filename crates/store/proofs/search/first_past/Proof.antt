@@ -57,7 +57,9 @@ loop-again c =
     let m : ℕ = l .low + (l .high - l .low) / 2 in
     let f : SFits w64 (getD (s .args .keys .now) m (pos 0)) = sfits-of (c .before .before .middle .given) in
     let d = (rw (toZ-ofZ f) at (c .before .full .ensures)) .right (c .if1 .taken) in
-    (omega arith, omega arith, omega arith, (λ j h b. omega (arith, d, no-greater (s .args .keys .now) (s .args .count) (s .pre .2) j m (omega arith) (omega arith))), l .inv .4)
+    let up : (j : ℕ) → j ≤ m → rank (getD (s .args .keys .now) j (pos 0)) ≤ rank (getD (s .args .keys .now) m (pos 0)) =
+    λ j h. no-greater (s .args .keys .now) (s .args .count) (s .pre .2) j m h (omega arith) in
+    (omega arith, omega arith, omega arith, (λ j h b. omega (arith, d, up j (omega arith))), l .inv .4)
 
 loop-less-2 : tie.Need-loop-less-2 Inv-loop μ-loop
 loop-less-2 c = omega arith
