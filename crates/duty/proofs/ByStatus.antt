@@ -24,13 +24,13 @@ unfolding tests relabelled secondsOf unrecordedOf strange totalsOf tallying
 of-duties = tt
 
 -- what lies past a table passes no test
-pub record Passes-none (v : ℕ) : Type 0 where
+pub record PassesNone (v : ℕ) : Type 0 where
   pub off : isOffDuty v ≡ false
   pub berth : isSleeperBerth v ≡ false
   pub drives : isDriving v ≡ false
   pub on : isOnDuty v ≡ false
 
-pub past-table : (v : ℕ) → tableLength ≤ v → Passes-none v
+pub past-table : (v : ℕ) → tableLength ≤ v → PassesNone v
 unfolding tests
 past-table v h = record { off = ne-eqb v 1 (omega arith); berth = ne-eqb v 2 (omega arith); drives = ne-eqb v 3 (omega arith); on = ne-eqb v 4 (omega arith) }
 

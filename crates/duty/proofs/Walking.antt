@@ -87,13 +87,13 @@ credited-has t v d n h = go (eqb v d) refl
     go false e = let other = getD-set-other t v d (getD t v 0 + n) 0 (λ z. eqb-false v d e (sym z)) in omega arith
 
 -- two as one: r has both up to the status k, and from there on the first alone
-pub record Adding (t u r : List ℕ) (k : ℕ) : Type 0 where
+pub record JoinedUpto (t u r : List ℕ) (k : ℕ) : Type 0 where
   pub long : length r ≡ length t
   pub done : (s : ℕ) → s < k → getD r s 0 ≡ getD t s 0 + getD u s 0
   pub left : (s : ℕ) → k ≤ s → getD r s 0 ≡ getD t s 0
 
-pub adding-on : {t u r : List ℕ} {k : ℕ} → k < length t → Adding t u r k → Adding t u (set r k (getD r k 0 + getD u k 0)) (k + 1)
-adding-on {t} {u} {r} {k} h a =
+pub joined-next : {t u r : List ℕ} {k : ℕ} → k < length t → JoinedUpto t u r k → JoinedUpto t u (set r k (getD r k 0 + getD u k 0)) (k + 1)
+joined-next {t} {u} {r} {k} h a =
     let n : ℕ = getD r k 0 + getD u k 0 in
     record {
       long = length-set r k n ∙ a .long;
@@ -104,8 +104,8 @@ adding-on {t} {u} {r} {k} h a =
       left = λ s i. getD-set-other r k s n 0 (omega arith) ∙ a .left s (omega arith);
     }
 
-pub adding-end : {t u r : List ℕ} → length u ≡ tableLength → Adding t u r tableLength → Joined t u r
-adding-end {t} {u} {r} l a s = elim (decLt s tableLength) [
+pub joined-end : {t u r : List ℕ} → length u ≡ tableLength → JoinedUpto t u r tableLength → Joined t u r
+joined-end {t} {u} {r} l a s = elim (decLt s tableLength) [
   | yes i ↦ a .done s i
   | no i ↦ let none : getD u s 0 ≡ 0 = List·getD-eq-default u 0 (omega arith) in omega (arith, a .left s (omega arith))
 ]
