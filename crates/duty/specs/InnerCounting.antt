@@ -1,31 +1,27 @@
--- What the functions of the walk say to each other: which places meet the window, and what a table of seconds by duty has of them. No promise of an exported function rests on it.
+-- What the functions of the walk say to each other: which places meet the window, and what a table of seconds by status has of them.
+-- No promise of an exported function rests on it.
 use Prim.Native.Nat.{ℕ, _+_, _-_, _≤_, _<_, min, max}
 use mathlib.Core.Path.{_≡_}
+use mathlib.Core.Bool.{true}
 use mathlib.Core.List.{List}
 use lib.IntN.{ℤ, pos}
 use lib.ListN.{length, getD, set, take, drop, replicate}
 use Rattle.span.specs.Span.{Span}
+use Rattle.span.specs.Labels.{equals}
 use Rattle.key.specs.Rank.{rank}
 use Rattle.key.specs.Range.{halfOpen}
 use Rattle.outcomes.specs.Stored.{spans}
-use Rattle.duty.specs.Duty.{dutyOf, secondsOf}
-use Rattle.duty.specs.InnerWalk.{limit}
+use Rattle.duty.specs.Duty.{isStatus, secondsOf}
+use Rattle.duty.specs.InnerWalk.{limit, tableLength}
 
--- WHICH PLACES: `to` is the first from `from` on, of the first `count`, that begins at the rank hi or after it
-pub record Begun (starts : List ℤ) (from count hi to : ℕ) : Type 0 where
-  pub past : from ≤ to
-  pub within : to ≤ count
-  pub sooner : (k : ℕ) → from ≤ k → k < to → rank (getD starts k (pos 0)) < hi
-  pub later : (k : ℕ) → to ≤ k → k < count → hi ≤ rank (getD starts k (pos 0))
-
--- the values at the places from a up to b are statuses
+-- WHICH PLACES: the values at those from a up to b are statuses
 abbrev pub Statuses : List ℕ → ℕ → ℕ → Type 0
-Statuses vs a b = (k : ℕ) → k < b → a ≤ k → dutyOf (getD vs k 0) ≡ 0 → ⊥
+Statuses vs a b = (k : ℕ) → k < b → a ≤ k → isStatus (getD vs k 0) ≡ true
 
 -- 0 if a value is a status
 pub record Amiss (v r : ℕ) : Type 0 where
-  pub status : r ≡ 0 → dutyOf v ≡ 0 → ⊥
-  pub none : (dutyOf v ≡ 0 → ⊥) → r ≡ 0
+  pub status : r ≡ 0 → isStatus v ≡ true
+  pub none : isStatus v ≡ true → r ≡ 0
 
 -- the ranges at the places from a up to b
 abbrev pub part : List ℤ → List ℤ → List ℕ → ℕ → ℕ → List Span
@@ -50,24 +46,24 @@ Inside ss lo a b = (k : ℕ) → a ≤ k → k < b → lo ≤ rank (getD ss k (p
 
 -- TABLES: one of no seconds
 abbrev pub empty : List ℕ
-empty = replicate 5 0
+empty = replicate tableLength 0
 
--- one with n seconds more of the duty d
+-- one with n seconds more of the status v
 abbrev pub credited : List ℕ → ℕ → ℕ → List ℕ
-credited t d n = set t d (getD t d 0 + n)
+credited t v n = set t v (getD t v 0 + n)
 
 -- a u32 holds each number of two tables as one
 abbrev pub Both : List ℕ → List ℕ → Type 0
-Both t u = (d : ℕ) → getD t d 0 + getD u d 0 < limit
+Both t u = (s : ℕ) → getD t s 0 + getD u s 0 < limit
 
 -- and the table r is that
 abbrev pub Joined : List ℕ → List ℕ → List ℕ → Type 0
-Joined t u r = (d : ℕ) → getD r d 0 ≡ getD t d 0 + getD u d 0
+Joined t u r = (s : ℕ) → getD r s 0 ≡ getD t s 0 + getD u s 0
 
 -- a u32 holds what a table has with the seconds of these ranges from lo up to hi
 abbrev pub Room : ℕ → ℕ → List Span → List ℕ → Type 0
-Room lo hi xs t = (d : ℕ) → getD t d 0 + secondsOf d lo hi xs < limit
+Room lo hi xs t = (s : ℕ) → getD t s 0 + secondsOf (equals s) lo hi xs < limit
 
 -- and the table r has that
 abbrev pub Added : ℕ → ℕ → List Span → List ℕ → List ℕ → Type 0
-Added lo hi xs t r = (d : ℕ) → getD r d 0 ≡ getD t d 0 + secondsOf d lo hi xs
+Added lo hi xs t r = (s : ℕ) → getD r s 0 ≡ getD t s 0 + secondsOf (equals s) lo hi xs

@@ -1,5 +1,6 @@
-// The seconds of each duty between two keys of a half-open map.
+// The seconds of each duty between two keys of a half-open map. They are counted by status, and then gathered.
 use key::RangeKind;
+use store::search::first_past;
 use store::search::reaching;
 ghost use mathlib.Core.Path.{_≡_};
 ghost use Prim.Native.Nat.{_+_, _-_, _≤_, _<_, min, max};
@@ -8,10 +9,10 @@ ghost use Rattle.key.specs.InnerDecides.{Decides};
 ghost use Rattle.key.specs.Rank.{rank};
 ghost use Rattle.key.specs.Range.{halfOpen};
 ghost use Rattle.outcomes.specs.Stored.{Sound, stored, ranges};
-ghost use Rattle.store.specs.InnerSearch.{Ascends, Reached};
+ghost use Rattle.store.specs.InnerSearch.{Reached};
 ghost use Rattle.duty.specs.Duty.{tallying};
-ghost use Rattle.duty.specs.InnerWalk.{limit, gathering, sumOf, completing, walked};
-ghost use Rattle.duty.specs.InnerCounting.{Begun, Statuses, Amiss, Met, Apart, Inside, part};
+ghost use Rattle.duty.specs.InnerWalk.{limit, tableLength, gathering, sumOf, completing, walked};
+ghost use Rattle.duty.specs.InnerCounting.{Statuses, Amiss, Met, Apart, Inside, part};
 ghost use Rattle.duty.specs.InnerCounting.{empty, credited, Both, Joined, Room, Added};
 
 // The number of document 01's table for a status outside 1 to 4.
@@ -31,8 +32,8 @@ pub enum Tallied {
     Refused(u8),
 }
 
-// The duties have the numbers from 0, which is none, up to this.
-const DUTIES: usize = 5;
+// How long a table of seconds by status is. The last status is 4, and 0 is none.
+const TABLE_LENGTH: usize = 5;
 
 // The seconds of the four duties.
 struct Tally {
@@ -96,50 +97,32 @@ fn statuses(values: &[u8], from: usize, to: usize) -> bool
     false
 }
 
-// The place of the first range from `from` on that begins at `end` or after it: `count` if none does.
-fn begun(starts: &[i64], from: usize, count: usize, end: i64) -> usize
-    requires { ⌜ (from ≤ count) × (count ≤ length (now starts)) × Ascends count (now starts) ⌝ }
-    ensures { λ r. ⌜ Begun (now (starts .entry)) from count (rank end) r ⌝ }
-{
-    let mut low = from;
-    let mut high = count;
-    while low < high {
-        let mid = low + (high - low) / 2;
-        if starts[mid] < end {
-            low = mid + 1;
-        } else {
-            high = mid;
-        }
-    }
-    low
-}
-
-// Adds seconds to the duty of a value, in a table of seconds by duty.
-fn credit(t: &mut [u32; DUTIES], value: u8, n: u32)
-    requires { ⌜ (value < 5) × (getD (now t) value 0 + n < limit) ⌝ }
+// Adds seconds to the status `value`, in a table of seconds by status.
+fn credit(t: &mut [u32; TABLE_LENGTH], value: u8, n: u32)
+    requires { ⌜ (value < tableLength) × (getD (now t) value 0 + n < limit) ⌝ }
     ensures { λ _. ⌜ now (t .exit) ≡ credited (now (t .entry)) value n ⌝ }
 {
-    let d = value as usize;
-    t[d] += n;
+    let status = value as usize;
+    t[status] += n;
 }
 
 // Two tables as one.
-fn joined(t: [u32; DUTIES], u: [u32; DUTIES]) -> [u32; DUTIES]
+fn joined(t: [u32; TABLE_LENGTH], u: [u32; TABLE_LENGTH]) -> [u32; TABLE_LENGTH]
     requires { ⌜ Both t u ⌝ }
     ensures { λ r. ⌜ Joined t u r ⌝ }
 {
-    [
-        t[0] + u[0],
-        t[1] + u[1],
-        t[2] + u[2],
-        t[3] + u[3],
-        t[4] + u[4],
-    ]
+    let mut r = t;
+    let mut s = 0;
+    while s < TABLE_LENGTH {
+        r[s] += u[s];
+        s += 1;
+    }
+    r
 }
 
 // A table, and the seconds of the places from `from` up to `to` that lie from `start` up to `end`.
 fn clipped(
-    table: [u32; DUTIES],
+    table: [u32; TABLE_LENGTH],
     starts: &[i64],
     ends: &[i64],
     values: &[u8],
@@ -147,7 +130,7 @@ fn clipped(
     to: usize,
     start: i64,
     end: i64,
-) -> [u32; DUTIES]
+) -> [u32; TABLE_LENGTH]
     requires { ⌜ Met (now starts) (now ends) (now values) (rank start) (rank end) from to × Statuses (now values) from to × Room (rank start) (rank end) (part (now starts) (now ends) (now values) from to) table ⌝ }
     ensures { λ r. ⌜ Added (rank start) (rank end) (part (now (starts .entry)) (now (ends .entry)) (now (values .entry)) from to) table r ⌝ }
 {
@@ -161,9 +144,10 @@ fn clipped(
     t
 }
 
-// The same where none of the places begins before `start`: all but the last lie there whole. They are taken two at a time, each into a table of its own, so that no sum waits for the one before it.
+// The same where none of the places begins before `start`: all but the last lie there whole.
+// They are taken two at a time, each into a table of its own, so that no sum waits for the one before it.
 fn whole(
-    table: [u32; DUTIES],
+    table: [u32; TABLE_LENGTH],
     starts: &[i64],
     ends: &[i64],
     values: &[u8],
@@ -171,12 +155,12 @@ fn whole(
     to: usize,
     start: i64,
     end: i64,
-) -> [u32; DUTIES]
+) -> [u32; TABLE_LENGTH]
     requires { ⌜ Met (now starts) (now ends) (now values) (rank start) (rank end) from to × Statuses (now values) from to × Apart (now starts) (now ends) from to × Inside (now starts) (rank start) from to × Room (rank start) (rank end) (part (now starts) (now ends) (now values) from to) table ⌝ }
     ensures { λ r. ⌜ Added (rank start) (rank end) (part (now (starts .entry)) (now (ends .entry)) (now (values .entry)) from to) table r ⌝ }
 {
     let mut t = table;
-    let mut u = [0; DUTIES];
+    let mut u = [0; TABLE_LENGTH];
     let mut k = from;
     while k + 2 < to {
         let n = seconds(starts[k], ends[k]);
@@ -189,7 +173,7 @@ fn whole(
     clipped(joined(t, u), starts, ends, values, k, to, start, end)
 }
 
-// The seconds by duty of the places from `from` up to `to`, which meet the window. Only the first can begin before it.
+// The seconds by status of the places from `from` up to `to`, which meet the window. Only the first can begin before it.
 fn table_of(
     starts: &[i64],
     ends: &[i64],
@@ -198,11 +182,11 @@ fn table_of(
     to: usize,
     start: i64,
     end: i64,
-) -> [u32; DUTIES]
+) -> [u32; TABLE_LENGTH]
     requires { ⌜ Met (now starts) (now ends) (now values) (rank start) (rank end) from to × Statuses (now values) from to × Apart (now starts) (now ends) from to × Room (rank start) (rank end) (part (now starts) (now ends) (now values) from to) empty ⌝ }
     ensures { λ r. ⌜ Added (rank start) (rank end) (part (now (starts .entry)) (now (ends .entry)) (now (values .entry)) from to) empty r ⌝ }
 {
-    let t = [0; DUTIES];
+    let t = [0; TABLE_LENGTH];
     if from == to {
         return t;
     }
@@ -211,8 +195,9 @@ fn table_of(
     whole(first, starts, ends, values, second, to, start, end)
 }
 
-// The tally of a table of seconds by duty.
-fn gathered(t: [u32; DUTIES]) -> Tally
+// The four totals of a table of seconds by status. The promise sums over the statuses that pass each total's test.
+// The code names them, so that nothing is tested at run time.
+fn gathered(t: [u32; TABLE_LENGTH]) -> Tally
     ensures { λ r. ⌜ r ≡ gathering t ⌝ }
 {
     Tally {
@@ -238,7 +223,8 @@ fn completed(t: Tally, seconds: u32) -> Totals
     }
 }
 
-// The four duties from the key `start` up to the key `end`. Each range from the place `from` on ends past `start`, so those that begin before `end` meet the window.
+// The four totals from the key `start` up to the key `end`.
+// Each range from the place `from` on ends past `start`, so those that begin before `end` meet the window.
 fn walk(
     count: usize,
     starts: &[i64],
@@ -251,7 +237,7 @@ fn walk(
     requires { ⌜ Sound halfOpen (stored count (now starts) (now ends) (now values)) × Reached halfOpen count (now ends) start from × (rank start < rank end) × (rank end - rank start < limit) ⌝ }
     ensures { λ r. ⌜ r ≡ walked (rank start) (rank end) (ranges halfOpen (stored count (now (starts .entry)) (now (ends .entry)) (now (values .entry)))) ⌝ }
 {
-    let to = begun(starts, from, count, end);
+    let to = first_past(RangeKind::HalfOpen, starts, from, count, end);
     if !statuses(values, from, to) {
         return Walked::Strange;
     }

@@ -8,7 +8,7 @@ use key::RangeKind;
 use key::full;
 use splice::Entry;
 use store::search::reaching;
-use store::walk::begun;
+use store::walk::first_past;
 ghost use mathlib.Core.Path.{_≡_};
 ghost use mathlib.Core.Option.{some, none};
 ghost use Prim.Native.Nat.{_<_};
@@ -54,7 +54,7 @@ fn touched(
     let from = reaching(RangeKind::Inclusive, ends, count, least);
     Met {
         from: from,
-        to: begun(RangeKind::Inclusive, starts, from, count, greatest),
+        to: first_past(RangeKind::Inclusive, starts, from, count, greatest),
     }
 }
 
@@ -168,7 +168,7 @@ fn edit(
         ≡ editing (kindOf kind) (length (now (starts .entry))) (lent (count .entry) (starts .entry) (ends .entry) (values .entry)) start end (asked comes value) ⌝ }
 {
     if !full(kind, start, end) {
-        return 1;
+        return outcomes::EMPTY_RANGE;
     }
     let plan = plan_of(kind, *count, starts, ends, values, start, end, comes, value);
     crate::plan::carry_out(count, starts, ends, values, plan)

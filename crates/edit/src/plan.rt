@@ -71,7 +71,7 @@ pub fn carry_out(
     let n = p.n;
     let next = from + n + (held - to);
     if starts.len() < next {
-        return 2;
+        return outcomes::TOO_MANY;
     }
     let x = p.x;
     let y = p.y;

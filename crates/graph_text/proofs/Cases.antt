@@ -6,7 +6,7 @@ use lib.IntN.{pos}
 use Rattle.span.specs.Span.{Span, span, inside, keep, before, after, joins, push, joined, given, history}
 use Rattle.span.specs.Operations.{cuts, gaps, within, total, any}
 use Rattle.key.specs.Rank.{place, bitRank, rank}
-use Rattle.duty.specs.Duty.{dutyOf, those, secondsOf, unrecordedOf, totalsOf}
+use Rattle.duty.proofs.ByStatus.{of-duties}
 use Rattle.duty.specs.declared.Totals.{Totals}
 use Rattle.text.specs.Text.{rightOf, leftOf}
 use Rattle.decimal.specs.Decimal.{digitsText, spelled, decimalText, signedText}
@@ -17,8 +17,17 @@ use Rattle.report_text.specs.ReportText.{nameColumn, clockColumn}
 use Rattle.graph_text.specs.Grid.{clockHour, inQuarter, marked, markOf, blankOf, shown, cell}
 use Rattle.graph_text.specs.GraphText.{hourColumn, hoursLine, totalColumn, rowLine, sumLine, graphText}
 
+-- `unfolding all` opens every definition that a case computes with: of spans, of text, of the grid
+unfoldable of-spans : Unit {0}
+unfolding inside keep before after joins push joined given history cuts gaps within total any place bitRank
+of-spans = tt
+
+unfoldable of-text : Unit {0}
+unfolding rightOf leftOf digitsText spelled decimalText signedText pieceOf leftBy filled series rowName rowOf sumSeconds pairText clockText nameColumn clockColumn
+of-text = tt
+
 unfoldable all : Unit {0}
-unfolding inside keep before after joins push joined given history cuts gaps within total any place bitRank dutyOf those secondsOf unrecordedOf totalsOf rightOf leftOf digitsText spelled decimalText signedText pieceOf leftBy filled series rowName rowOf sumSeconds pairText clockText nameColumn clockColumn clockHour inQuarter marked markOf blankOf shown cell hourColumn hoursLine totalColumn rowLine sumLine graphText
+unfolding of-spans of-duties of-text clockHour inQuarter marked markOf blankOf shown cell hourColumn hoursLine totalColumn rowLine sumLine graphText
 all = tt
 
 -- THE HOURS of the three kinds of day: 2 is missing, all are there, 1 stands twice

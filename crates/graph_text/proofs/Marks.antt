@@ -1,21 +1,22 @@
 -- WHAT A MARK SAYS: a quarter has a mark in a row exactly where the map holds that status at some instant of it.
 -- In the row of unrecorded time it has one exactly where the map holds nothing at some instant.
-use Prim.Native.Nat.{ℕ, zero, suc, _+_, _*_, _≤_, _<_}
+use Prim.Native.Nat.{ℕ, zero, suc, _+_, _*_, _<_}
 use native.Mathlib.Omega.{arith}
 use native.Mathlib.Decide.{decLt}
-use mathlib.Core.Path.{_≡_, refl, sym, ap, _∙_}
+use mathlib.Core.Path.{_≡_, refl, ap, _∙_}
 use mathlib.Core.Bool.{Bool, true, false, cond}
 use mathlib.Core.List.{List}
 use mathlib.Core.Option.{Option, some, none}
-use borrow.Author.Tests.{ltb-true, lt-ltb, eqb-true, eq-eqb}
+use borrow.Author.Tests.{ltb-true, lt-ltb}
 use lib.IntN.{ℤ}
 use Rattle.span.specs.Span.{Span, inside, at, Ordered}
+use Rattle.span.specs.Labels.{through, passed}
 use Rattle.span.specs.Operations.{tally, count, unless}
 use Rattle.span.proofs.Tests.{Within, cases, in-yes, yes-in, in-cases}
 use Rattle.span.proofs.Laws.{never}
 use Rattle.key.specs.Rank.{rank}
-use Rattle.duty.specs.Duty.{dutyOf, counts, secondsOf, unrecordedOf, totalsOf}
-use Rattle.duty.proofs.Instants.{passes, seconds-instants, unrecorded-instants}
+use Rattle.duty.specs.Duty.{isOffDuty, isSleeperBerth, isDriving, isOnDuty, secondsOf, unrecordedOf, totalsOf}
+use Rattle.duty.proofs.Instants.{seconds-instants, unrecorded-instants}
 use Rattle.report_text.specs.Rows.{rowOf}
 use Rattle.graph_text.specs.Grid.{inQuarter, marked}
 
@@ -25,11 +26,11 @@ pub record Instant (lo hi : ℕ) (P : ℕ → Type 0) : Type 0 where
   pub in-window : Within lo hi instant
   pub there : P instant
 
--- at k a status is held that counts to the duty d
-pub record Holds (d : ℕ) (m : List Span) (k : ℕ) : Type 0 where
+-- at k a value is held that passes a test
+pub record Holds (p : ℕ → Bool) (m : List Span) (k : ℕ) : Type 0 where
   pub value : ℕ
   pub held : at m k ≡ some value
-  pub status : dutyOf value ≡ d
+  pub passes : p value ≡ true
 
 -- COUNTS: one that is not 0 has counted an instant, and an instant is counted
 record CountedAt (f : ℕ → Option ℕ) (n : ℕ) : Type 0 where
@@ -61,31 +62,35 @@ counted f (suc n) k h e =
 in-window-is : (lo hi k : ℕ) (o : Option ℕ) {v : ℕ} → cond (inside lo hi k) o none ≡ some v → Within lo hi k × (o ≡ some v)
 in-window-is lo hi k o {v} = in-cases lo hi k (λ (x : Option ℕ). x ≡ some v → Within lo hi k × (o ≡ some v)) (λ w e. (w, e)) (λ w e. absurd (never e))
 
-passed : (d : ℕ) (o : Option ℕ) {v : ℕ} → passes (counts d) o ≡ some v → (u : ℕ) × (o ≡ some u) × (dutyOf u ≡ d)
-passed d none = λ e. absurd (never e)
-passed d (some u) {v} = cases (counts d u) (λ (x : Option ℕ). x ≡ some v → (w : ℕ) × (some u ≡ some w) × (dutyOf w ≡ d)) (λ t e. (u, refl, eqb-true (dutyOf u) d t)) (λ t e. absurd (never e))
+was-held : (p : ℕ → Bool) (o : Option ℕ) {v : ℕ} → through (passed p) o ≡ some v → (u : ℕ) × (o ≡ some u) × (p u ≡ true)
+was-held p none = λ e. absurd (never e)
+was-held p (some u) {v} =
+    cases (p u) (λ (x : Option ℕ). x ≡ some v → (w : ℕ) × (some u ≡ some w) × (p w ≡ true)) (λ t e. (u, refl, t)) (λ t e. absurd (never e))
 
 free : (o : Option ℕ) (t : Bool) {v : ℕ} → unless o (cond t (some 0) none) ≡ some v → (o ≡ none) × (t ≡ true)
 free none true e = (refl, refl)
 free none false e = absurd (never e)
 free (some u) t e = absurd (never e)
 
--- THE SECONDS OF A DUTY, and unrecorded ones
+-- THE SECONDS of what passes a test, and unrecorded ones
 module _ (lo hi : ℕ) (m : List Span) (o : Ordered 0 m) where
-  pub seconds-held : (d : ℕ) → 0 < secondsOf d lo hi m → Instant lo hi (Holds d m)
-  seconds-held d h =
-      let c : 0 < count (λ k. cond (inside lo hi k) (passes (counts d) (at m k)) none) hi = omega (arith, h, seconds-instants d lo hi m o) in
-      let r = found _ hi c in
-      let w = in-window-is lo hi (r .k) (passes (counts d) (at m (r .k))) (r .is) in
-      let p = passed d (at m (r .k)) (w .1) in
-      record { instant = r .k; in-window = w .0; there = record { value = p .0; held = p .1; status = p .2 } }
+  -- what is counted of a test
+  abbrev tested : (ℕ → Bool) → ℕ → Option ℕ
+  tested p k = cond (inside lo hi k) (through (passed p) (at m k)) none
 
-  pub held-seconds : (d : ℕ) → Instant lo hi (Holds d m) → 0 < secondsOf d lo hi m
-  held-seconds d i =
+  pub seconds-held : (p : ℕ → Bool) → 0 < secondsOf p lo hi m → Instant lo hi (Holds p m)
+  seconds-held p h =
+      let c : 0 < count (tested p) hi = omega (arith, h, seconds-instants p lo hi m o) in
+      let r = found _ hi c in
+      let w = in-window-is lo hi (r .k) (through (passed p) (at m (r .k))) (r .is) in
+      let u = was-held p (at m (r .k)) (w .1) in
+      record { instant = r .k; in-window = w .0; there = record { value = u .0; held = u .1; passes = u .2 } }
+
+  pub held-seconds : (p : ℕ → Bool) → Instant lo hi (Holds p m) → 0 < secondsOf p lo hi m
+  held-seconds p i =
       let k = i .instant in
-      let v = i .there .value in
-      let e : cond (inside lo hi k) (passes (counts d) (at m k)) none ≡ some v = rw (in-yes lo hi k (i .in-window), i .there .held, eq-eqb (dutyOf v) d (i .there .status)) in
-      omega (arith, seconds-instants d lo hi m o, counted (λ k. cond (inside lo hi k) (passes (counts d) (at m k)) none) hi k (i .in-window .to) e)
+      let e : tested p k ≡ some (i .there .value) = rw (in-yes lo hi k (i .in-window), i .there .held, i .there .passes) in
+      omega (arith, seconds-instants p lo hi m o, counted (tested p) hi k (i .in-window .to) e)
 
   pub seconds-free : lo < hi → 0 < unrecordedOf lo hi m → Instant lo hi (λ k. at m k ≡ none)
   seconds-free l h =
@@ -102,10 +107,10 @@ module _ (lo hi : ℕ) (m : List Span) (o : Ordered 0 m) where
 
 -- what a mark in a row says of an instant
 abbrev pub Shows : ℕ → List Span → ℕ → Type 0
-Shows zero m k = Holds 1 m k
-Shows (suc zero) m k = Holds 2 m k
-Shows (suc (suc zero)) m k = Holds 3 m k
-Shows (suc (suc (suc zero))) m k = Holds 4 m k
+Shows zero m k = Holds isOffDuty m k
+Shows (suc zero) m k = Holds isSleeperBerth m k
+Shows (suc (suc zero)) m k = Holds isDriving m k
+Shows (suc (suc (suc zero))) m k = Holds isOnDuty m k
 Shows (suc (suc (suc (suc zero)))) m k = at m k ≡ none
 Shows (suc (suc (suc (suc (suc j))))) m k = ⊥
 
@@ -119,18 +124,18 @@ module _ (m : List Span) (s : ℤ) (q : ℕ) (o : Ordered 0 m) where
 
   pub mark-instant : (j : ℕ) → marked m s j q ≡ true → Instant from upto (Shows j m)
   unfolding marked inQuarter totalsOf rowOf
-  mark-instant zero e = seconds-held from upto m o 1 (ltb-true _ _ e)
-  mark-instant (suc zero) e = seconds-held from upto m o 2 (ltb-true _ _ e)
-  mark-instant (suc (suc zero)) e = seconds-held from upto m o 3 (ltb-true _ _ e)
-  mark-instant (suc (suc (suc zero))) e = seconds-held from upto m o 4 (ltb-true _ _ e)
+  mark-instant zero e = seconds-held from upto m o isOffDuty (ltb-true _ _ e)
+  mark-instant (suc zero) e = seconds-held from upto m o isSleeperBerth (ltb-true _ _ e)
+  mark-instant (suc (suc zero)) e = seconds-held from upto m o isDriving (ltb-true _ _ e)
+  mark-instant (suc (suc (suc zero))) e = seconds-held from upto m o isOnDuty (ltb-true _ _ e)
   mark-instant (suc (suc (suc (suc zero)))) e = seconds-free from upto m o (omega arith) (ltb-true _ _ e)
   mark-instant (suc (suc (suc (suc (suc j))))) e = absurd (omega (arith, ltb-true 0 0 e))
 
   pub instant-mark : (j : ℕ) → Instant from upto (Shows j m) → marked m s j q ≡ true
   unfolding marked inQuarter totalsOf rowOf
-  instant-mark zero i = lt-ltb _ _ (held-seconds from upto m o 1 i)
-  instant-mark (suc zero) i = lt-ltb _ _ (held-seconds from upto m o 2 i)
-  instant-mark (suc (suc zero)) i = lt-ltb _ _ (held-seconds from upto m o 3 i)
-  instant-mark (suc (suc (suc zero))) i = lt-ltb _ _ (held-seconds from upto m o 4 i)
+  instant-mark zero i = lt-ltb _ _ (held-seconds from upto m o isOffDuty i)
+  instant-mark (suc zero) i = lt-ltb _ _ (held-seconds from upto m o isSleeperBerth i)
+  instant-mark (suc (suc zero)) i = lt-ltb _ _ (held-seconds from upto m o isDriving i)
+  instant-mark (suc (suc (suc zero))) i = lt-ltb _ _ (held-seconds from upto m o isOnDuty i)
   instant-mark (suc (suc (suc (suc zero)))) i = lt-ltb _ _ (free-seconds from upto m o (omega arith) i)
   instant-mark (suc (suc (suc (suc (suc j))))) i = absurd (i .there)

@@ -3,7 +3,7 @@ use Prim.Native.Nat.{ℕ, suc, _+_, _-_, _*_, _≤_, _<_, min, max}
 use native.Mathlib.Omega.{arith}
 use native.Mathlib.Decide.{decLt}
 use mathlib.Core.Path.{_≡_, sym, _∙_}
-use mathlib.Core.Bool.{false}
+use mathlib.Core.Bool.{false, not}
 use mathlib.Core.List.{List, [], _∷_}
 use borrow.Author.Tests.{lt-ltb, le-ltb}
 use lib.Dec.{ltb}
@@ -16,7 +16,7 @@ use Rattle.key.specs.Rank.{place, bitRank, rank, keys}
 use Rattle.key.specs.Range.{halfOpen}
 use Rattle.key.proofs.Laws.{toZ-fit, rank-place, rank-below}
 use Rattle.outcomes.specs.Stored.{Stored, ranges}
-use Rattle.duty.specs.Duty.{counts, strange, tallying}
+use Rattle.duty.specs.Duty.{isStatus, strange, tallying}
 use Rattle.duty.specs.declared.Totals.{Totals}
 use Rattle.duty.specs.declared.Tallied.the-variants as Tallied
 use Rattle.duty.proofs.Laws.{within-cons, strange-cons, strange-alike, strange-none}
@@ -32,7 +32,7 @@ off lo hi x xs h = strange-alike lo hi (x ∷ xs) xs (within-cons lo hi x xs ∙
 -- what is behind a span of a calm window is calm, and so is the span if it meets the window
 behind-calm : (lo hi : ℕ) (x : Span) (xs : List Span) → strange lo hi (x ∷ xs) ≡ false → strange lo hi xs ≡ false
 behind-calm lo hi x xs e = elim (decLt (max (x .lo) lo) (min (x .hi) hi)) [
-  | yes h ↦ neither (counts 0 (x .label)) (strange lo hi xs) (sym (strange-cons lo hi x xs h) ∙ e) .1
+  | yes h ↦ neither (not (isStatus (x .label))) (strange lo hi xs) (sym (strange-cons lo hi x xs h) ∙ e) .1
   | no h ↦ sym (off lo hi x xs (omega arith)) ∙ e
 ]
 
@@ -44,7 +44,7 @@ calm-part lo hi a b (x ∷ xs) p q e =
     elim (decLt (max (x .lo) a) (min (x .hi) b)) [
       | yes h ↦
           let w : max (x .lo) lo < min (x .hi) hi = omega arith in
-          rw (strange-cons a b x xs h, neither (counts 0 (x .label)) (strange lo hi xs) (sym (strange-cons lo hi x xs w) ∙ e) .0, ih)
+          rw (strange-cons a b x xs h, neither (not (isStatus (x .label))) (strange lo hi xs) (sym (strange-cons lo hi x xs w) ∙ e) .0, ih)
       | no h ↦ off a b x xs (omega arith) ∙ ih
     ]
 

@@ -4,7 +4,7 @@ ghost use mathlib.Core.Path.{_≡_};
 ghost use Prim.Native.Nat.{_+_, _<_};
 ghost use Rattle.key.specs.InnerDecides.{Decides};
 ghost use Rattle.key.specs.Rank.{rank, keys, lesser, greater};
-ghost use Rattle.key.specs.Range.{kindOf, rangeOf, size, lengthOf};
+ghost use Rattle.key.specs.Range.{kindOf};
 
 // The least key, of rank 0.
 pub const LEAST: i64 = -9223372036854775808;
@@ -103,35 +103,5 @@ pub fn end_before(kind: RangeKind, key: i64) -> i64
     match kind {
         RangeKind::HalfOpen => key,
         RangeKind::Inclusive => key - 1,
-    }
-}
-
-// How many keys a range has, where a u64 holds the number.
-pub enum KeyCount {
-    Keys(u64),
-    TooMany,
-}
-
-// A number and one more, where a u64 holds it.
-fn one_more(n: u64) -> KeyCount
-    ensures { λ r. ⌜ r ≡ lengthOf (n + 1) ⌝ }
-{
-    if n == 18446744073709551615 {
-        return KeyCount::TooMany;
-    }
-    KeyCount::Keys(n + 1)
-}
-
-// The length of a range: 0 if it is empty or reversed, and too many for the inclusive range of all keys, and for no other.
-pub fn length(kind: RangeKind, start: i64, end: i64) -> KeyCount
-    ensures { λ r. ⌜ r ≡ lengthOf (size (rangeOf (kindOf kind) start end 0)) ⌝ }
-{
-    if !full(kind, start, end) {
-        return KeyCount::Keys(0);
-    }
-    let below = rank_of(end) - rank_of(start);
-    match kind {
-        RangeKind::HalfOpen => KeyCount::Keys(below),
-        RangeKind::Inclusive => one_more(below),
     }
 }

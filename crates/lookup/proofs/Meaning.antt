@@ -23,7 +23,7 @@ use Rattle.outcomes.specs.declared.Found.{Found}
 use Rattle.outcomes.specs.declared.Found.the-variants as Found
 use Rattle.outcomes.specs.declared.Part.the-variants as Part
 use Rattle.store.specs.InnerCheck.{place}
-use Rattle.store.specs.InnerSearch.{Reached, Begun}
+use Rattle.store.specs.InnerSearch.{Reached, FirstPast}
 use Rattle.lookup.proofs.Places.{nth, Exactly, exactly-inside, missed-free, meets-none}
 use Rattle.outcomes.proofs.Formed.{good}
 use Rattle.lookup.proofs.Returns.{as-many, nth-place, the-first-range, rising, placed-at, placed-none, met-empty, met-yes, met-no, exactly-met, part-empty, part-none, part-some}
@@ -180,7 +180,7 @@ module _ {kind : Kind} {m : Stored} (sound : Sound kind m) where
         | no i ↦ omega arith
       ]
 
-      walk : Begun kind (m .count) (m .starts) from e to
+      walk : FirstPast kind (m .count) (m .starts) from e to
       walk =
           let f = the-first-range sound late in
           record { from = in-order; within = f .within; before = λ j i b. leb-false _ _ (f .before j i); at = λ i. leb-true _ _ (f .at i) }

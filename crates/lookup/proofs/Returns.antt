@@ -19,7 +19,7 @@ use Rattle.outcomes.specs.declared.Found.the-variants as Found
 use Rattle.outcomes.specs.declared.Part.the-variants as Part
 use Rattle.outcomes.proofs.Formed.{shape, good, length-ranges, getD-ranges}
 use Rattle.store.specs.InnerCheck.{place}
-use Rattle.store.specs.InnerSearch.{Reached, Begun}
+use Rattle.store.specs.InnerSearch.{Reached, FirstPast}
 use Rattle.store.proofs.Checked.{formed-steps}
 use Rattle.lookup.proofs.Places.{nth, First, Exactly, exactly-first, first-as, exactly-as, is-first, the-first, any-first, how-many, Rising, holds-meets, meets-at, meets-none, meets-part}
 
@@ -113,7 +113,7 @@ module _ {kind : Kind} {m : Stored} (sound : Sound kind m) where
       unfolding met
       met-no b = rw (lt-leb (q .hi) (q .lo) h, any-none (overlaps q) (first-range (meets-none rising q (r .below) (r .at) b)) (omega arith))
 
-      module _ {n : ℕ} (w : Begun kind (m .count) (m .starts) p e n) where
+      module _ {n : ℕ} (w : FirstPast kind (m .count) (m .starts) p e n) where
         pub exactly-met : Exactly (overlaps q) (place kind m) (m .count) p n
         exactly-met = meets-part rising q (r .below) (r .at) (w .from) (w .within) (w .before) (w .at)
 

@@ -7,7 +7,7 @@ use outcomes::Asked;
 use outcomes::Found;
 use outcomes::Part;
 use store::search::reaching;
-use store::walk::begun;
+use store::walk::first_past;
 ghost use mathlib.Core.Path.{_≡_};
 ghost use Prim.Native.Nat.{_≤_};
 ghost use lib.ListN.{length};
@@ -128,7 +128,7 @@ pub fn overlapping(
         return Part::Refused(outcomes::EMPTY_RANGE);
     }
     let first = reaching(kind, ends, count, start);
-    let next = begun(kind, starts, first, count, end);
+    let next = first_past(kind, starts, first, count, end);
     if next == first {
         return Part::Places(0, 0);
     }

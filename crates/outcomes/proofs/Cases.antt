@@ -64,7 +64,8 @@ insert-both-left = refl
 abbrev full : Stored
 full = storing halfOpen places (comb places (rank (pos 0)))
 
-full-joins : inserting halfOpen full (pos 1) (pos 2) 1 .answer ≡ 0
+full-joins : inserting halfOpen full (pos 1) (pos 2) 1
+    ≡ leaving 0 (storing halfOpen places (rangeOf halfOpen (pos 0) (pos 3) 1 ∷ comb (places - 2) (rank (pos 4))))
 unfolding all
 full-joins = refl
 

@@ -10,6 +10,7 @@ use lib.IntN.{ℤ}
 use Rattle.span.specs.Span.{Span, Tidy, Means, Upto}
 use Rattle.span.proofs.Tests.{lt-cases}
 use Rattle.span.proofs.Laws.{only}
+use Rattle.span.proofs.Total.{upto-more}
 use Rattle.span.proofs.Walks.{Spaced}
 use Rattle.key.specs.Rank.{rank}
 use Rattle.key.specs.Range.{halfOpen}
@@ -29,7 +30,6 @@ use Rattle.query_text.proofs.Unambiguous.{unambiguous}
 use Rattle.query.specs.Result.{isTrue, marked}
 use Rattle.query.proofs.Result.{result-means}
 use Rattle.query.proofs.Hours.{ends-within}
-use Rattle.query.proofs.Windows.{upto-more}
 use Rattle.query.proofs.Instants.{result-plain, result-covers, marks-maximal, marks-cover}
 use Rattle.query.specs.Answers.{resultOf, queried, queriedAt, querying, queryingAt}
 use Rattle.query.proofs.ReadBack.{read-back}

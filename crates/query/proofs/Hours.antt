@@ -1,46 +1,19 @@
 -- HOURS ADD UP: where a query is true and where it is not fill the window; windows that meet have together the result over both.
-use Prim.Native.Nat.{ℕ, zero, suc, _+_, _-_, _<_}
+use Prim.Native.Nat.{ℕ, _+_, _-_, _<_}
 use native.Mathlib.Omega.{arith}
 use mathlib.Core.Path.{_≡_, refl, sym, _∙_}
 use mathlib.Core.Bool.{Bool, true, false, _&&_, _||_, not}
 use mathlib.Core.List.{List, [], _∷_}
-use mathlib.Core.Option.{Option, some, none}
-use Rattle.span.specs.Span.{Span, span, inside, at, Ordered, Upto, Tidy}
-use Rattle.span.specs.Operations.{total, tally, count}
+use mathlib.Core.Option.{some, none}
+use Rattle.span.specs.Span.{Span, span, inside, at, Tidy}
+use Rattle.span.specs.Operations.{total, tally}
 use Rattle.span.proofs.Tests.{yes-in}
 use Rattle.span.proofs.Local.{upto-at}
-use Rattle.span.proofs.Total.{total-counts}
+use Rattle.span.proofs.Total.{EndsBy, total-pairs}
 use Rattle.query_text.specs.Grammar.{Query, no, both, either}
 use Rattle.query_text.specs.Meaning.{truth}
 use Rattle.query.specs.Result.{result, isTrue, marked}
 use Rattle.query.proofs.Result.{result-means}
-
--- two tell of as many instants as the other two, at each instant
-abbrev pub AsMany : (f g h i : ℕ → Option ℕ) → Type 0
-AsMany f g h i = (k : ℕ) → tally (f k) + tally (g k) ≡ tally (h k) + tally (i k)
-
--- and so before n
-count-pairs : (f g h i : ℕ → Option ℕ) (n : ℕ) → AsMany f g h i → count f n + count g n ≡ count h n + count i n
-unfolding count
-count-pairs f g h i zero e = refl
-count-pairs f g h i (suc n) e = omega (arith, e n, count-pairs f g h i n e)
-
--- a list in order that ends by n
-pub record EndsBy (n : ℕ) (m : List Span) : Type 0 where
-  pub ordered : Ordered 0 m
-  pub upto : Upto n m
-
--- lists of which two tell of as many instants as the other two have the same totals
-pub total-pairs : {n : ℕ} {a b c d : List Span} → EndsBy n a → EndsBy n b → EndsBy n c → EndsBy n d
-    → AsMany (at a) (at b) (at c) (at d) → total a + total b ≡ total c + total d
-total-pairs {n} {a} {b} {c} {d} p q r s e =
-    rw (
-      total-counts 0 n a (p .ordered) (p .upto),
-      total-counts 0 n b (q .ordered) (q .upto),
-      total-counts 0 n c (r .ordered) (r .upto),
-      total-counts 0 n d (s .ordered) (s .upto),
-    )
-    (count-pairs (at a) (at b) (at c) (at d) n e)
 
 -- what is marked in a window is in the window
 marked-some : (w t : Bool) {v : ℕ} → marked (w && t) ≡ some v → w ≡ true

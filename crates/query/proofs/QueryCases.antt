@@ -7,7 +7,8 @@ use mathlib.Core.Bool.{Bool, true, false}
 use mathlib.Core.List.{List, [], _∷_, map}
 use lib.IntN.{ℤ, pos, negsuc}
 use Rattle.span.specs.Span.{inside, at, keep, before, after, joins, tidy, push, joined, given, history}
-use Rattle.span.specs.Operations.{puts, cuts, gaps, over, within, parts, common, picked, chosen}
+use Rattle.span.specs.Labels.{relabelled}
+use Rattle.span.specs.Operations.{puts, cuts, gaps, over, within, parts, common, chosen}
 use Rattle.key.specs.Rank.{place, bitRank, keyAt}
 use Rattle.key.specs.Range.{halfOpen, rangeOf}
 use Rattle.outcomes.specs.Stored.{places, Stored, spans, ranges, filled, storing, zeros, noughts, unused, wellFormed}
@@ -48,7 +49,7 @@ short = pos 70 ∷ []
 
 -- `unfolding all` opens every definition that a case computes with: of spans, of maps, of queries
 unfoldable of-spans : Unit {0}
-unfolding inside at keep before after joins tidy push joined given history puts cuts gaps over within parts common picked chosen
+unfolding inside at keep before after joins tidy push joined given history puts cuts gaps over within parts common relabelled chosen
 of-spans = tt
 
 unfoldable of-maps : Unit {0}

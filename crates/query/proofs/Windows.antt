@@ -1,25 +1,21 @@
 -- WINDOWS THAT MEET: the results over them, joined, are the result over both, and so their totals add up.
-use Prim.Native.Nat.{ℕ, _+_, _≤_, _<_}
+use Prim.Native.Nat.{ℕ, _+_, _<_}
 use native.Mathlib.Omega.{arith}
 use mathlib.Core.Path.{_≡_, refl}
 use mathlib.Core.Bool.{Bool, true, false, _&&_}
-use mathlib.Core.List.{List, [], _∷_}
+use mathlib.Core.List.{List, []}
 use mathlib.Core.Option.{none}
-use Rattle.span.specs.Span.{Span, inside, at, Upto, Tidy, or-else}
+use Rattle.span.specs.Span.{Span, inside, at, Tidy, or-else}
 use Rattle.span.specs.Operations.{over, total, tally}
 use Rattle.span.proofs.Tests.{below, among, beyond, place, in-yes, in-no, in-same}
 use Rattle.span.proofs.Laws.{reworded}
 use Rattle.span.proofs.Sets.{over-means}
+use Rattle.span.proofs.Total.{EndsBy, total-pairs, upto-more}
 use Rattle.query_text.specs.Grammar.{Query}
 use Rattle.query_text.specs.Meaning.{truth}
 use Rattle.query.specs.Result.{result, isTrue, marked}
 use Rattle.query.proofs.Result.{result-means, result-only}
-use Rattle.query.proofs.Hours.{EndsBy, total-pairs, ends-within}
-
--- a list that ends by b ends by any later c
-pub upto-more : {b c : ℕ} (m : List Span) → b ≤ c → Upto b m → Upto c m
-upto-more [] h u = tt
-upto-more (x ∷ xs) h u = (omega arith, upto-more xs h (u .1))
+use Rattle.query.proofs.Hours.{ends-within}
 
 -- an instant of the window is in the first part, or else in the second if it is in any
 module _ (lo mid hi : ℕ) (left : lo < mid) (right : mid < hi) (k : ℕ) where

@@ -10,7 +10,7 @@ use Rattle.key.specs.Range.{halfOpen}
 use Rattle.outcomes.specs.Stored.{Stored, spans, ranges, filled, storing, zeros, noughts, unused, wellFormed}
 use Rattle.outcomes.specs.Outcomes.{editing, edited, inserting, cleared}
 use Rattle.hours.specs.Hours.{hoursOf}
-use Rattle.duty.specs.Duty.{dutyOf, those, secondsOf, unrecordedOf, strange, totalsOf, tallying}
+use Rattle.duty.proofs.ByStatus.{of-duties}
 use Rattle.calendar.specs.Calendar.{leap, yearLength, monthLength, yearsBefore, monthsBefore, dayNumber, isDate, nextDate, weekday, sundayWithin, sundayFrom, marchSunday, novemberSunday}
 use Rattle.calendar.specs.Calendar as Calendar
 use Rattle.log_day.specs.Days.{standard, changes, daylight, offset, midnight, accepted, dayOf}
@@ -22,8 +22,25 @@ use Rattle.report.specs.declared.Reported.the-variants as Reported
 abbrev november : Stored
 november = inserting halfOpen (inserting halfOpen (cleared halfOpen) (pos 1730606400) (pos 1730696400) 1 .left) (pos 1730628000) (pos 1730653200) 3 .left
 
+-- `unfolding all` opens every definition that a case computes with: of dates, of days, of spans, of maps, of duties
+unfoldable of-dates : Unit {0}
+unfolding leap yearLength monthLength Calendar.total yearsBefore monthsBefore dayNumber isDate nextDate weekday sundayWithin sundayFrom marchSunday novemberSunday
+of-dates = tt
+
+unfoldable of-days : Unit {0}
+unfolding standard changes daylight offset midnight accepted dayOf
+of-days = tt
+
+unfoldable of-spans : Unit {0}
+unfolding inside keep before after joins tidy push joined given history cuts gaps within total any
+of-spans = tt
+
+unfoldable of-maps : Unit {0}
+unfolding place bitRank keyAt spans ranges filled storing zeros noughts unused wellFormed editing edited cleared
+of-maps = tt
+
 unfoldable all : Unit {0}
-unfolding leap yearLength monthLength Calendar.total yearsBefore monthsBefore dayNumber isDate nextDate weekday sundayWithin sundayFrom marchSunday novemberSunday standard changes daylight offset midnight accepted dayOf inside keep before after joins tidy push joined given history cuts gaps within total any place bitRank keyAt spans ranges filled storing zeros noughts unused wellFormed editing edited cleared hoursOf dutyOf those secondsOf unrecordedOf strange totalsOf tallying reporting
+unfolding of-dates of-days of-spans of-maps of-duties hoursOf reporting
 all = tt
 
 pub november-report : reportOf (reporting november 0 2024 11 3) ≡ record {

@@ -1,5 +1,6 @@
--- WHAT A REPORT SAYS: each duty's seconds are the number of instants of the day at which the map holds it, the four duties and unrecorded time sum to the day's length,
--- the whole day is unrecorded exactly where the map holds nothing in it, and each hour is the double nearest its seconds / 3600.
+-- WHAT A REPORT SAYS: each total's seconds are the number of instants of the day at which the map holds a status that counts to it;
+-- the four totals and unrecorded time sum to the day's length; the whole day is unrecorded exactly where the map holds nothing in it;
+-- and each hour is the double nearest its seconds / 3600.
 use Prim.Native.Nat.{ℕ, _+_, _-_, _≤_, _<_}
 use native.Mathlib.Omega.{arith}
 use mathlib.Core.Path.{_≡_, refl, sym, ap, _∙_}
@@ -8,6 +9,7 @@ use mathlib.Core.List.{List}
 use mathlib.Core.Option.{some, none}
 use lib.IntN.{ℤ}
 use Rattle.span.specs.Span.{Span, inside, at, Ordered}
+use Rattle.span.specs.Labels.{through, passed}
 use Rattle.span.specs.Operations.{count, unless}
 use Rattle.key.specs.Rank.{rank}
 use Rattle.key.specs.Range.{halfOpen}
@@ -17,11 +19,11 @@ use Rattle.outcomes.specs.Outcomes.{formed}
 use Rattle.outcomes.proofs.Formed as Formed
 use Rattle.hours.specs.Hours.{hoursOf, Nearest}
 use Rattle.hours.proofs.Near.{hours-nearest}
-use Rattle.duty.specs.Duty.{counts, secondsOf, unrecordedOf, strange, totalsOf, tallying}
+use Rattle.duty.specs.Duty.{isOffDuty, isSleeperBerth, isDriving, isOnDuty, secondsOf, unrecordedOf, strange, totalsOf, tallying}
 use Rattle.duty.specs.declared.Totals.{Totals}
 use Rattle.duty.specs.declared.Tallied.{Tallied}
 use Rattle.duty.specs.declared.Tallied.the-variants as Tallied
-use Rattle.duty.proofs.Instants.{passes, seconds-instants, unrecorded-instants}
+use Rattle.duty.proofs.Instants.{seconds-instants, unrecorded-instants}
 use Rattle.duty.proofs.Sums.{duties-sum, unrecorded-free, free-unrecorded}
 use Rattle.log_day.specs.Days.{dayOf}
 use Rattle.log_day.specs.declared.Day.{Day}
@@ -103,19 +105,19 @@ module _ (m : Stored) (z y mo d : ℕ) (s e : ℤ) (t : Totals) (q : reporting m
   ordered : Ordered 0 xs
   ordered = Formed.formed halfOpen places m (is .well) .tidy .ordered
 
-  off-is : t .«off_duty» ≡ secondsOf 1 lo hi xs
+  off-is : t .«off_duty» ≡ secondsOf isOffDuty lo hi xs
   unfolding totalsOf
   off-is = ap (λ (u : Totals). u .«off_duty») (is .totals)
 
-  berth-is : t .«sleeper_berth» ≡ secondsOf 2 lo hi xs
+  berth-is : t .«sleeper_berth» ≡ secondsOf isSleeperBerth lo hi xs
   unfolding totalsOf
   berth-is = ap (λ (u : Totals). u .«sleeper_berth») (is .totals)
 
-  driving-is : t .driving ≡ secondsOf 3 lo hi xs
+  driving-is : t .driving ≡ secondsOf isDriving lo hi xs
   unfolding totalsOf
   driving-is = ap (λ (u : Totals). u .driving) (is .totals)
 
-  on-is : t .«on_duty» ≡ secondsOf 4 lo hi xs
+  on-is : t .«on_duty» ≡ secondsOf isOnDuty lo hi xs
   unfolding totalsOf
   on-is = ap (λ (u : Totals). u .«on_duty») (is .totals)
 
@@ -123,28 +125,28 @@ module _ (m : Stored) (z y mo d : ℕ) (s e : ℤ) (t : Totals) (q : reporting m
   unfolding totalsOf
   unrecorded-is = ap (λ (u : Totals). u .unrecorded) (is .totals)
 
-  -- the number of instants of the day at which a value is held that counts to the duty v
-  abbrev pub instants : ℕ → ℕ
-  instants v = count (λ k. cond (inside lo hi k) (passes (counts v) (at xs k)) none) hi
+  -- the number of instants of the day at which a value is held that passes a test
+  abbrev pub instants : (ℕ → Bool) → ℕ
+  instants p = count (λ k. cond (inside lo hi k) (through (passed p) (at xs k)) none) hi
 
   -- EACH INSTANT of the day counts to what the map holds there
   pub record Counted : Type 0 where
-    pub off : t .«off_duty» ≡ instants 1
-    pub berth : t .«sleeper_berth» ≡ instants 2
-    pub drove : t .driving ≡ instants 3
-    pub on : t .«on_duty» ≡ instants 4
+    pub off : t .«off_duty» ≡ instants isOffDuty
+    pub berth : t .«sleeper_berth» ≡ instants isSleeperBerth
+    pub drove : t .driving ≡ instants isDriving
+    pub on : t .«on_duty» ≡ instants isOnDuty
     pub free : t .unrecorded ≡ count (λ k. unless (at xs k) (cond (inside lo hi k) (some 0) none)) hi
 
   pub report-instants : Counted
   report-instants = record {
-    off = off-is ∙ seconds-instants 1 lo hi xs ordered;
-    berth = berth-is ∙ seconds-instants 2 lo hi xs ordered;
-    drove = driving-is ∙ seconds-instants 3 lo hi xs ordered;
-    on = on-is ∙ seconds-instants 4 lo hi xs ordered;
+    off = off-is ∙ seconds-instants isOffDuty lo hi xs ordered;
+    berth = berth-is ∙ seconds-instants isSleeperBerth lo hi xs ordered;
+    drove = driving-is ∙ seconds-instants isDriving lo hi xs ordered;
+    on = on-is ∙ seconds-instants isOnDuty lo hi xs ordered;
     free = unrecorded-is ∙ unrecorded-instants lo hi xs (in-day .real) ordered;
   }
 
-  -- THE SUM: the four duties and unrecorded time are the day's length
+  -- THE SUM: the four totals and unrecorded time are the day's length
   pub report-sum : t .«off_duty» + t .«sleeper_berth» + t .driving + t .«on_duty» + t .unrecorded ≡ hi - lo
   report-sum = omega (arith, off-is, berth-is, driving-is, on-is, unrecorded-is, duties-sum lo hi xs (in-day .real) ordered (is .calm))
 

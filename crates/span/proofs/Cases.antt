@@ -5,9 +5,9 @@ use native.Mathlib.Omega.{arith}
 use mathlib.Core.Path.{_≡_, refl}
 use mathlib.Core.List.{List, [], _∷_}
 use mathlib.Core.Option.{some}
-use lib.ListN.{length}
 use Rattle.span.specs.Span.{Span, span, Ordered, Separate, inside, keep, before, after, joins, push, joined, given, inserted, removed, history}
-use Rattle.span.specs.Operations.{puts, cuts, gaps, over, within, parts, common, picked, chosen, overlaps, merged, absorb, united, total}
+use Rattle.span.specs.Labels.{relabelled}
+use Rattle.span.specs.Operations.{puts, cuts, gaps, over, within, parts, common, chosen, overlaps, merged, absorb, united, total}
 use Rattle.span.proofs.Local.{given-local}
 
 -- n spans of one instant each, with label 1, from b on, an instant free after each
@@ -16,8 +16,12 @@ comb zero b = []
 comb (suc n) b = span b (b + 1) 1 ∷ comb n (b + 2)
 
 -- `unfolding all` opens every definition that a case computes with
+unfoldable of-edits : Unit {0}
+unfolding inside keep before after joins push joined given history
+of-edits = tt
+
 unfoldable all : Unit {0}
-unfolding inside keep before after joins push joined given history puts cuts gaps over within parts common picked chosen overlaps merged absorb united total comb
+unfolding of-edits puts cuts gaps over within parts common relabelled chosen overlaps merged absorb united total comb
 all = tt
 
 insert-joins : inserted 5 8 1 (span 0 5 1 ∷ []) ≡ span 0 8 1 ∷ []
@@ -92,28 +96,7 @@ report-off : total (chosen 1 (inserted 1730628000 1730653200 3 (inserted 1730606
 unfolding all
 report-off = refl
 
-full-joins : inserted 1 2 1 (comb 512 0) ≡ span 0 3 1 ∷ comb 510 4
-unfolding all
-full-joins = refl
-
-full-fewer : length (inserted 1 2 1 (comb 512 0)) ≡ 511
-unfolding all
-full-fewer = refl
-
-full-more : length (inserted 2000 2001 1 (comb 512 0)) ≡ 513
-unfolding all
-full-more = refl
-
--- W-210
-long-fewer : length (inserted 1 2 1 (comb 4096 0)) ≡ 4095
-unfolding all
-long-fewer = refl
-
-long-more : length (inserted 9000 9001 1 (comb 4096 0)) ≡ 4097
-unfolding all
-long-more = refl
-
--- the same by law, at any size
+-- Full, at any size: a range that joins two leaves one range fewer. `outcomes` has the case of as many ranges as there are places
 ordered-comb : (n b c : ℕ) → c ≤ b → Ordered c (comb n b)
 unfolding comb
 ordered-comb zero b c h = tt
@@ -125,7 +108,7 @@ separate-comb zero b = tt
 separate-comb (suc zero) b = (tt, tt)
 separate-comb (suc (suc n)) b = (omega arith, separate-comb (suc n) (b + 2))
 
-any-fewer : (n : ℕ) → span 0 3 1 ∷ comb n 4 ≡ inserted 1 2 1 (comb (suc (suc n)) 0)
+full-fewer : (n : ℕ) → span 0 3 1 ∷ comb n 4 ≡ inserted 1 2 1 (comb (suc (suc n)) 0)
 unfolding all
-any-fewer n = given-local 1 2 (some 1) [] (span 0 1 1 ∷ span 2 3 1 ∷ []) (span 0 3 1 ∷ []) (comb n 4)
+full-fewer n = given-local 1 2 (some 1) [] (span 0 1 1 ∷ span 2 3 1 ∷ []) (span 0 3 1 ∷ []) (comb n 4)
     (omega arith) tt (ordered-comb n 4 3 (omega arith)) (record { ordered = ordered-comb (suc (suc n)) 0 0 (omega arith); separate = separate-comb (suc (suc n)) 0 }) refl

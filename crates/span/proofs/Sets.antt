@@ -5,12 +5,14 @@ use mathlib.Core.Path.{_≡_, refl, sym, _∙_}
 use mathlib.Core.List.{List, [], _∷_}
 use mathlib.Core.Bool.{Bool, true, false, cond}
 use mathlib.Core.Option.{Option, some, none}
-use lib.Dec.{eqb}
-use Rattle.span.specs.Span.{Span, span, inside, at, or-else, Ordered, Upto, Tidy, Means, before, put, last, Real}
-use Rattle.span.specs.Operations.{Plain, puts, cuts, gaps, over, within, parts, common, picked, chosen, is, unless, when}
-use Rattle.span.proofs.Tests.{Within, cases, in-cases, below, among, beyond, place, in-yes, yes-in, in-no}
-use Rattle.span.proofs.Holding.{at-in, at-out, at-behind, at-below, at-upto, at-app, at-before, at-after, or-none, ordered-from, ordered-app, ordered-before, ordered-after, upto-before, upto-after}
+use Rattle.span.specs.Span.{Span, inside, at, or-else, Ordered, Upto, Tidy, Means, before, put, last, Real}
+use Rattle.span.specs.Operations.{Plain, puts, cuts, gaps, over, within, parts, common, chosen, is, unless, when}
+use Rattle.span.specs.Labels.{equals, member}
+use Rattle.span.proofs.Tests.{in-cases, below, among, beyond, place, in-yes, yes-in, in-no}
+use Rattle.span.proofs.Holding.{at-in, at-behind, at-below, at-upto, at-app, at-before, at-after, or-none}
+use Rattle.span.proofs.Holding.{ordered-from, ordered-app, ordered-before, ordered-after, upto-before, upto-after}
 use Rattle.span.proofs.Laws.{only, reworded, nothing, itself, joined-means, history-means}
+use Rattle.span.proofs.Labels.{relabelled-means}
 
 real-puts : (b : ℕ) (m : List Span) → Ordered b m → Real (puts m)
 unfolding puts
@@ -98,39 +100,9 @@ unfolding common
 common-means a b o p = reworded (joined-means (parts a b) (ordered-parts 0 a b o p)) (λ k. at-parts a b k p)
 
 -- THE INSTANTS OF A LABEL: where the list holds it
-ordered-picked : (v b : ℕ) (m : List Span) → Ordered b m → Ordered b (picked v m)
-unfolding picked
-ordered-picked v b [] o = tt
-ordered-picked v b (x ∷ xs) o = let rest = ordered-picked v (x .hi) xs (o .2) in
-    cases (eqb (x .label) v) (Ordered b) (λ e. (o .0, o .1, rest)) (λ e. ordered-from (picked v xs) (omega arith) rest)
-
-either : (t : Bool) (xs ys : List Span) (k : ℕ) (a b : Option ℕ) → at xs k ≡ a → at ys k ≡ b → at (cond t xs ys) k ≡ cond t a b
-either true xs ys k a b e f = e
-either false xs ys k a b e f = f
-
-alike : (t : Bool) (a : Option ℕ) → cond t a a ≡ a
-alike true a = refl
-alike false a = refl
-
-at-picked : (v b : ℕ) (m : List Span) (k : ℕ) → Ordered b m → at (picked v m) k ≡ is v (at m k)
-unfolding picked at
-at-picked v b [] k o = refl
-at-picked v b (x ∷ xs) k o =
-    let t = eqb (x .label) v in
-    let y = span (x .lo) (x .hi) 0 in
-    let rest = at-picked v (x .hi) xs k (o .2) in
-    let out : (Within (x .lo) (x .hi) k → ⊥) → at (picked v (x ∷ xs)) k ≡ is v (at (x ∷ xs) k) =
-    λ n. rw (at-out x xs k n) (either t (y ∷ picked v xs) (picked v xs) k _ _ (at-out y (picked v xs) k n ∙ rest) rest ∙ alike t (is v (at xs k))) in
-    elim (place (x .lo) (x .hi) k) [
-      | below p ↦ out (omega arith)
-      | among p q ↦ rw (at-in x xs k (omega arith))
-          (either t (y ∷ picked v xs) (picked v xs) k _ _ (at-in y (picked v xs) k (omega arith)) (at-below (picked v xs) k (ordered-picked v (x .hi) xs (o .2)) q))
-      | beyond p q ↦ out (omega arith)
-    ]
-
 pub chosen-means : (v : ℕ) (m : List Span) → Ordered 0 m → Means (chosen v m) (λ k. is v (at m k))
 unfolding chosen
-chosen-means v m o = reworded (joined-means (picked v m) (ordered-picked v 0 m o)) (λ k. at-picked v 0 m k o)
+chosen-means v m o = relabelled-means (member (equals v)) m o
 
 -- a list is a set where it holds no label but 0
 pub plain-at : (b : ℕ) (m : List Span) → Ordered b m → ((k v : ℕ) → at m k ≡ some v → v ≡ 0) → Plain m

@@ -1,19 +1,20 @@
--- The total counts the instants that a list holds.
-use Prim.Native.Nat.{ℕ, zero, suc, _+_, _-_, _≤_, min, max}
+-- The total counts the instants that a list holds; and totals that add up.
+use Prim.Native.Nat.{ℕ, zero, suc, _+_, _-_, _≤_, _<_, min, max}
 use native.Mathlib.Omega.{arith}
 use mathlib.Core.Path.{_≡_, refl, ap, sym, _∙_}
 use mathlib.Core.List.{List, [], _∷_}
 use mathlib.Core.Bool.{Bool, true, false, _||_, cond}
 use mathlib.Core.Option.{Option, some, none}
 use borrow.Author.Tests.{lt-ltb}
-use Rattle.span.specs.Span.{Span, at, Ordered, Upto, keep, before}
+use Rattle.span.specs.Span.{Span, at, Ordered, Upto, keep, before, piece}
+use Rattle.span.specs.Labels.{relabelled, those}
 use Rattle.span.specs.Operations.{Plain, common, when, united, any, holds, total, tally, count}
 use Rattle.span.proofs.Tests.{below, among, beyond, place, lt-cases}
 use Rattle.span.proofs.Holding.{at-in, at-out, at-below}
 use Rattle.span.proofs.Sets.{common-means}
 use Rattle.span.proofs.Union.{ordered-united, plain-united, holds-united, at-plain}
 
-total-keep : (x : Span) (xs : List Span) → total (keep x xs) ≡ (x .hi - x .lo) + total xs
+pub total-keep : (x : Span) (xs : List Span) → total (keep x xs) ≡ (x .hi - x .lo) + total xs
 unfolding total keep
 total-keep x xs = lt-cases (x .lo) (x .hi) (λ m. total m ≡ (x .hi - x .lo) + total xs) (λ p. refl) (λ p. omega arith)
 
@@ -50,26 +51,59 @@ before-all b n (x ∷ xs) o u =
 pub total-counts : (b n : ℕ) (m : List Span) → Ordered b m → Upto n m → total m ≡ count (at m) n
 total-counts b n m o u = ap total (sym (before-all b n m o u)) ∙ total-before b n m o
 
--- A UNION AND AN INTERSECTION have together as many instants as the two sets
-bound : List Span → ℕ
-bound [] = 0
-bound (x ∷ xs) = max (x .hi) (bound xs)
+-- counts of what is held alike are alike
+pub count-same : (f g : ℕ → Option ℕ) (n : ℕ) → ((k : ℕ) → k < n → f k ≡ g k) → count f n ≡ count g n
+unfolding count
+count-same f g zero h = refl
+count-same f g (suc n) h = let rest = count-same f g n (λ k i. h k (omega arith)) in omega (arith, rest, ap tally (h n (omega arith)))
 
+-- PAIRS: two tell of as many instants as two others, at each instant, and so before any n
+abbrev pub AsMany : (f g h i : ℕ → Option ℕ) → Type 0
+AsMany f g h i = (k : ℕ) → tally (f k) + tally (g k) ≡ tally (h k) + tally (i k)
+
+count-pairs : (f g h i : ℕ → Option ℕ) (n : ℕ) → AsMany f g h i → count f n + count g n ≡ count h n + count i n
+unfolding count
+count-pairs f g h i zero e = refl
+count-pairs f g h i (suc n) e = omega (arith, e n, count-pairs f g h i n e)
+
+-- a list in order that ends by n
+pub record EndsBy (n : ℕ) (m : List Span) : Type 0 where
+  pub ordered : Ordered 0 m
+  pub upto : Upto n m
+
+-- lists of which two tell of as many instants as two others have together the same total
+pub total-pairs : {n : ℕ} {a b c d : List Span} → EndsBy n a → EndsBy n b → EndsBy n c → EndsBy n d
+    → AsMany (at a) (at b) (at c) (at d) → total a + total b ≡ total c + total d
+total-pairs {n} {a} {b} {c} {d} p q r s e =
+    rw (
+      total-counts 0 n a (p .ordered) (p .upto),
+      total-counts 0 n b (q .ordered) (q .upto),
+      total-counts 0 n c (r .ordered) (r .upto),
+      total-counts 0 n d (s .ordered) (s .upto),
+    )
+    (count-pairs (at a) (at b) (at c) (at d) n e)
+
+-- what ends by b ends by any later c
 pub upto-more : {b c : ℕ} (m : List Span) → b ≤ c → Upto b m → Upto c m
 upto-more [] h u = tt
 upto-more (x ∷ xs) h u = (omega arith, upto-more xs h (u .1))
+
+-- any list ends somewhere
+bound : List Span → ℕ
+bound [] = 0
+bound (x ∷ xs) = max (x .hi) (bound xs)
 
 upto-bound : (m : List Span) → Upto (bound m) m
 unfolding bound
 upto-bound [] = tt
 upto-bound (x ∷ xs) = (omega arith, upto-more {b = bound xs} xs (omega arith) (upto-bound xs))
 
-count-both : (f g h i : ℕ → Option ℕ) (n : ℕ) → ((k : ℕ) → tally (f k) + tally (g k) ≡ tally (h k) + tally (i k)) → count f n + count g n ≡ count h n + count i n
-unfolding count
-count-both f g h i zero e = refl
-count-both f g h i (suc n) e = omega (arith, e n, count-both f g h i n e)
+ends-by : (n : ℕ) (m : List Span) → bound m ≤ n → Ordered 0 m → EndsBy n m
+ends-by n m h o = record { ordered = o; upto = upto-more {b = bound m} m h (upto-bound m) }
 
-tally-both : (s t : Bool) → tally (cond (s || t) (some 0) none) + tally (when (cond s (some 0) none) (cond t (some 0) none)) ≡ tally (cond s (some 0) none) + tally (cond t (some 0) none)
+-- A UNION AND AN INTERSECTION have together as many instants as the two sets
+tally-both : (s t : Bool) → tally (cond (s || t) (some 0) none) + tally (when (cond s (some 0) none) (cond t (some 0) none))
+    ≡ tally (cond s (some 0) none) + tally (cond t (some 0) none)
 tally-both true true = refl
 tally-both true false = refl
 tally-both false true = refl
@@ -78,13 +112,29 @@ tally-both false false = refl
 pub total-both : (a b : List Span) → Ordered 0 a → Ordered 0 b → Plain a → Plain b → total (united a b) + total (common a b) ≡ total a + total b
 total-both a b o q l m =
     let c = common-means a b o q in
-    let u = ordered-united 0 a b o q in
-    let n = max (max (bound a) (bound b)) (max (bound (united a b)) (bound (common a b))) in
-    rw (
-      total-counts 0 n (united a b) u (upto-more {b = bound (united a b)} (united a b) (omega arith) (upto-bound (united a b))),
-      total-counts 0 n (common a b) (c .tidy .ordered) (upto-more {b = bound (common a b)} (common a b) (omega arith) (upto-bound (common a b))),
-      total-counts 0 n a o (upto-more {b = bound a} a (omega arith) (upto-bound a)),
-      total-counts 0 n b q (upto-more {b = bound b} b (omega arith) (upto-bound b)),
-    )
-    (count-both (at (united a b)) (at (common a b)) (at a) (at b) n
-    (λ k. rw (c .holds k, at-plain (united a b) k (plain-united a b l m), holds-united k a b o q, at-plain a k l, at-plain b k m) (tally-both (any (holds k) a) (any (holds k) b))))
+    let n : ℕ = max (max (bound a) (bound b)) (max (bound (united a b)) (bound (common a b))) in
+    total-pairs {n = n}
+    (ends-by n (united a b) (omega arith) (ordered-united 0 a b o q))
+    (ends-by n (common a b) (omega arith) (c .tidy .ordered))
+    (ends-by n a (omega arith) o)
+    (ends-by n b (omega arith) q)
+    (λ k. rw (c .holds k, at-plain (united a b) k (plain-united a b l m), holds-united k a b o q, at-plain a k l, at-plain b k m)
+    (tally-both (any (holds k) a) (any (holds k) b)))
+
+-- THE SPANS THAT PASS A TEST: their total, span by span, is no more than that of all
+pub total-those : (p : ℕ → Bool) (x : Span) (xs : List Span) → total (those p (x ∷ xs)) ≡ cond (p (x .label)) (x .hi - x .lo) 0 + total (those p xs)
+unfolding relabelled total
+total-those p x xs = go (p (x .label))
+  where
+    go : (t : Bool) → total (piece (x .lo) (x .hi) (cond t (some (x .label)) none) (those p xs)) ≡ cond t (x .hi - x .lo) 0 + total (those p xs)
+    go true = refl
+    go false = omega arith
+
+cond-most : (t : Bool) (n : ℕ) → cond t n 0 ≤ n
+cond-most true n = omega arith
+cond-most false n = omega arith
+
+pub those-most : (p : ℕ → Bool) (m : List Span) → total (those p m) ≤ total m
+unfolding relabelled total
+those-most p [] = omega arith
+those-most p (x ∷ xs) = omega (arith, total-those p x xs, cond-most (p (x .label)) (x .hi - x .lo), those-most p xs)

@@ -1,4 +1,4 @@
--- What the search finds holds of the later places too; and the ends of a well-formed map ascend, as the search requires.
+-- What the search finds holds of the later places too; and the starts and the ends of a well-formed map ascend, as the searches require.
 use Prim.Native.Nat.{ℕ, zero, suc, _≤_, _<_}
 use native.Mathlib.Omega.{arith}
 use native.Mathlib.Decide.{decLt}
@@ -16,6 +16,10 @@ use Rattle.outcomes.proofs.Formed.{Formed, Shaped, shape, good}
 use Rattle.store.specs.InnerSearch.{Ascends, Reached}
 use Rattle.store.proofs.Checked.{formed-steps}
 
+-- of keys that ascend, one before another is no greater
+pub no-greater : (l : List ℤ) (n : ℕ) → Ascends n l → (p q : ℕ) → p ≤ q → q < n → rank (getD l p (pos 0)) ≤ rank (getD l q (pos 0))
+no-greater l n a p q h b = elim (decLt p q) [ yes i ↦ omega (arith, a p q i b) | no i ↦ let e : p ≡ q = omega arith in rw e (omega arith) ]
+
 -- where the ends ascend, the ranges from there on reach the key too
 pub reached-after : {kind : Kind} {n p : ℕ} {l : List ℤ} {k : ℤ} → Lawful kind → Ascends n l → Reached kind n l k p → (j : ℕ) → p ≤ j → j < n → rank k < kind .past (getD l j (pos 0))
 reached-after {kind} {n} {p} {l} {k} law a h j b i =
@@ -31,23 +35,32 @@ past-order {kind} law e e′ h =
       | no p ↦ let m = rw (le-ltb (rank e) (rank e′) (omega arith)) at (law .least e e′) in absurd (omega arith)
     ]
 
--- THE ENDS of a well-formed map ascend
+-- numbers each less than the next ascend
+rising : (f : ℕ → ℕ) (n : ℕ) → ((k : ℕ) → suc k < n → f k < f (suc k)) → (p q : ℕ) → p < q → q < n → f p < f q
+rising f n next p zero h b = absurd (omega arith)
+rising f n next p (suc q) h b =
+    let one = next q b in
+    elim (decLt p q) [ yes i ↦ omega (arith, rising f n next p q i (omega arith)) | no i ↦ let e : p ≡ q = omega arith in rw e one ]
+
+-- THE STARTS of a well-formed map ascend, and so do its ends
 module _ (kind : Kind) {n : ℕ} {m : Stored} (law : Lawful kind) (shape : Shaped n m) (f : Formed kind n m) where
-  next-end : (k : ℕ) → suc k < m .count → kind .past (getD (m .ends) k (pos 0)) < kind .past (getD (m .ends) (suc k) (pos 0))
-  next-end k b =
-      let s = formed-steps kind shape f in
-      let p = rw (add-one k) at (s k (omega arith) .past) in
-      omega (arith, p (omega arith), s (suc k) b .full)
+  next-past : (k : ℕ) → suc k < m .count → kind .past (getD (m .ends) k (pos 0)) ≤ rank (getD (m .starts) (suc k) (pos 0))
+  next-past k b = (rw (add-one k) at (formed-steps kind shape f k (omega arith) .past)) (omega arith)
+
+  pub starts-ascend : Ascends (m .count) (m .starts)
+  starts-ascend =
+      rising (λ k. rank (getD (m .starts) k (pos 0))) (m .count) (λ k b. omega (arith, next-past k b, formed-steps kind shape f k (omega arith) .full))
 
   later-end : (p q : ℕ) → p < q → q < m .count → kind .past (getD (m .ends) p (pos 0)) < kind .past (getD (m .ends) q (pos 0))
-  later-end p zero h b = absurd (omega arith)
-  later-end p (suc q) h b =
-      let n = next-end q b in
-      elim (decLt p q) [ yes i ↦ omega (arith, later-end p q i (omega arith)) | no i ↦ let e : p ≡ q = omega arith in rw e n ]
+  later-end =
+      rising (λ k. kind .past (getD (m .ends) k (pos 0))) (m .count) (λ k b. omega (arith, next-past k b, formed-steps kind shape f (suc k) b .full))
 
   pub ends-ascend : Ascends (m .count) (m .ends)
   ends-ascend p q h b = past-order law _ _ (later-end p q h b)
 
--- what the search asks of a map
+-- what the search among the ends asks of a map, and what the one among the starts asks
 pub searched : {kind : Kind} {m : Stored} → Sound kind m → Lawful kind → (m .count ≤ length (m .ends)) × Ascends (m .count) (m .ends)
 searched {kind} sound law = (omega (arith, good sound .held, sound .ends-as), ends-ascend kind law (shape sound) (good sound))
+
+pub starts-searched : {kind : Kind} {m : Stored} → Sound kind m → Lawful kind → (m .count ≤ length (m .starts)) × Ascends (m .count) (m .starts)
+starts-searched {kind} sound law = (omega (arith, good sound .held), starts-ascend kind law (shape sound) (good sound))

@@ -4,12 +4,13 @@ use key::full;
 ghost use Prim.Native.Nat.{_≤_};
 ghost use lib.ListN.{length};
 ghost use Rattle.key.specs.Range.{kindOf};
-ghost use Rattle.store.specs.InnerSearch.{Begun};
+ghost use Rattle.store.specs.InnerSearch.{FirstPast};
 
-// The first place from `from` on that begins too late for a range up to `end`: `count` if there is none. It walks, since few ranges are met.
-pub fn begun(kind: RangeKind, starts: &[i64], from: usize, count: usize, end: i64) -> usize
+// The first place from `from` on that begins past a range up to `end`: `count` if there is none.
+// It walks, since an edit or a question meets few ranges; `search::first_past` promises the same and halves.
+pub fn first_past(kind: RangeKind, starts: &[i64], from: usize, count: usize, end: i64) -> usize
     requires { ⌜ (from ≤ count) × (count ≤ length (now starts)) ⌝ }
-    ensures { λ r. ⌜ Begun (kindOf kind) count (now (starts .entry)) from end r ⌝ }
+    ensures { λ r. ⌜ FirstPast (kindOf kind) count (now (starts .entry)) from end r ⌝ }
 {
     let mut k = from;
     while k < count {

@@ -6,7 +6,7 @@ use lib.IntN.{pos}
 use Rattle.span.specs.Span.{Span, span, inside, keep, before, after, joins, push, joined, given, history}
 use Rattle.span.specs.Operations.{cuts, gaps, within, total}
 use Rattle.key.specs.Rank.{place, bitRank, rank}
-use Rattle.duty.specs.Duty.{dutyOf, those, secondsOf, unrecordedOf, totalsOf}
+use Rattle.duty.proofs.ByStatus.{of-duties}
 use Rattle.decimal.specs.Decimal.{digitsText, spelled, decimalText}
 use Rattle.filling.specs.Filling.{ascii, pieceOf, leftBy, filled, series}
 use Rattle.report_text.specs.Rows.{rowName, rowOf}
@@ -15,8 +15,17 @@ use Rattle.graph_text.specs.Grid.{clockHour, inQuarter, marked}
 use Rattle.svg_text.specs.SvgText.{headSvg, hourRule, hourRules, rowRule, rowRules, hourSvg, nameSvg}
 use Rattle.svg_text.specs.SvgText.{totalSvg, inkOf, markAt, markSvg, inkSvg, marksSvg, footSvg}
 
+-- `unfolding all` opens every definition that a case computes with: of spans, of text, of the picture
+unfoldable of-spans : Unit {0}
+unfolding inside keep before after joins push joined given history cuts gaps within total place bitRank
+of-spans = tt
+
+unfoldable of-text : Unit {0}
+unfolding digitsText spelled decimalText pieceOf leftBy filled series rowName rowOf pairText clockText clockHour inQuarter marked
+of-text = tt
+
 unfoldable all : Unit {0}
-unfolding inside keep before after joins push joined given history cuts gaps within total place bitRank dutyOf those secondsOf unrecordedOf totalsOf digitsText spelled decimalText pieceOf leftBy filled series rowName rowOf pairText clockText clockHour inQuarter marked headSvg hourRule hourRules rowRule rowRules hourSvg nameSvg totalSvg inkOf markAt markSvg inkSvg marksSvg footSvg
+unfolding of-spans of-duties of-text headSvg hourRule hourRules rowRule rowRules hourSvg nameSvg totalSvg inkOf markAt markSvg inkSvg marksSvg footSvg
 all = tt
 
 pub head : headSvg 800 ≡

@@ -23,8 +23,8 @@ greatest-start-requires c κs = tt
 reaching-requires : tie.Need-reaching-requires
 reaching-requires c κs = let s = c .before .before .before in searched (s .pre .0) (lawful (s .args .kind))
 
-begun-requires : tie.Need-begun-requires
-begun-requires c κs = (c .reaching .ensures .within, good (c .before .before .before .before .pre .0) .held)
+first-past-requires : tie.Need-first-past-requires
+first-past-requires c κs = (c .reaching .ensures .within, good (c .before .before .before .before .pre .0) .held)
 
 returns : tie.Need-returns
 returns c =
@@ -35,15 +35,15 @@ returns c =
     let least = rw (toZ-ofZ (s .fits .start)) at (c .before .before .before .least-end .ensures) in
     let greatest = rw (toZ-ofZ (s .fits .end)) at (c .before .before .greatest-start .ensures) in
     let from = c .before .reaching .ensures in
-    let to = c .begun .ensures in
+    let to = c .first-past .ensures in
     let more = reached-after inclusive-too (searched (s .pre .0) law .1) from in
     touching (kindOf (g .kind)) law m (s .pre .0) (rank (g .start)) (kindOf (g .kind) .past (g .end)) _ _ (omega arith) (to .from) (to .within)
     (λ k h. least .short (getD (g .ends .now) k (pos 0)) (omega (arith, simp rank-back at (from .below k h))))
     (λ k h b. least .reaches (getD (g .ends .now) k (pos 0)) (omega (arith, simp rank-back at (more k h b))))
     (λ k h b. greatest .begins (getD (g .starts .now) k (pos 0)) (omega (arith, simp rank-back at (to .before k b h))))
-    (λ h. greatest .off (getD (g .starts .now) (c .begun .result) (pos 0)) (omega (arith, simp rank-back at (to .at h))))
+    (λ h. greatest .off (getD (g .starts .now) (c .first-past .result) (pos 0)) (omega (arith, simp rank-back at (to .at h))))
 
 pub touched-spec : {M : Type 1} → statement M
 touched-spec =
     tie.close
-    (tie.spec least-end-requires greatest-start-requires reaching-requires begun-requires returns)
+    (tie.spec least-end-requires greatest-start-requires reaching-requires first-past-requires returns)

@@ -8,7 +8,7 @@ use Rattle.key.specs.InnerDecides.{Decides}
 use Rattle.key.specs.Rank.{rank}
 use Rattle.key.specs.Range.{kindOf}
 use Rattle.key.proofs.Lawful.{lawful}
-use Rattle.store.specs.InnerSearch.{Reached, Begun}
+use Rattle.store.specs.InnerSearch.{Reached, FirstPast}
 use Rattle.key.proofs.Answers.{not-full}
 use Rattle.outcomes.proofs.Formed.{good}
 use Rattle.store.proofs.Seeking.{searched}
@@ -35,11 +35,11 @@ real c = query (c .before) .right (not-false _ (c .if1 .left))
 reach : (c : tie.After-reaching) → let a = c .before .before .before .before .args in Reached (kindOf (a .kind)) (a .count) (a .ends .now) (a .start) (c .reaching .result)
 reach c = rw (toZ-ofZ (c .before .before .before .before .fits .start)) at (c .reaching .ensures)
 
-begun-requires : tie.Need-begun-requires
-begun-requires c κs = omega (arith, reach c .within, good (c .before .before .before .before .pre) .held)
+first-past-requires : tie.Need-first-past-requires
+first-past-requires c κs = omega (arith, reach c .within, good (c .before .before .before .before .pre) .held)
 
-walked : (c : tie.After-begun) → let a = c .before .before .before .before .before .args in Begun (kindOf (a .kind)) (a .count) (a .starts .now) (c .before .reaching .result) (a .end) (c .begun .result)
-walked c = rw (toZ-ofZ (c .before .before .before .before .before .fits .end)) at (c .begun .ensures)
+walked : (c : tie.After-first-past) → let a = c .before .before .before .before .before .args in FirstPast (kindOf (a .kind)) (a .count) (a .starts .now) (c .before .reaching .result) (a .end) (c .first-past .result)
+walked c = rw (toZ-ofZ (c .before .before .before .before .before .fits .end)) at (c .first-past .ensures)
 
 returns-2 : tie.Need-returns-2
 returns-2 c =
@@ -57,4 +57,4 @@ returns-3 c =
 pub overlapping-spec : {M : Type 1} → statement M
 overlapping-spec =
     tie.close
-    (tie.spec full-requires returns reaching-requires begun-requires returns-2 sub-many returns-3)
+    (tie.spec full-requires returns reaching-requires first-past-requires returns-2 sub-many returns-3)

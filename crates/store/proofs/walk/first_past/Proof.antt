@@ -1,4 +1,4 @@
--- `store::walk::begun` meets its contract.
+-- `store::walk::first_past` meets its contract.
 use Prim.Native.Nat.{ℕ, _-_, _≤_, _<_}
 use native.Mathlib.Omega.{arith}
 use borrow.Author.Count.{below-more}
@@ -12,8 +12,8 @@ use mir.Facts.{toZ-ofZ}
 use Rattle.key.specs.Rank.{rank}
 use Rattle.key.specs.Range.{kindOf}
 use Rattle.key.proofs.Answers.{not-full}
-use Rattle.store.proofs.walk.begun.Statement.{statement}
-use Rattle.store.proofs.walk.begun.Tie as tie
+use Rattle.store.proofs.walk.first_past.Statement.{statement}
+use Rattle.store.proofs.walk.first_past.Tie as tie
 
 abbrev Inv-loop : tie.InvT-loop
 Inv-loop kind starts from count end k₀ k = (from ≤ k) × (k ≤ count) × ((j : ℕ) → j < k → from ≤ j → rank (getD starts j (pos 0)) < kindOf kind .past (toZ w64 end))
@@ -63,8 +63,8 @@ returns-2 c =
     let s = c .before .before in
     record { from = omega arith; within = omega arith; before = rw (toZ-ofZ (s .fits .end)) at (c .before .loop .inv .2); at = λ h. absurd (omega arith) }
 
-pub begun-spec : {M : Type 1} → statement M
-begun-spec =
+pub first-past-spec : {M : Type 1} → statement M
+first-past-spec =
     tie.close
     (tie.spec
     Inv-loop
