@@ -1,0 +1,18 @@
+-- THE THEOREMS. Of the half-open map: Insert, Remove, History, Gaps (and get). Of the inclusive one: InclusiveEdits, InclusiveHistory, InclusiveGaps.
+-- Document 01's cases, by computation: Cases, InclusiveCases.
+-- Beneath: Entries (the list that stands for the BTreeMap), Candidate (the query for the start), Held (what is held while the algorithm runs),
+-- InsertLoop and RemoveLoop (the loops of insert and remove, of both kinds).
+pub mod Entries
+pub mod Candidate
+pub mod Held
+pub mod InsertLoop
+pub mod Insert
+pub mod RemoveLoop
+pub mod Remove
+pub mod History
+pub mod Gaps
+pub mod InclusiveEdits
+pub mod InclusiveHistory
+pub mod InclusiveGaps
+pub mod Cases
+pub mod InclusiveCases

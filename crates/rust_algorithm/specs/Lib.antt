@@ -1,0 +1,5 @@
+-- What a reader must believe of rangemap 1.8.0, held beside its lines: Btree (what Rust's BTreeMap and its iterators do),
+-- Map (map.rs), InclusiveMap (inclusive_map.rs).
+pub mod Btree
+pub mod Map
+pub mod InclusiveMap
