@@ -56,7 +56,7 @@ ends-taken c zero m e = tt
 ends-taken c (suc n) [] e = tt
 ends-taken c (suc n) (x ∷ xs) e = (e .0, ends-taken c n xs (e .1))
 
-filtered-app : (p : Span → Bool) (xs ys : List Span) → filtered p (xs ++ ys) ≡ filtered p xs ++ filtered p ys
+pub filtered-app : (p : Span → Bool) (xs ys : List Span) → filtered p (xs ++ ys) ≡ filtered p xs ++ filtered p ys
 unfolding filtered
 filtered-app p [] ys = refl
 filtered-app p (x ∷ xs) ys =

@@ -1,4 +1,4 @@
--- rangemap's get is `at`, and what its gaps gives is `gaps`.
+-- What rangemap's gaps gives is `gaps`.
 use Prim.Native.Nat.{ℕ, zero, suc, _+_, _≤_, _<_, min, max}
 use native.Mathlib.Omega.{arith}
 use native.Mathlib.Decide.{decLt}
@@ -15,59 +15,8 @@ use Rattle.span.proofs.Tests.{Within, cases, in-yes, in-no, in-same, in-cases, 
 use Rattle.span.proofs.Holding.{at-in, at-out, at-app, at-keep, at-below, at-upto, ordered-from, ordered-right}
 use Rattle.span.proofs.Laws.{only}
 use Rattle.span.proofs.Sets.{gaps-means}
-use Rattle.span.proofs.Local.{EndsBefore}
-use Rattle.rust_algorithm.specs.Btree.{filtered, reversed, taken, next, if-let, up-to}
-use Rattle.rust_algorithm.specs.Map.{map-get-key-value, map-get, ending-past, GapStep, gap-step, tail-gap, next-gap, given-first, collect-gaps, map-gaps}
-use Rattle.rust_algorithm.proofs.Candidate.{Reaches, Parted, part, ends-filtered, ends-reversed, ends-taken, reversed-one, up-to-app, up-to-here}
-use Rattle.rust_algorithm.proofs.Candidate.{up-to-none}
-
--- GET
-upto-ends : (k : ℕ) (ls : List Span) → EndsBefore (suc k) ls → at ls k ≡ none
-unfolding at
-upto-ends k [] e = refl
-upto-ends k (x ∷ xs) e = at-out x xs k (omega arith) ∙ upto-ends k xs (e .1)
-
-none-inside : (k : ℕ) (m : List Span) → EndsBefore (suc k) m → filtered (λ x. inside (x .lo) (x .hi) k) m ≡ []
-unfolding filtered
-none-inside k [] e = refl
-none-inside k (x ∷ xs) e = rw (in-no (x .lo) (x .hi) k (omega arith)) (none-inside k xs (e .1))
-
-module _ (k : ℕ) (ls : List Span) (ends : EndsBefore (suc k) ls) where
-  get-none : (rest : List Span) → Ordered (suc k) rest → map-get k (ls ++ rest) ≡ at (ls ++ rest) k
-  unfolding map-get map-get-key-value up-to
-  get-none rest o = rw (
-    up-to-app k ls rest,
-    up-to-none k rest o,
-    append-nil (up-to k ls),
-    none-inside k _ (ends-taken (suc k) 1 _ (ends-reversed (suc k) _ (ends-filtered (suc k) _ ls ends))),
-    at-app,
-    upto-ends k ls ends,
-    at-below rest k o (omega arith),
-  )
-
-  get-first : (x : Span) (xs : List Span) → x .lo ≤ k → k < x .hi → Ordered (x .hi) xs → map-get k (ls ++ x ∷ xs) ≡ at (ls ++ x ∷ xs) k
-  unfolding map-get map-get-key-value taken filtered
-  get-first x xs h i o = rw (
-    up-to-app k ls (x ∷ xs),
-    up-to-here k x xs h,
-    up-to-none k xs (ordered-from xs i o),
-    reversed-one (up-to k ls) x,
-    in-yes (x .lo) (x .hi) k (omega arith),
-    at-app,
-    upto-ends k ls ends,
-    at-in x xs k (omega arith),
-  )
-
-  get-parted : (b : ℕ) (rest : List Span) → Reaches (suc k) rest → Ordered b rest → map-get k (ls ++ rest) ≡ at (ls ++ rest) k
-  get-parted b [] r o = get-none [] tt
-  get-parted b (x ∷ xs) r o = elim (decLt k (x .lo)) [
-    | yes p ↦ get-none (x ∷ xs) (p, o .1, o .2)
-    | no p ↦ get-first x xs (omega arith) r (o .2)
-  ]
-
-pub get-is : (k : ℕ) (m : List Span) → Ordered 0 m → map-get k m ≡ at m k
-get-is k m o = let p = part (suc k) m in
-    rw (p .whole) (get-parted k (p .left) (p .ends) 0 (p .right) (p .reaches) (ordered-right 0 (p .left) (p .right) (rw (p .whole) at o)))
+use Rattle.rust_algorithm.specs.Btree.{filtered}
+use Rattle.rust_algorithm.specs.Map.{ending-past, GapStep, gap-step, tail-gap, next-gap, given-first, collect-gaps, map-gaps}
 
 -- GAPS: what the iterator gives, read off the entries
 unfoldable pub free : ℕ → ℕ → List Span → List Span

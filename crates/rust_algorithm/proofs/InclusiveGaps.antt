@@ -1,4 +1,4 @@
--- The inclusive map's get is `at`, and what its gaps gives is `gaps`.
+-- What the inclusive map's gaps gives is `gaps`.
 use Prim.Native.Nat.{ℕ, zero, suc, _-_, _≤_, _<_}
 use native.Mathlib.Omega.{arith}
 use native.Mathlib.Decide.{decLt}
@@ -14,24 +14,11 @@ use Rattle.span.specs.Operations.{gaps}
 use Rattle.span.proofs.Tests.{lt-cases}
 use Rattle.span.proofs.Holding.{ordered-from}
 use Rattle.rust_algorithm.specs.Btree.{and-then, if-let, filtered, reversed, taken, up-to}
-use Rattle.rust_algorithm.specs.Map.{map-get-key-value, map-get, ending-past, GapStep, gap-step, given-first}
-use Rattle.rust_algorithm.specs.InclusiveMap.{final, closed, Steps, inclusive-get-key-value, inclusive-get, ending-from}
+use Rattle.rust_algorithm.specs.Map.{ending-past, GapStep, gap-step, given-first}
+use Rattle.rust_algorithm.specs.InclusiveMap.{final, closed, Steps, ending-from}
 use Rattle.rust_algorithm.specs.InclusiveMap.{inclusive-tail-gap, inclusive-next-gap, inclusive-collect-gaps, inclusive-gaps}
-use Rattle.rust_algorithm.proofs.Gaps.{get-is, free, free-is, free-empty, ordered-past, past-past}
-use Rattle.rust_algorithm.proofs.InclusiveEdits.{Sound, sound, sound-near, filtered-same, leb-ltb}
-
--- GET
-pub inclusive-get-key-value-is : (k top : ℕ) (m : List Span) → Ordered 0 m → Upto top m → inclusive-get-key-value k m ≡ map-get-key-value k m
-unfolding inclusive-get-key-value map-get-key-value inside
-inclusive-get-key-value-is k top m o u =
-    let near = taken 1 (reversed (up-to k m)) in
-    let s : Sound top near = sound-near top 1 k m (sound top 0 m o u) in
-    rw (filtered-same top (λ x. leb (x .lo) k && ltb k (x .hi)) (λ x. leb (x .lo) k && leb k (x .hi - 1)) near
-    (λ x f t. rw (leb-ltb k (x .hi - 1) (x .hi) (omega arith))) s)
-
-pub inclusive-get-is : (k top : ℕ) (m : List Span) → Ordered 0 m → Upto top m → inclusive-get k m ≡ at m k
-unfolding inclusive-get map-get
-inclusive-get-is k top m o u = rw (inclusive-get-key-value-is k top m o u) (get-is k m o)
+use Rattle.rust_algorithm.proofs.Gaps.{free, free-is, free-empty, ordered-past, past-past}
+use Rattle.rust_algorithm.proofs.InclusiveEdits.{Sound, sound, filtered-same, leb-ltb}
 
 -- where the next gap may start
 abbrev from : Bool → ℕ → ℕ

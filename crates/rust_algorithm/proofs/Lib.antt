@@ -1,4 +1,5 @@
--- THE THEOREMS. Of the half-open map: Insert, Remove, History, Gaps (and get). Of the inclusive one: InclusiveEdits, InclusiveHistory, InclusiveGaps.
+-- THE THEOREMS, of lists of spans. Of the half-open map: Insert, Remove, History, Gaps. Of the inclusive one: InclusiveEdits, InclusiveHistory,
+-- InclusiveGaps. Of both: Queries (get, contains, overlapping, overlaps, equality, order), Union, Intersection, Collected (extend, | and &).
 -- Document 01's cases, by computation: Cases, InclusiveCases.
 -- Beneath: Entries (the list that stands for the BTreeMap), Candidate (the query for the start), Held (what is held while the algorithm runs),
 -- InsertLoop and RemoveLoop (the loops of insert and remove, of both kinds).
@@ -14,5 +15,9 @@ pub mod Gaps
 pub mod InclusiveEdits
 pub mod InclusiveHistory
 pub mod InclusiveGaps
+pub mod Queries
+pub mod Union
+pub mod Intersection
+pub mod Collected
 pub mod Cases
 pub mod InclusiveCases
