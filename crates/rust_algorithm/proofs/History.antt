@@ -9,7 +9,7 @@ use Rattle.rust_algorithm.specs.Map.{map-insert, map-remove, map-edit, m
 use Rattle.rust_algorithm.proofs.Insert.{insert-is}
 use Rattle.rust_algorithm.proofs.Remove.{remove-is}
 
-edit-is : (lo hi : ℕ) (new : Option ℕ) (m : List Span) → lo < hi → Tidy 0 m → map-edit lo hi new m ≡ some (given lo hi new m)
+pub edit-is : (lo hi : ℕ) (new : Option ℕ) (m : List Span) → lo < hi → Tidy 0 m → map-edit lo hi new m ≡ some (given lo hi new m)
 unfolding map-edit
 edit-is lo hi none m h t = remove-is lo hi m h t
 edit-is lo hi (some v) m h t = insert-is lo hi v m h t

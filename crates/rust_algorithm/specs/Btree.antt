@@ -57,6 +57,12 @@ next (x ∷ xs) = some x
 unfoldable pub next-back : List Span → Option Span
 next-back m = next (reversed m)
 
+-- Iterator::nth: the entry at a place, if there is one
+unfoldable pub nth : ℕ → List Span → Option Span
+nth i [] = none
+nth zero (x ∷ xs) = some x
+nth (suc i) (x ∷ xs) = nth i xs
+
 -- BTreeMap::range((Unbounded, Included(s)))
 unfoldable pub up-to : ℕ → List Span → List Span
 up-to s m = filtered (λ x. leb (x .lo) s) m
