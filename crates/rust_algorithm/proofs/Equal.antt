@@ -9,15 +9,20 @@ use mathlib.Core.Option.{Option, some, none}
 use lib.Dec.{ltb, leb, eqb}
 use lib.ListN.{length, getD, take, drop}
 use lib.IntN.{ℤ, pos}
+use mir.Syntax.{w64}
+use mir.Val.{SFits}
 use borrow.Author.Tests.{lt-ltb, le-ltb, le-leb, lt-leb, eqb-true, eqb-false, eq-eqb}
 use Rattle.span.specs.Span.{Span, span, Ordered, Upto, Tidy, given, Edit, Real, history}
 use Rattle.span.specs.Operations.{overlaps, any, holds, order, gaps, common, united}
+use Rattle.span.proofs.Tests.{cases}
 use Rattle.span.proofs.Laws.{nothing}
 use Rattle.span.proofs.Walks.{Spaced, tidy-spaced}
-use Rattle.key.specs.Rank.{rank, keyAt, keys}
+use Rattle.key.specs.Rank.{rank, keyAt, keys, lesser, greater}
 use Rattle.key.specs.Range.{Kind, halfOpen, inclusive, rangeOf}
-use Rattle.key.proofs.Laws.{key-rank}
-use Rattle.key.proofs.Lawful.{Lawful, half-open, inclusive-too}
+use Rattle.key.proofs.Laws.{key-rank, rank-greater, lesser-fits, greater-fits}
+use Rattle.key.proofs.Lawful.{Lawful}
+use Rattle.relations.specs.Relations as relations
+use Rattle.relations.specs.declared.Common.{Common}
 use Rattle.outcomes.specs.Stored.{places, Stored, ranges, storing, wellFormed, Sound}
 use Rattle.outcomes.specs.Outcomes.{Edited, leaving, editing, edited, cleared, Change, run, changes, firstPlace, placed}
 use Rattle.outcomes.specs.Outcomes.{yesNo, found, contained, met, metPart, uncovered, compared, comparedBy, isEqual}
@@ -30,24 +35,61 @@ use Rattle.outcomes.proofs.Edits.{done, Done, edit-ranges, edit-sound, edit-len
 use Rattle.outcomes.proofs.Bulk.{bulk-singles}
 use Rattle.outcomes.proofs.Sets.{plain-ranges}
 use Rattle.rust_algorithm.specs.Btree.{next-back, nth}
-use Rattle.rust_algorithm.specs.InclusiveMap.{Steps, add-one-checked, sub-one-checked, add-one-wrapping, sub-one-wrapping}
-use Rattle.rust_algorithm.specs.Answers.{Functions, halfOpenRust, inclusiveRust, foundBy, editedBy, rustEdited, rustRun}
-use Rattle.rust_algorithm.specs.Equal.{Lent, Gives, Writes, SameHistory, SameAnswers, SameOrder, SameOfSets, applied, EqualToTheRust}
+use Rattle.rust_algorithm.specs.InclusiveMap.{add-one-checked, sub-one-checked, add-one-wrapping, sub-one-wrapping}
+use Rattle.rust_algorithm.specs.Operations.{range-intersect}
+use Rattle.rust_algorithm.specs.Answers.{Functions, halfOpenRust, inclusiveRust, commonBy, foundBy, editedBy, rustEdited, rustRun}
+use Rattle.rust_algorithm.specs.Equal.{Lent, Gives, Writes, SameRelations, SameHistory, SameAnswers, SameOrder, SameOfSets, applied, EqualToTheRust}
 use Rattle.rust_algorithm.proofs.InclusiveHistory.{By, checked, wrapping}
 use Rattle.rust_algorithm.proofs.Places.{nth-here, nth-past, nth-zero, nth-last, nth-first, part-gives}
-use Rattle.rust_algorithm.proofs.Same.{Kept, KeptSet, Same, half-open-same, inclusive-same}
+use Rattle.rust_algorithm.proofs.Same.{Kept, KeptSet, Same, Transcribed, half-open-map, inclusive-map}
 
-module _ (kind : Kind) (law : Lawful kind) (rust : Functions) (least : ℕ) (same : Same rust least keys) (ends-from : (e : ℤ) → least ≤ kind .past e) where
+module _ (kind : Kind) (rust : Functions) (transcribed : Transcribed kind rust) where
+  abbrev law : Lawful kind
+  law = transcribed .law
+
+  abbrev same : Same rust (transcribed .least) keys
+  same = transcribed .same
+
+  abbrev ends-from : (e : ℤ) → transcribed .least ≤ kind .past e
+  ends-from = transcribed .ends-from
+
   -- the ranges of a well-formed map are as the theorems of lists ask
   upto-keys : (m : List Span) → Upto (law .limit) m → Upto keys m
   upto-keys [] u = tt
   upto-keys (x ∷ xs) u = (omega (arith, law .limit-keys), upto-keys xs (u .1))
 
-  ends-by : (e : ℤ) → kind .past e ≤ keys
+  pub ends-by : (e : ℤ) → kind .past e ≤ keys
   ends-by e = omega (arith, law .ends-within e, law .limit-keys)
 
-  kept : (m : Stored) → wellFormed kind places m ≡ true → Kept keys (ranges kind m)
+  pub kept : (m : Stored) → wellFormed kind places m ≡ true → Kept keys (ranges kind m)
   kept m w = record { tidy = formed kind places m w .tidy; upto = upto-keys (ranges kind m) (upto-ranges kind law m) }
+
+  -- TWO RANGES
+  common-keys : (s e s′ e′ : ℤ) → SFits w64 s → SFits w64 e → SFits w64 s′ → SFits w64 e′
+      → relations.intersecting kind s e s′ e′ ≡ commonBy kind (range-intersect (rangeOf kind s e 0) (rangeOf kind s′ e′ 0))
+  unfolding relations.intersecting range-intersect
+  common-keys s e s′ e′ f g f′ g′ = rw (← rank-greater s s′, ← law .least e e′)
+      (cases (leb (kind .past (lesser e e′)) (rank (greater s s′)))
+      (λ (z : Common). z ≡ commonBy kind (cond (leb (kind .past (lesser e e′)) (rank (greater s s′)))
+      none (some (span (rank (greater s s′)) (kind .past (lesser e e′)) 0))))
+      (λ h. rw h) (λ h. rw (h, key-rank (greater-fits f f′), law .back (lesser-fits g g′))))
+
+  pub relations-equal : (s e s′ e′ : ℤ) → SameRelations kind rust s e s′ e′
+  relations-equal s e s′ e′ = record {
+    contains = λ k h. unfold relations.containing in rw (lt-leb (kind .past e) (rank s) h, same .contains-range (rank s) (kind .past e) (rank k) (ends-from e));
+    overlaps = λ h i. unfold relations.overlapping in rw (
+      lt-leb (kind .past e) (rank s) h,
+      lt-leb (kind .past e′) (rank s′) i,
+      same .overlaps-range (rank s) (kind .past e) (rank s′) (kind .past e′) h i,
+    );
+    touches = λ h i. unfold relations.touching in rw (
+      lt-leb (kind .past e) (rank s) h,
+      lt-leb (kind .past e′) (rank s′) i,
+      same .touches-range (rank s) (kind .past e) (rank s′) (kind .past e′) h i (ends-by e) (ends-by e′),
+    );
+    intersect = λ f g f′ g′. common-keys s e s′ e′ f g f′ g′
+        ∙ ap (commonBy kind) (sym (same .intersect-range (rangeOf kind s e 0) (rangeOf kind s′ e′ 0) (ends-from e) (ends-from e′)));
+  }
 
   -- AN EDIT
   pub edit-equal : (m : Stored) (s e : ℤ) (new : Option ℕ) → wellFormed kind places m ≡ true → edited kind m s e new ≡ rustEdited kind rust m s e new
@@ -65,18 +107,19 @@ module _ (kind : Kind) (law : Lawful kind) (rust : Functions) (least : ℕ) (sam
     )
   ]
 
-  edited-is : (m : Stored) (s e : ℤ) (new : Option ℕ) → wellFormed kind places m ≡ true → edited kind m s e new ≡ editing kind places m s e new
+  pub edited-is : (m : Stored) (s e : ℤ) (new : Option ℕ) → wellFormed kind places m ≡ true → edited kind m s e new ≡ editing kind places m s e new
   unfolding edited
   edited-is m s e new w = rw w
 
   -- what an edit leaves that is not refused
-  record Left (m : Stored) (s e : ℤ) (new : Option ℕ) (o : Edited) : Type 0 where
-    real : rank s < kind .past e
-    stores : o .left ≡ storing kind places (ranges kind (o .left))
-    holds : ranges kind (o .left) ≡ given (rank s) (kind .past e) new (ranges kind m)
-    lent : Lent kind (o .left)
+  pub record Left (m : Stored) (s e : ℤ) (new : Option ℕ) (o : Edited) : Type 0 where
+    pub real : rank s < kind .past e
+    pub stores : o .left ≡ storing kind places (ranges kind (o .left))
+    pub holds : ranges kind (o .left) ≡ given (rank s) (kind .past e) new (ranges kind m)
+    pub lent : Lent kind (o .left)
 
-  left : (m : Stored) (s e : ℤ) (new : Option ℕ) → wellFormed kind places m ≡ true → edited kind m s e new .answer ≡ 0 → Left m s e new (edited kind m s e new)
+  pub left : (m : Stored) (s e : ℤ) (new : Option ℕ) → wellFormed kind places m ≡ true → edited kind m s e new .answer ≡ 0
+      → Left m s e new (edited kind m s e new)
   left m s e new w z =
       let is = edited-is m s e new w in
       let t = formed kind places m w .tidy in
@@ -89,7 +132,7 @@ module _ (kind : Kind) (law : Lawful kind) (rust : Functions) (least : ℕ) (sam
         lent = record { sound = edit-sound kind law places m t s e new d; full-size = edit-length kind law places m t s e new d };
       })
 
-  well : (m : Stored) → Lent kind m → wellFormed kind places m ≡ true
+  pub well : (m : Stored) → Lent kind m → wellFormed kind places m ≡ true
   well m l = subst (λ (n : ℕ). wellFormed kind n m ≡ true) (l .full-size) (l .sound .well)
 
   -- EDITS in order
@@ -301,6 +344,7 @@ module _ (kind : Kind) (law : Lawful kind) (rust : Functions) (least : ℕ) (sam
 
   pub equal : EqualToTheRust kind rust
   equal = record {
+    relations = relations-equal;
     edits = run-equal;
     histories = history-equal;
     questions = questions-equal;
@@ -311,19 +355,12 @@ module _ (kind : Kind) (law : Lawful kind) (rust : Functions) (least : ℕ) (sam
 
 -- RangeMap and RangeSet
 pub half-open-equal : EqualToTheRust halfOpen halfOpenRust
-half-open-equal = equal halfOpen half-open halfOpenRust 0 (half-open-same keys) (λ e. omega arith)
+half-open-equal = equal halfOpen halfOpenRust half-open-map
 
--- RangeInclusiveMap and RangeInclusiveSet, for any steps that are right below the greatest key
-ends-later : (e : ℤ) → 1 ≤ inclusive .past e
-ends-later e = omega arith
-
-pub inclusive-equal : (add-one sub-one : ℕ → Option ℕ) → Steps add-one sub-one (2 ^ 64 - 1) → EqualToTheRust inclusive (inclusiveRust add-one sub-one)
-inclusive-equal add-one sub-one steps =
-    equal inclusive inclusive-too (inclusiveRust add-one sub-one) 1 (inclusive-same add-one sub-one (2 ^ 64 - 1) steps) ends-later
-
--- and so for i64's, in a build that checks, where a call of add_one at the greatest key would be a panic, and in one that does not
+-- RangeInclusiveMap and RangeInclusiveSet, with i64's steps in a build that checks, where a call of add_one at the greatest key would be a panic
 pub inclusive-equal-checked : EqualToTheRust inclusive (inclusiveRust add-one-checked sub-one-checked)
-inclusive-equal-checked = inclusive-equal add-one-checked sub-one-checked checked
+inclusive-equal-checked = equal inclusive (inclusiveRust add-one-checked sub-one-checked) (inclusive-map add-one-checked sub-one-checked checked)
 
+-- and in one that does not
 pub inclusive-equal-wrapping : EqualToTheRust inclusive (inclusiveRust add-one-wrapping sub-one-wrapping)
-inclusive-equal-wrapping = inclusive-equal add-one-wrapping sub-one-wrapping wrapping
+inclusive-equal-wrapping = equal inclusive (inclusiveRust add-one-wrapping sub-one-wrapping) (inclusive-map add-one-wrapping sub-one-wrapping wrapping)

@@ -84,7 +84,7 @@ ltb-same a b c d f g = elim (decLt a b) [
   | no p ↦ rw (le-ltb a b (omega arith), le-ltb c d (elim (decLt c d) [ yes q ↦ absurd (p (g q)) | no q ↦ omega arith ]))
 ]
 
-overlap-same : (a b c d : ℕ) → a < b → c < d → inclusive-ranges-overlap a (b - 1) c (d - 1) ≡ ranges-overlap a b c d
+pub overlap-same : (a b c d : ℕ) → a < b → c < d → inclusive-ranges-overlap a (b - 1) c (d - 1) ≡ ranges-overlap a b c d
 unfolding inclusive-ranges-overlap ranges-overlap
 overlap-same a b c d h i = leb-ltb (max a c) (min (b - 1) (d - 1)) (min b d) (omega arith)
 
@@ -114,7 +114,7 @@ module _ (add-one sub-one : ℕ → Option ℕ) (greatest : ℕ) (steps : Steps 
   add-back : (e : ℕ) → 0 < e → e ≤ greatest → add-one (e - 1) ≡ some e
   add-back e h i = let z : suc (e - 1) ≡ e = omega arith in steps .adds (e - 1) (omega arith) ∙ ap some z
 
-  touch-same : (a b c d : ℕ) → a < b → c < d → b ≤ suc greatest → d ≤ suc greatest
+  pub touch-same : (a b c d : ℕ) → a < b → c < d → b ≤ suc greatest → d ≤ suc greatest
       → inclusive-ranges-touch add-one sub-one a (b - 1) c (d - 1) ≡ some (ranges-touch a b c d)
   unfolding inclusive-ranges-touch ranges-touch
   touch-same a b c d h i j k =

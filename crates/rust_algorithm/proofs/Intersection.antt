@@ -35,7 +35,7 @@ intersect-meet x y rest l =
       | no p ↦ rw (le-ltb start end (omega arith), le-leb end start (omega arith))
     ]
 
-last-intersect : (x y : Span) → x .lo < x .hi → y .lo < y .hi → inclusive-intersect x y ≡ range-intersect x y
+pub last-intersect : (x y : Span) → 0 < x .hi → 0 < y .hi → inclusive-intersect x y ≡ range-intersect x y
 unfolding inclusive-intersect range-intersect
 last-intersect x y h i =
     let whole : suc (min (x .hi - 1) (y .hi - 1)) ≡ min (x .hi) (y .hi) = omega arith in
@@ -162,5 +162,6 @@ intersection-is a b s t = collects (λ x. x .hi) range-intersect (λ x y h i. re
 pub inclusive-intersection-is : (a b : List Span) → Spaced 0 a → Spaced 0 b → inclusive-set-intersection a b ≡ some (common a b)
 unfolding inclusive-set-intersection
 inclusive-intersection-is a b s t =
-    collects final inclusive-intersect (λ x y h i. ltb-same (x .hi - 1) (y .hi - 1) (x .hi) (y .hi) (omega arith) (omega arith)) last-intersect
+    collects final inclusive-intersect (λ x y h i. ltb-same (x .hi - 1) (y .hi - 1) (x .hi) (y .hi) (omega arith) (omega arith))
+    (λ x y h i. last-intersect x y (omega arith) (omega arith))
     (suc (length a + length b)) a b (omega arith) s t

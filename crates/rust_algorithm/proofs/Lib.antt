@@ -24,5 +24,7 @@ pub mod Collected
 pub mod Same
 pub mod Places
 pub mod Equal
+pub mod Differences
+pub mod DifferenceCases
 pub mod Cases
 pub mod InclusiveCases

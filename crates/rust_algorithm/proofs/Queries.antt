@@ -17,7 +17,8 @@ use Rattle.outcomes.specs.Outcomes.{isEqual}
 use Rattle.rust_algorithm.specs.Btree.{if-let, is-some, filtered, taken-while, reversed, taken, next, up-to}
 use Rattle.rust_algorithm.specs.Map.{map-get-key-value, map-get, map-contains-key, ending-past, map-overlapping, map-overlapping-back, map-overlaps}
 use Rattle.rust_algorithm.specs.Map.{map-eq, number-cmp, cmp-then, map-cmp}
-use Rattle.rust_algorithm.specs.InclusiveMap.{final, inclusive-get-key-value, inclusive-get, inclusive-contains-key, ending-from}
+use Rattle.rust_algorithm.specs.InclusiveMap.{final, inclusive-range-contains, inclusive-get-key-value, inclusive-get, inclusive-contains-key}
+use Rattle.rust_algorithm.specs.InclusiveMap.{ending-from}
 use Rattle.rust_algorithm.specs.InclusiveMap.{inclusive-overlapping, inclusive-overlapping-back, inclusive-overlaps, inclusive-eq, inclusive-cmp}
 use Rattle.rust_algorithm.proofs.Candidate.{Reaches, Parted, part, ends-filtered, ends-reversed, ends-taken, filtered-app}
 use Rattle.rust_algorithm.proofs.Candidate.{reversed-one, up-to-app, up-to-here, up-to-none}
@@ -137,7 +138,7 @@ module _ (k : ℕ) where
   contains-is m o = rw (get-key-value-is m o) (some-any (holds k) m)
 
   pub inclusive-get-key-value-is : (top : ℕ) (m : List Span) → Ordered 0 m → Upto top m → inclusive-get-key-value k m ≡ map-get-key-value k m
-  unfolding inclusive-get-key-value map-get-key-value inside
+  unfolding inclusive-get-key-value map-get-key-value inclusive-range-contains inside
   inclusive-get-key-value-is top m o u =
       let near = taken 1 (reversed (up-to k m)) in
       rw (filtered-same top (λ x. leb (x .lo) k && ltb k (x .hi)) (λ x. leb (x .lo) k && leb k (x .hi - 1)) near

@@ -17,7 +17,7 @@ use Rattle.span.proofs.Union.{ordered-united, plain-united}
 use Rattle.span.proofs.Walks.{Spaced, spaced-from, spaced-ordered, spaced-plain, united-left, united-right, united-from, absorb-apart, absorb-both}
 use Rattle.rust_algorithm.specs.Btree.{and-then, if-let}
 use Rattle.rust_algorithm.specs.Map.{given-first}
-use Rattle.rust_algorithm.specs.InclusiveMap.{final, closed}
+use Rattle.rust_algorithm.specs.InclusiveMap.{final, closed, inclusive-range-contains}
 use Rattle.rust_algorithm.specs.Operations.{range-merge, inclusive-merge, PairStep, pair-step, after-next, join}
 use Rattle.rust_algorithm.specs.Operations.{union-loop, union-next, collect-union, set-union, inclusive-set-union}
 use Rattle.rust_algorithm.proofs.InclusiveEdits.{leb-ltb, ltb-same}
@@ -37,7 +37,7 @@ unfolding range-merge
 merge-no x y h = rw (in-no (x .lo) (x .hi) (y .lo) (omega arith))
 
 inclusive-merge-is : (x y : Span) → x .lo < x .hi → y .lo < y .hi → inclusive-merge x y ≡ range-merge x y
-unfolding inclusive-merge range-merge inside
+unfolding inclusive-merge range-merge inclusive-range-contains inside
 inclusive-merge-is x y h i =
     let whole : suc (y .hi - 1) ≡ y .hi = omega arith in
     rw (leb-ltb (y .lo) (x .hi - 1) (x .hi) (omega arith), ltb-same (x .hi - 1) (y .hi - 1) (x .hi) (y .hi) (omega arith) (omega arith), whole)

@@ -1,14 +1,19 @@
 -- EQUAL TO THE RUST on every input not refused: the statement, for a kind and the Rust's functions of that kind. `proofs/Equal` has that both kinds meet it.
 use Prim.Native.Nat.{ℕ, _<_, _≤_}
 use mathlib.Core.Path.{_≡_}
+use mathlib.Core.Bool.{false}
 use mathlib.Core.List.{List, [], _∷_, map}
 use mathlib.Core.Option.{Option, some, none}
 use lib.ListN.{length, take, drop}
 use lib.IntN.{ℤ}
+use mir.Syntax.{w64}
+use mir.Val.{SFits}
 use Rattle.span.specs.Span.{Span}
 use Rattle.span.specs.Operations.{puts}
 use Rattle.key.specs.Rank.{rank}
-use Rattle.key.specs.Range.{Kind}
+use Rattle.key.specs.Range.{Kind, rangeOf}
+use Rattle.relations.specs.Relations as relations
+use Rattle.relations.specs.Relations.{related}
 use Rattle.outcomes.specs.Stored.{places, Stored, ranges, storing, Sound}
 use Rattle.outcomes.specs.Outcomes.{Entry, Change, Written, writing, yesNo, comparedBy, cleared, run, changes, inserts}
 use Rattle.outcomes.specs.Outcomes.{isEmpty, counting, rangeAt, firstOf, lastOf, lookup, containing, meeting, overlapping, gapsIn, equality, ordering}
@@ -18,7 +23,7 @@ use Rattle.outcomes.specs.declared.Part.{Part}
 use Rattle.outcomes.specs.declared.Part.the-variants as Part
 use Rattle.rust_algorithm.specs.Btree.{nth}
 use Rattle.rust_algorithm.specs.Map.{map-first, map-last, map-len, map-is-empty}
-use Rattle.rust_algorithm.specs.Answers.{Functions, foundBy, rustRun}
+use Rattle.rust_algorithm.specs.Answers.{Functions, relatedBy, commonBy, foundBy, rustRun}
 
 -- a map as it is lent: sound, and of as many places as maps have
 pub record Lent (kind : Kind) (m : Stored) : Type 0 where
@@ -39,6 +44,16 @@ pub record Writes (kind : Kind) (given : Option (List Span)) (starts ends : List
   pub same : w ≡ writing kind list starts ends
 
 module _ (kind : Kind) (rust : Functions) where
+  -- MODULE 1: two ranges that are not empty or reversed, and intersect of any two, are related as the Rust says
+  pub record SameRelations (s e s′ e′ : ℤ) : Type 0 where
+    pub contains : (k : ℤ) → rank s < kind .past e → relations.containing kind s e k ≡ related false (rust .range-contains (rank s) (kind .past e) (rank k))
+    pub overlaps : rank s < kind .past e → rank s′ < kind .past e′
+        → relations.overlapping kind s e s′ e′ ≡ related false (rust .range-overlaps (rank s) (kind .past e) (rank s′) (kind .past e′))
+    pub touches : rank s < kind .past e → rank s′ < kind .past e′
+        → relations.touching kind s e s′ e′ ≡ relatedBy (rust .range-touches (rank s) (kind .past e) (rank s′) (kind .past e′))
+    pub intersect : SFits w64 s → SFits w64 e → SFits w64 s′ → SFits w64 e′
+        → relations.intersecting kind s e s′ e′ ≡ commonBy kind (rust .range-intersect (rangeOf kind s e 0) (rangeOf kind s′ e′ 0))
+
   -- after edits of which none is refused: the Rust, called in the same way from an empty map, holds btm, and the map that is left is the one
   -- that stores btm, place by place, unused places included
   pub record SameHistory (cs : List Change) : Type 0 where
@@ -81,6 +96,8 @@ module _ (kind : Kind) (rust : Functions) where
   applied m es = map single (take (inserts kind m 0 es .told .applied) es)
 
   pub record EqualToTheRust : Type 0 where
+    -- EVERY TWO RANGES
+    pub relations : (s e s′ e′ : ℤ) → SameRelations s e s′ e′
     -- EVERY EDIT, refused or not: 1 where the Rust panics, 2 where it would hold more ranges than there are places, and else what it leaves
     pub edits : (m : Stored) (cs : List Change) → Lent kind m → run kind m cs ≡ rustRun kind rust m cs
     -- EVERY HISTORY of edits of which none is refused

@@ -21,6 +21,10 @@ final x = x .hi - 1
 abbrev pub closed : ℕ → ℕ → ℕ → Span
 closed s e v = span s (suc e) v
 
+-- RangeInclusive::contains: is k in lo..=last
+unfoldable pub inclusive-range-contains : ℕ → ℕ → ℕ → Bool
+inclusive-range-contains lo last k = leb lo k && leb k last
+
 -- std_ext.rs, 38-42: does a..=b overlap c..=d
 unfoldable pub inclusive-ranges-overlap : ℕ → ℕ → ℕ → ℕ → Bool
 inclusive-ranges-overlap a b c d = leb (max a c) (min b d)
@@ -132,7 +136,7 @@ sub-one-wrapping z = cond (ltb 0 z) (some (z - 1)) (some (2 ^ 64 - 1))
 
 -- 199-214: get_key_value, the last that starts by the key, if it contains the key
 unfoldable pub inclusive-get-key-value : ℕ → List Span → Option Span
-inclusive-get-key-value k m = next (filtered (λ x. leb (x .lo) k && leb k (final x)) (taken 1 (reversed (up-to k m))))
+inclusive-get-key-value k m = next (filtered (λ x. inclusive-range-contains (x .lo) (final x) k) (taken 1 (reversed (up-to k m))))
 
 -- 193-195: get
 unfoldable pub inclusive-get : ℕ → List Span → Option ℕ

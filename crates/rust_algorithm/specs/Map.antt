@@ -98,7 +98,7 @@ unfoldable pub map-history : List Edit → List Span → Option (List Span)
 map-history [] m = some m
 map-history (e ∷ es) m = and-then (map-edit (e .lo) (e .hi) (e .new) m) (map-history es)
 
--- 163-177: get_key_value, the last that starts by the key, if it contains the key
+-- 163-177: get_key_value, the last that starts by the key, if it contains the key (Range::contains is `inside`)
 unfoldable pub map-get-key-value : ℕ → List Span → Option Span
 map-get-key-value k m = next (filtered (λ x. inside (x .lo) (x .hi) k) (taken 1 (reversed (up-to k m))))
 

@@ -3,7 +3,7 @@
 -- other functions is the map's (set.rs, 75-184). The Rust's text of the two iterators is one for both kinds of range, so it is here.
 use Prim.Native.Nat.{ℕ, zero, suc, _+_, min, max}
 use mathlib.Core.List.{List, [], _∷_}
-use mathlib.Core.Bool.{_&&_, cond}
+use mathlib.Core.Bool.{cond}
 use mathlib.Core.Option.{Option, some, none}
 use lib.Dec.{ltb, leb}
 use lib.ListN.{length}
@@ -11,7 +11,7 @@ use Rattle.span.specs.Span.{Span, span, inside}
 use Rattle.span.specs.Operations.{puts}
 use Rattle.rust_algorithm.specs.Btree.{and-then, if-let}
 use Rattle.rust_algorithm.specs.Map.{given-first, map-history}
-use Rattle.rust_algorithm.specs.InclusiveMap.{final, closed, inclusive-history}
+use Rattle.rust_algorithm.specs.InclusiveMap.{final, closed, inclusive-range-contains, inclusive-history}
 
 -- 40-52: merge, the range that it leaves, and none where it answers false
 unfoldable pub range-merge : Span → Span → Option Span
@@ -19,7 +19,7 @@ range-merge x y = cond (inside (x .lo) (x .hi) (y .lo)) (some (cond (ltb (x .hi)
 
 -- 54-66: the same of inclusive ranges
 unfoldable pub inclusive-merge : Span → Span → Option Span
-inclusive-merge x y = cond (leb (x .lo) (y .lo) && leb (y .lo) (final x))
+inclusive-merge x y = cond (inclusive-range-contains (x .lo) (final x) (y .lo))
     (some (cond (ltb (final x) (final y)) (closed (x .lo) (final y) (x .label)) x))
     none
 
