@@ -3,18 +3,17 @@
 use Prim.Native.Nat.{ℕ, zero, suc, _≤_, _<_, min, max}
 use native.Mathlib.Omega.{arith}
 use native.Mathlib.Decide.{decLt}
-use mathlib.Core.Path.{_≡_, refl, ap, sym, _∙_}
+use mathlib.Core.Path.{_≡_, refl, ap}
 use mathlib.Core.List.{List, [], _∷_, _++_, append-nil}
-use mathlib.Core.Bool.{Bool, true, false, cond}
-use mathlib.Core.Option.{Option, some, none}
-use lib.Dec.{ltb, leb, eqb}
+use mathlib.Core.Bool.{Bool, cond}
+use mathlib.Core.Option.{some, none}
 use borrow.Author.Tests.{lt-ltb, le-ltb, le-leb, lt-leb}
 use Rattle.span.specs.Span.{Span, Ordered}
 use Rattle.span.proofs.Tests.{cases}
 use Rattle.span.proofs.Holding.{ordered-from}
 use Rattle.span.proofs.Local.{EndsBefore}
-use Rattle.rust_algorithm.specs.Btree.{filtered, reversed, taken, next, up-to}
-use Rattle.rust_algorithm.specs.Map.{ranges-overlap, ranges-touch, last-candidate, candidate, remove-candidate}
+use Rattle.rust_algorithm.specs.Btree.{filtered, reversed, taken, up-to}
+use Rattle.rust_algorithm.specs.Map.{ranges-overlap, ranges-touch, candidate, remove-candidate}
 
 -- the first of the list, if there is one, ends at c or later
 abbrev pub Reaches : ℕ → List Span → Type 0

@@ -1,9 +1,8 @@
 -- Document 01's cases, by computation of the transcribed algorithm.
-use Prim.Native.Nat.{ℕ}
 use mathlib.Core.Path.{_≡_, refl}
-use mathlib.Core.List.{List, [], _∷_}
-use mathlib.Core.Option.{Option, some, none}
-use Rattle.span.specs.Span.{Span, span, inside}
+use mathlib.Core.List.{[], _∷_}
+use mathlib.Core.Option.{some, none}
+use Rattle.span.specs.Span.{span, inside}
 use Rattle.rust_algorithm.specs.Btree.{filtered, reversed, taken, up-to, from-to, between, deleted, entered}
 use Rattle.rust_algorithm.specs.Map.{ranges-overlap, ranges-touch, cut-out, adjust, candidate, insert-loop, map-insert, remove-candidate, remove-loop}
 use Rattle.rust_algorithm.specs.Map.{map-remove}

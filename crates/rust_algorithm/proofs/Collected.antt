@@ -1,5 +1,5 @@
 -- rangemap's a | b and a & b: what Union and Intersection give, collected into a set, one insert for each range, is `over` and `common`, of both kinds.
-use Prim.Native.Nat.{ℕ, suc, _≤_, max}
+use Prim.Native.Nat.{ℕ, suc, _≤_}
 use native.Mathlib.Omega.{arith}
 use native.Mathlib.Decide.{decLt}
 use mathlib.Core.Path.{_≡_, refl, ap, sym, _∙_}
@@ -7,19 +7,18 @@ use mathlib.Core.List.{List, [], _∷_}
 use mathlib.Core.Bool.{Bool, true, false, cond}
 use mathlib.Core.Option.{Option, some, none}
 use lib.Dec.{ltb}
-use Rattle.span.specs.Span.{Span, at, or-else, Ordered, Separate, Upto, Tidy, Means, joined, Edit, Real, history}
-use Rattle.span.specs.Operations.{Plain, puts, over, common, when, overlaps, merged, absorb, united}
+use Rattle.span.specs.Span.{Span, at, Ordered, Upto, Tidy, joined, Real, history}
+use Rattle.span.specs.Operations.{puts, over, common, when, overlaps, merged, absorb, united}
 use Rattle.span.proofs.Holding.{at-upto, or-none}
 use Rattle.span.proofs.Laws.{never, only, reworded, nothing, joined-means}
 use Rattle.span.proofs.Sets.{over-means, rebuilt, common-means}
 use Rattle.span.proofs.Union.{ordered-united, united-joined}
 use Rattle.span.proofs.Local.{upto-at}
 use Rattle.span.proofs.Walks.{Spaced, spaced-ordered, spaced-plain}
-use Rattle.rust_algorithm.specs.Btree.{and-then}
 use Rattle.rust_algorithm.specs.Map.{map-history}
 use Rattle.rust_algorithm.specs.InclusiveMap.{Steps, inclusive-history}
-use Rattle.rust_algorithm.specs.Operations.{set-union, set-intersection, set-or, set-and}
-use Rattle.rust_algorithm.specs.Operations.{inclusive-set-union, inclusive-set-intersection, inclusive-set-or, inclusive-set-and}
+use Rattle.rust_algorithm.specs.Operations.{set-or, set-and}
+use Rattle.rust_algorithm.specs.Operations.{inclusive-set-or, inclusive-set-and}
 use Rattle.rust_algorithm.proofs.History.{history-is}
 use Rattle.rust_algorithm.proofs.InclusiveHistory.{By, inclusive-history-is}
 use Rattle.rust_algorithm.proofs.Union.{union-is, inclusive-union-is}

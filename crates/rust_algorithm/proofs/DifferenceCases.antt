@@ -1,13 +1,13 @@
 -- The smallest inputs that docs/DIFFERENCES.md names, by computation: what the transcribed Rust answers there. That the ledger refuses them: Differences.
-use Prim.Native.Nat.{ℕ, suc}
+use Prim.Native.Nat.{suc}
 use mathlib.Core.Path.{_≡_, refl}
 use mathlib.Core.Bool.{true, false}
-use mathlib.Core.List.{List, [], _∷_}
-use mathlib.Core.Option.{Option, some, none}
+use mathlib.Core.List.{[], _∷_}
+use mathlib.Core.Option.{some, none}
 use lib.ListN.{length}
 use native.Mathlib.Omega.{arith}
 use lib.IntN.{ℤ, pos}
-use Rattle.span.specs.Span.{Span, span, inside, joins, apart, tidy, keep, before, after, push, joined, given, inserted, put}
+use Rattle.span.specs.Span.{span, inside, joins, tidy, keep, before, after, push, joined, given, inserted, put}
 use Rattle.span.specs.Operations.{puts}
 use Rattle.span.proofs.Tests.{tidy-yes}
 use Rattle.span.proofs.Cases.{comb}

@@ -1,39 +1,38 @@
 -- THE DIFFERENCES, line by line as in docs/DIFFERENCES.md: the ledger refuses, and the transcribed Rust answers or panics. First what holds of every input,
 -- of both kinds; then the smallest inputs that the paper names, by computation. (That of an exhausted RangeInclusive cannot be written here.)
-use Prim.Native.Nat.{ℕ, suc, _-_, _^_, _≤_, _<_, min, max}
+use Prim.Native.Nat.{ℕ, suc, _≤_, _<_, min, max}
 use native.Mathlib.Omega.{arith}
 use native.Mathlib.Decide.{decLt}
 use mathlib.Core.Path.{_≡_, refl, ap, sym, _∙_}
 use mathlib.Core.Bool.{Bool, true, false, cond}
 use mathlib.Core.List.{List, [], _∷_, map}
 use mathlib.Core.Option.{Option, some, none}
-use lib.Dec.{ltb, leb, eqb}
+use lib.Dec.{ltb}
 use lib.ListN.{length}
-use lib.IntN.{ℤ, pos}
+use lib.IntN.{ℤ}
 use mir.Syntax.{w64}
 use mir.Val.{ofZ}
 use borrow.Author.Tests.{lt-ltb, le-ltb, le-leb, lt-leb, eq-eqb, ne-eqb}
-use Rattle.span.specs.Span.{Span, span, inside, given, put}
+use Rattle.span.specs.Span.{Span, span, inside, given}
 use Rattle.span.specs.Operations.{overlaps, any}
 use Rattle.span.proofs.Tests.{in-no}
-use Rattle.key.specs.Rank.{rank, place, bitRank, keys}
-use Rattle.key.specs.Range.{Kind, halfOpen, inclusive, rangeOf}
+use Rattle.key.specs.Rank.{rank, keys}
+use Rattle.key.specs.Range.{Kind}
 use Rattle.key.proofs.Laws.{rank-below}
 use Rattle.relations.specs.Relations as relations
-use Rattle.relations.specs.Relations.{related}
 use Rattle.relations.specs.declared.Relation.the-variants.{Empty}
 use Rattle.outcomes.specs.Stored.{places, Stored, ranges, storing, wellFormed}
 use Rattle.outcomes.specs.Outcomes.{Edited, leaving, editing, edited, met, meeting, metPart, overlapping, uncovered, gapsIn}
-use Rattle.outcomes.specs.Outcomes.{Entry, inserts, changes, cleared}
+use Rattle.outcomes.specs.Outcomes.{Entry, inserts, changes}
 use Rattle.outcomes.specs.Sets.{notWritten}
 use Rattle.outcomes.specs.declared.Asked.the-variants as Asked
 use Rattle.outcomes.specs.declared.Part.the-variants as Part
 use Rattle.rust_algorithm.specs.Btree.{filtered}
-use Rattle.rust_algorithm.specs.Map.{ranges-overlap, ranges-touch}
+use Rattle.rust_algorithm.specs.Map.{ranges-overlap}
 use Rattle.rust_algorithm.specs.Answers.{Functions, editedBy}
 use Rattle.rust_algorithm.specs.Equal.{Lent, single}
 use Rattle.rust_algorithm.proofs.Same.{Kept, Transcribed}
-use Rattle.rust_algorithm.proofs.Equal.{kept, well, ends-by, edit-equal, edited-is, Left, left}
+use Rattle.rust_algorithm.proofs.Equal.{kept, well, ends-by, edit-equal, edited-is, left}
 
 -- OF EVERY INPUT
 -- contains and overlaps of ranges: where one is empty or reversed, the Rust says no
@@ -136,7 +135,7 @@ module _ (kind : Kind) (rust : Functions) (transcribed : Transcribed kind rust) 
       go false e = omega arith
 
   pub extend-panics : (m : Stored) (n : ℕ) (es : List Entry) → Lent kind m → inserts kind m n es .told .answer ≡ 1
-      → rust .history (changes kind (map (single kind rust) es)) (ranges kind m) ≡ none
+      → rust .history (changes kind (map single es)) (ranges kind m) ≡ none
   unfolding inserts changes
   extend-panics m n [] l e = absurd (omega arith)
   extend-panics m n (x ∷ xs) l e =
@@ -145,7 +144,7 @@ module _ (kind : Kind) (rust : Functions) (transcribed : Transcribed kind rust) 
       let call = rust .edit (rank (x .start)) (kind .past (x .end)) (some (x .value)) (ranges kind m) in
       let is : editedBy kind m call ≡ one
       = sym (edit-equal kind rust transcribed m (x .start) (x .end) (some (x .value)) w) ∙ edited-well w in
-      transcribed .same .history-first _ (changes kind (map (single kind rust) xs)) (ranges kind m) ∙ (elim (decLt 0 (one .answer)) [
+      transcribed .same .history-first _ (changes kind (map single xs)) (ranges kind m) ∙ (elim (decLt 0 (one .answer)) [
         | yes p ↦
             let told : one .answer ≡ 1 = rw (ne-eqb (one .answer) 0 (omega arith)) at e in
             let none-left : call ≡ none = panicked m call (ap (λ (o : Edited). o .answer) is ∙ told) in

@@ -1,47 +1,63 @@
 -- THE THEOREM: for both kinds of map and of set, at both ends of i64, the ledger is equal to the Rust on every input not refused.
-use Prim.Native.Nat.{ℕ, zero, suc, _+_, _-_, _^_, _≤_, _<_}
+use Prim.Native.Nat.{ℕ, zero, suc, _-_, _≤_, _<_}
 use native.Mathlib.Omega.{arith}
 use native.Mathlib.Decide.{decLt}
 use mathlib.Core.Path.{_≡_, refl, ap, sym, subst, _∙_}
-use mathlib.Core.Bool.{Bool, true, false, _&&_, cond}
+use mathlib.Core.Bool.{Bool, true, false, cond}
 use mathlib.Core.List.{List, [], _∷_, _++_, map}
 use mathlib.Core.Option.{Option, some, none}
-use lib.Dec.{ltb, leb, eqb}
-use lib.ListN.{length, getD, take, drop}
-use lib.IntN.{ℤ, pos}
+use lib.Dec.{leb, eqb}
+use lib.ListN.{length, replicate}
+use lib.IntN.{ℤ}
 use mir.Syntax.{w64}
 use mir.Val.{SFits}
 use borrow.Author.Tests.{lt-ltb, le-ltb, le-leb, lt-leb, eqb-true, eqb-false, eq-eqb}
-use Rattle.span.specs.Span.{Span, span, Ordered, Upto, Tidy, given, Edit, Real, history}
-use Rattle.span.specs.Operations.{overlaps, any, holds, order, gaps, common, united}
+use Rattle.span.specs.Span.{Span, span, inside, at, Ordered, Upto, given, Real, history}
+use Rattle.span.specs.Operations.{Plain, overlaps, holds, order, gaps, common, united}
 use Rattle.span.proofs.Tests.{cases}
-use Rattle.span.proofs.Laws.{nothing}
-use Rattle.span.proofs.Walks.{Spaced, tidy-spaced}
-use Rattle.key.specs.Rank.{rank, keyAt, keys, lesser, greater}
+use Rattle.span.proofs.Laws.{nothing, tidy-given, at-given}
+use Rattle.span.proofs.Sets.{plain-at, at-zero}
+use Rattle.span.proofs.Walks.{tidy-spaced}
+use Rattle.key.specs.Rank.{rank, keys, lesser, greater}
 use Rattle.key.specs.Range.{Kind, halfOpen, inclusive, rangeOf}
 use Rattle.key.proofs.Laws.{key-rank, rank-greater, lesser-fits, greater-fits}
 use Rattle.key.proofs.Lawful.{Lawful}
 use Rattle.relations.specs.Relations as relations
 use Rattle.relations.specs.declared.Common.{Common}
-use Rattle.outcomes.specs.Stored.{places, Stored, ranges, storing, wellFormed, Sound}
+use Rattle.outcomes.specs.Stored.{places, Stored, ranges, filled, storing, noughts, wellFormed}
 use Rattle.outcomes.specs.Outcomes.{Edited, leaving, editing, edited, cleared, Change, run, changes, firstPlace, placed}
-use Rattle.outcomes.specs.Outcomes.{yesNo, found, contained, met, metPart, uncovered, compared, comparedBy, isEqual}
+use Rattle.outcomes.specs.Outcomes.{yesNo, found, contained, met, metPart, uncovered, compared}
 use Rattle.outcomes.specs.Outcomes.{isEmpty, counting, rangeAt, lookup, containing, meeting, overlapping, gapsIn, equality, ordering, inserts, Entry}
-use Rattle.outcomes.specs.Sets.{SoundSet, unionOf, intersected, joining, intersecting, uniting}
+use Rattle.outcomes.specs.Sets.{plain, SoundSet, unionOf, intersected, joining, intersecting, uniting}
 use Rattle.outcomes.specs.declared.Counted.the-variants as Counted
 use Rattle.outcomes.proofs.Formed.{formed, shape, length-ranges, getD-ranges, sound-held}
-use Rattle.outcomes.proofs.Storing.{ranges-storing, upto-ranges, sound-storing, length-storing}
-use Rattle.outcomes.proofs.Edits.{done, Done, edit-ranges, edit-sound, edit-length, ranges-cleared}
+use Rattle.outcomes.proofs.Storing.{upto-ranges, sound-storing, length-storing}
+use Rattle.outcomes.proofs.Edits.{done, edit-ranges, edit-sound, edit-length, ranges-cleared}
 use Rattle.outcomes.proofs.Bulk.{bulk-singles}
 use Rattle.outcomes.proofs.Sets.{plain-ranges}
 use Rattle.rust_algorithm.specs.Btree.{next-back, nth}
 use Rattle.rust_algorithm.specs.InclusiveMap.{add-one-checked, sub-one-checked, add-one-wrapping, sub-one-wrapping}
 use Rattle.rust_algorithm.specs.Operations.{range-intersect}
-use Rattle.rust_algorithm.specs.Answers.{Functions, halfOpenRust, inclusiveRust, commonBy, foundBy, editedBy, rustEdited, rustRun}
-use Rattle.rust_algorithm.specs.Equal.{Lent, Gives, Writes, SameRelations, SameHistory, SameAnswers, SameOrder, SameOfSets, applied, EqualToTheRust}
+use Rattle.rust_algorithm.specs.Answers.{Functions, halfOpenRust, inclusiveRust, commonBy, foundBy, rustEdited, rustRun}
+use Rattle.rust_algorithm.specs.Equal.{Lent, Gives, Writes, SameRelations, SameHistory, SameAnswers, SameOrder, SameOfSets, OfSet, applied, EqualToTheRust}
 use Rattle.rust_algorithm.proofs.InclusiveHistory.{By, checked, wrapping}
 use Rattle.rust_algorithm.proofs.Places.{nth-here, nth-past, nth-zero, nth-last, nth-first, part-gives}
 use Rattle.rust_algorithm.proofs.Same.{Kept, KeptSet, Same, Transcribed, half-open-map, inclusive-map}
+
+-- the map that stores a set is a set
+noughts-none : (n : ℕ) → noughts (replicate n 0) ≡ true
+unfolding noughts
+noughts-none zero = refl
+noughts-none (suc n) = noughts-none n
+
+noughts-labels : (xs : List Span) (rest : List ℕ) → Plain xs → noughts rest ≡ true → noughts (map (λ (x : Span). x .label) xs ++ rest) ≡ true
+unfolding noughts
+noughts-labels [] rest p e = e
+noughts-labels (x ∷ xs) rest p e = rw (eq-eqb (x .label) 0 (p .0)) (noughts-labels xs rest (p .1) e)
+
+plain-storing : (kind : Kind) (n : ℕ) (xs : List Span) → Plain xs → plain (storing kind n xs) ≡ true
+unfolding plain storing filled
+plain-storing kind n xs p = noughts-labels xs _ p (noughts-none (n - length (map (λ (x : Span). x .label) xs)))
 
 module _ (kind : Kind) (rust : Functions) (transcribed : Transcribed kind rust) where
   abbrev law : Lawful kind
@@ -214,11 +230,42 @@ module _ (kind : Kind) (rust : Functions) (transcribed : Transcribed kind rust) 
         lent = r .lent;
       }
 
+  -- SETS: edits that give 0 or none keep all values 0
+  plain-given : (lo hi : ℕ) (new : Option ℕ) (m : List Span) → lo < hi → Ordered 0 m → ((v : ℕ) → new ≡ some v → v ≡ 0) → Plain m → Plain (given lo hi new m)
+  plain-given lo hi new m h o z p = plain-at 0 (given lo hi new m) (tidy-given lo hi new m h o .ordered)
+      (λ k v e. held k v (sym (at-given lo hi new m h o k) ∙ e))
+    where
+      held : (k v : ℕ) → cond (inside lo hi k) new (at m k) ≡ some v → v ≡ 0
+      held k v = go (inside lo hi k)
+        where
+          go : (t : Bool) → cond t new (at m k) ≡ some v → v ≡ 0
+          go true e = z v e
+          go false e = at-zero m k v p e
+
+  plain-ran : (m : Stored) (cs : List Change) → Lent kind m → OfSet cs → Plain (ranges kind m) → run kind m cs .answer ≡ 0
+      → Plain (ranges kind (run kind m cs .left))
+  unfolding run
+  plain-ran m [] l s p z = p
+  plain-ran m (c ∷ cs) l s p z =
+      let one = edited kind m (c .start) (c .end) (c .new) in
+      let (zero-is, rest) = none-refused one (run kind (one .left) cs) z in
+      let f = left m (c .start) (c .end) (c .new) (well m l) zero-is in
+      let q = plain-given (rank (c .start)) (kind .past (c .end)) (c .new) (ranges kind m) (f .real) (kept m (well m l) .tidy .ordered) (s .0) p in
+      rw (eq-eqb (one .answer) 0 zero-is) (plain-ran (one .left) cs (f .lent) (s .1) (rw (f .holds) q) rest)
+
+  pub sets-stay : (cs : List Change) → OfSet cs → run kind (cleared kind) cs .answer ≡ 0 → SoundSet kind (run kind (cleared kind) cs .left)
+  sets-stay cs s z =
+      let h = history-equal cs z in
+      let none-held : Plain (ranges kind (cleared kind)) = rw (ranges-cleared kind law) tt in
+      let p = plain-ran (cleared kind) cs lent-cleared s none-held z in
+      let is = ran (cleared kind) cs lent-cleared z .stores stores-cleared in
+      record { sound = h .lent .sound; plain-too = ap plain is ∙ plain-storing kind places (ranges kind (run kind (cleared kind) cs .left)) p }
+
   -- BULK INSERT: as many single inserts as were applied
   pub extend-equal : (m : Stored) (es : List Entry) → Lent kind m
-      → rust .history (changes kind (applied kind rust m es)) (ranges kind m) ≡ some (ranges kind (inserts kind m 0 es .left))
+      → rust .history (changes kind (applied kind m es)) (ranges kind m) ≡ some (ranges kind (inserts kind m 0 es .left))
   extend-equal m es l =
-      let cs = applied kind rust m es in
+      let cs = applied kind m es in
       let is : run kind m cs ≡ leaving 0 (inserts kind m 0 es .left) = bulk-singles kind law m es (l .sound) (l .full-size) in
       rust-holds m cs l (ran m cs l (ap (λ (o : Edited). o .answer) is)) ∙ ap (λ (o : Edited). some (ranges kind (o .left))) is
 
@@ -347,6 +394,7 @@ module _ (kind : Kind) (rust : Functions) (transcribed : Transcribed kind rust) 
     relations = relations-equal;
     edits = run-equal;
     histories = history-equal;
+    set-histories = sets-stay;
     questions = questions-equal;
     order = order-equal;
     sets = sets-equal;

@@ -1,18 +1,18 @@
 -- What rangemap's gaps gives is `gaps`.
-use Prim.Native.Nat.{ℕ, zero, suc, _+_, _≤_, _<_, min, max}
+use Prim.Native.Nat.{ℕ, zero, suc, _≤_, _<_}
 use native.Mathlib.Omega.{arith}
 use native.Mathlib.Decide.{decLt}
-use mathlib.Core.Path.{_≡_, refl, ap, sym, subst, _∙_}
-use mathlib.Core.List.{List, [], _∷_, _++_, append-nil}
-use mathlib.Core.Bool.{Bool, cond}
+use mathlib.Core.Path.{_≡_, refl, ap, sym, _∙_}
+use mathlib.Core.List.{List, [], _∷_}
+use mathlib.Core.Bool.{cond}
 use mathlib.Core.Option.{Option, some, none}
-use lib.Dec.{ltb, leb}
+use lib.Dec.{leb}
 use lib.ListN.{length}
 use borrow.Author.Tests.{lt-ltb, le-ltb, le-leb, lt-leb}
-use Rattle.span.specs.Span.{Span, span, inside, at, Ordered, Apart, Separate, Tidy, Means, keep}
+use Rattle.span.specs.Span.{Span, span, inside, at, Ordered, Apart, Tidy, Means, keep}
 use Rattle.span.specs.Operations.{gaps, unless}
-use Rattle.span.proofs.Tests.{Within, cases, in-yes, in-no, in-same, in-cases, lt-cases, below, among, beyond, place}
-use Rattle.span.proofs.Holding.{at-in, at-out, at-app, at-keep, at-below, at-upto, ordered-from, ordered-right}
+use Rattle.span.proofs.Tests.{cases, in-yes, in-no, in-same, in-cases, lt-cases, below, among, beyond, place}
+use Rattle.span.proofs.Holding.{at-in, at-out, at-keep, at-below, ordered-from}
 use Rattle.span.proofs.Laws.{only}
 use Rattle.span.proofs.Sets.{gaps-means}
 use Rattle.rust_algorithm.specs.Btree.{filtered}

@@ -1,14 +1,14 @@
 -- What is held while the algorithm runs: the range to insert is laid over the rest, and each adjustment changes nothing that is held.
 use Prim.Native.Nat.{ℕ, _≤_, _<_, min, max}
 use native.Mathlib.Omega.{arith}
-use mathlib.Core.Path.{_≡_, refl, ap, sym, _∙_}
+use mathlib.Core.Path.{_≡_, refl, sym, _∙_}
 use mathlib.Core.List.{List, [], _∷_, _++_}
 use mathlib.Core.Bool.{cond}
-use mathlib.Core.Option.{Option, some, none}
-use Rattle.span.specs.Span.{Span, span, inside, at, or-else, Ordered, Upto, Joins, Apart, Tidy, keep}
-use Rattle.span.proofs.Tests.{Within, below, among, beyond, place, in-yes, in-no, in-cases, in-same}
+use mathlib.Core.Option.{some}
+use Rattle.span.specs.Span.{Span, span, inside, at, or-else, Upto, Apart, keep}
+use Rattle.span.proofs.Tests.{below, among, beyond, place, in-yes, in-no, in-cases, in-same}
 use Rattle.span.proofs.Holding.{at-in, at-out, at-app, at-keep, at-upto}
-use Rattle.span.proofs.Pieces.{Follows, Ahead}
+use Rattle.span.proofs.Pieces.{Ahead}
 use Rattle.span.proofs.Local.{EndsBefore}
 
 pub at-behind : (ls xs ys : List Span) (k : ℕ) → at xs k ≡ at ys k → at (ls ++ xs) k ≡ at (ls ++ ys) k

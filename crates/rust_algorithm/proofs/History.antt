@@ -3,9 +3,9 @@ use Prim.Native.Nat.{ℕ, _<_}
 use mathlib.Core.Path.{_≡_, refl}
 use mathlib.Core.List.{List, [], _∷_}
 use mathlib.Core.Option.{Option, some, none}
-use Rattle.span.specs.Span.{Span, Ordered, Tidy, Edit, given, history, Real}
+use Rattle.span.specs.Span.{Span, Tidy, Edit, given, history, Real}
 use Rattle.span.proofs.Laws.{tidy-given}
-use Rattle.rust_algorithm.specs.Map.{map-insert, map-remove, map-edit, map-history}
+use Rattle.rust_algorithm.specs.Map.{map-edit, map-history}
 use Rattle.rust_algorithm.proofs.Insert.{insert-is}
 use Rattle.rust_algorithm.proofs.Remove.{remove-is}
 

@@ -3,7 +3,7 @@
 use Prim.Native.Nat.{ℕ, _-_, _^_}
 use mathlib.Core.Path.{_≡_, refl}
 use mathlib.Core.List.{List, [], _∷_}
-use mathlib.Core.Option.{Option, some, none}
+use mathlib.Core.Option.{Option, some}
 use Rattle.span.specs.Span.{Span, span}
 use Rattle.rust_algorithm.specs.Btree.{filtered, filtered-by, reversed, taken, up-to, starting, starting-by, deleted, entered}
 use Rattle.rust_algorithm.specs.InclusiveMap.{inclusive-ranges-overlap, inclusive-ranges-touch, left-back, right-back, inclusive-cut-out}

@@ -3,24 +3,23 @@
 use Prim.Native.Nat.{ℕ, zero, suc, _-_, _≤_, _<_, min, max}
 use native.Mathlib.Omega.{arith}
 use native.Mathlib.Decide.{decLt, ℕ-discrete}
-use mathlib.Core.Path.{_≡_, refl, ap, sym, subst, fun-ext, _∙_}
+use mathlib.Core.Path.{_≡_, refl, ap, subst, fun-ext, _∙_}
 use mathlib.Core.List.{List, [], _∷_, _++_}
-use mathlib.Core.Bool.{Bool, true, false, _&&_, cond}
+use mathlib.Core.Bool.{Bool, cond}
 use mathlib.Core.Option.{Option, some, none}
 use lib.Dec.{ltb, leb, eqb}
-use lib.ListN.{length}
 use borrow.Author.Tests.{lt-ltb, le-ltb, le-leb, lt-leb, eq-eqb, ne-eqb}
 use Rattle.span.specs.Span.{Span, span, Ordered, Upto, Tidy, keep, inserted, removed}
 use Rattle.span.proofs.Tests.{cases}
 use Rattle.rust_algorithm.specs.Btree.{and-then, if-let, filtered, filtered-by, reversed, taken, next}
 use Rattle.rust_algorithm.specs.Btree.{up-to, between, starting, starting-by, deleted, entered}
 use Rattle.rust_algorithm.specs.Map.{ranges-overlap, ranges-touch, State, state, last-candidate, cut-out, adjust, candidate, remove-candidate}
-use Rattle.rust_algorithm.specs.InclusiveMap.{final, closed, Steps, inclusive-ranges-overlap, inclusive-ranges-touch, left-back, right-back}
+use Rattle.rust_algorithm.specs.InclusiveMap.{Steps, inclusive-ranges-overlap, inclusive-ranges-touch, left-back, right-back}
 use Rattle.rust_algorithm.specs.InclusiveMap.{inclusive-cut-out, inclusive-adjust, inclusive-candidate, inclusive-insert-loop, inclusive-finish}
 use Rattle.rust_algorithm.specs.InclusiveMap.{inclusive-insert-body, inclusive-insert}
 use Rattle.rust_algorithm.specs.InclusiveMap.{inclusive-remove-candidate, inclusive-remove-loop, inclusive-remove-body, inclusive-remove}
 use Rattle.rust_algorithm.proofs.Entries.{Below, below-more, between-skip, between-none, between-here, cut-clear}
-use Rattle.rust_algorithm.proofs.Candidate.{Parted, part}
+use Rattle.rust_algorithm.proofs.Candidate.{part}
 use Rattle.rust_algorithm.proofs.InsertLoop.{Loop, Prepared, below-ahead, adjust-same, adjust-over, body, prepare}
 use Rattle.rust_algorithm.proofs.RemoveLoop.{Clearing, Prepared as Cleared, below-ends, body as cleared, prepare as begin}
 use Rattle.rust_algorithm.proofs.Insert.{and-no}

@@ -2,20 +2,20 @@
 use Prim.Native.Nat.{ℕ, zero, suc, _-_, _≤_, _<_}
 use native.Mathlib.Omega.{arith}
 use native.Mathlib.Decide.{decLt}
-use mathlib.Core.Path.{_≡_, refl, ap, sym, _∙_}
+use mathlib.Core.Path.{_≡_, refl, ap, _∙_}
 use mathlib.Core.List.{List, [], _∷_}
-use mathlib.Core.Bool.{Bool, true, false, _&&_, cond}
+use mathlib.Core.Bool.{Bool, true, false, cond}
 use mathlib.Core.Option.{Option, some, none}
 use lib.Dec.{ltb, leb}
 use lib.ListN.{length}
 use borrow.Author.Tests.{lt-ltb, le-ltb, le-leb, lt-leb}
-use Rattle.span.specs.Span.{Span, span, inside, at, Ordered, Upto, keep}
+use Rattle.span.specs.Span.{Span, span, Ordered, Upto, keep}
 use Rattle.span.specs.Operations.{gaps}
 use Rattle.span.proofs.Tests.{lt-cases}
 use Rattle.span.proofs.Holding.{ordered-from}
-use Rattle.rust_algorithm.specs.Btree.{and-then, if-let, filtered, reversed, taken, up-to}
+use Rattle.rust_algorithm.specs.Btree.{filtered}
 use Rattle.rust_algorithm.specs.Map.{ending-past, GapStep, gap-step, given-first}
-use Rattle.rust_algorithm.specs.InclusiveMap.{final, closed, Steps, ending-from}
+use Rattle.rust_algorithm.specs.InclusiveMap.{Steps, ending-from}
 use Rattle.rust_algorithm.specs.InclusiveMap.{inclusive-tail-gap, inclusive-next-gap, inclusive-collect-gaps, inclusive-gaps}
 use Rattle.rust_algorithm.proofs.Gaps.{free, free-is, free-empty, ordered-past, past-past}
 use Rattle.rust_algorithm.proofs.InclusiveEdits.{Sound, sound, filtered-same, leb-ltb}

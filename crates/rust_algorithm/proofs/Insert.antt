@@ -1,18 +1,17 @@
 -- rangemap's insert is `inserted`.
 use Prim.Native.Nat.{ℕ, zero, suc, _≤_, _<_, min, max}
 use native.Mathlib.Omega.{arith}
-use mathlib.Core.Path.{_≡_, refl, ap, sym, subst, _∙_}
-use mathlib.Core.List.{List, [], _∷_, _++_}
-use mathlib.Core.Bool.{Bool, true, false, _&&_, cond}
+use mathlib.Core.Path.{_≡_, refl, subst}
+use mathlib.Core.List.{List, _∷_, _++_}
+use mathlib.Core.Bool.{Bool, true, false, _&&_}
 use mathlib.Core.Option.{Option, some, none}
-use lib.Dec.{ltb, leb, eqb}
-use lib.ListN.{length}
+use lib.Dec.{eqb}
 use borrow.Author.Tests.{lt-ltb, le-ltb, eq-eqb, ne-eqb}
-use Rattle.span.specs.Span.{Span, span, Ordered, Upto, Tidy, keep, inserted}
+use Rattle.span.specs.Span.{Span, span, Ordered, Tidy, keep, inserted}
 use Rattle.rust_algorithm.specs.Btree.{and-then, if-let, entered}
 use Rattle.rust_algorithm.specs.Map.{State, state, adjust, candidate, insert-loop, finish, insert-body, map-insert}
 use Rattle.rust_algorithm.proofs.Entries.{Below, below-more, query-skip, query-none, query-here, cut-clear}
-use Rattle.rust_algorithm.proofs.Candidate.{Parted, part}
+use Rattle.rust_algorithm.proofs.Candidate.{part}
 use Rattle.rust_algorithm.proofs.Held.{limit}
 use Rattle.rust_algorithm.proofs.InsertLoop.{Loop, Prepared, below-ahead, adjust-same, adjust-over, body, prepare}
 

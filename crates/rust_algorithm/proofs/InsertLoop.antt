@@ -4,22 +4,21 @@ use native.Mathlib.Omega.{arith}
 use native.Mathlib.Decide.{decLt, ℕ-discrete}
 use mathlib.Core.Path.{_≡_, refl, ap, sym, subst, _∙_}
 use mathlib.Core.List.{List, [], _∷_, _++_}
-use mathlib.Core.Bool.{Bool, true, false, _&&_, cond}
-use mathlib.Core.Option.{Option, some, none}
-use lib.Dec.{ltb, leb, eqb}
+use mathlib.Core.Bool.{cond}
+use mathlib.Core.Option.{Option, some}
 use lib.ListN.{length}
 use borrow.Author.Tests.{lt-ltb, le-ltb, eq-eqb, ne-eqb}
-use Rattle.span.specs.Span.{Span, span, inside, at, Ordered, Upto, Joins, Apart, Separate, Tidy, Means, keep, inserted}
+use Rattle.span.specs.Span.{Span, span, inside, at, Ordered, Upto, Separate, Tidy, Means, keep, inserted}
 use Rattle.span.proofs.Tests.{lt-cases}
 use Rattle.span.proofs.Holding.{ordered-from, upto-keep}
 use Rattle.span.proofs.Laws.{only, itself, inserted-means}
 use Rattle.span.proofs.Pieces.{Ahead, tidy-left, tidy-right, tidy-ahead, tidy-app, ahead-snoc}
 use Rattle.span.proofs.Local.{EndsBefore}
-use Rattle.rust_algorithm.specs.Btree.{next, if-let, from-to, deleted, entered}
-use Rattle.rust_algorithm.specs.Map.{State, state, ranges-overlap, cut-out, adjust, candidate, insert-loop, finish, insert-body, map-insert}
-use Rattle.rust_algorithm.proofs.Entries.{Below, below-more, below-upto, below-first, length-app, snoc, query-skip, query-none, query-here}
+use Rattle.rust_algorithm.specs.Btree.{if-let, entered}
+use Rattle.rust_algorithm.specs.Map.{State, state, ranges-overlap, cut-out, adjust, candidate}
+use Rattle.rust_algorithm.proofs.Entries.{Below, below-first, length-app, snoc}
 use Rattle.rust_algorithm.proofs.Entries.{deleted-here, entered-here, cut-clear, cut-left}
-use Rattle.rust_algorithm.proofs.Candidate.{Reaches, Parted, part, candidate-none, candidate-first}
+use Rattle.rust_algorithm.proofs.Candidate.{Reaches, candidate-none, candidate-first}
 use Rattle.rust_algorithm.proofs.Held.{upto-right, at-behind, at-laid, at-adopt, at-trim, at-split, at-swap, apart-alike, ahead-alike, ahead-ends}
 use Rattle.rust_algorithm.proofs.Held.{upto-ends}
 

@@ -2,22 +2,21 @@
 use Prim.Native.Nat.{ℕ, zero, suc, _+_, _-_, _≤_, _<_, min, max}
 use native.Mathlib.Omega.{arith}
 use native.Mathlib.Decide.{decLt}
-use mathlib.Core.Path.{_≡_, refl, ap, sym, _∙_}
+use mathlib.Core.Path.{_≡_, refl, _∙_}
 use mathlib.Core.List.{List, [], _∷_, _++_}
-use mathlib.Core.Bool.{Bool, true, false, cond}
 use mathlib.Core.Option.{Option, some, none}
-use lib.Dec.{ltb, leb}
+use lib.Dec.{ltb}
 use lib.ListN.{length}
 use borrow.Author.Tests.{lt-ltb, le-ltb, le-leb, lt-leb}
-use Rattle.span.specs.Span.{Span, span, keep}
+use Rattle.span.specs.Span.{Span, keep}
 use Rattle.span.specs.Operations.{common}
 use Rattle.span.proofs.Walks.{Spaced, meet, common-left, common-right, common-none, common-no}
-use Rattle.rust_algorithm.specs.Btree.{and-then, if-let}
+use Rattle.rust_algorithm.specs.Btree.{if-let}
 use Rattle.rust_algorithm.specs.Map.{given-first}
-use Rattle.rust_algorithm.specs.InclusiveMap.{final, closed}
-use Rattle.rust_algorithm.specs.Operations.{range-intersect, inclusive-intersect, PairStep, pair-step}
+use Rattle.rust_algorithm.specs.InclusiveMap.{final}
+use Rattle.rust_algorithm.specs.Operations.{range-intersect, inclusive-intersect, pair-step}
 use Rattle.rust_algorithm.specs.Operations.{intersection-next, collect-intersection, set-intersection, inclusive-set-intersection}
-use Rattle.rust_algorithm.proofs.InclusiveEdits.{leb-ltb, ltb-same}
+use Rattle.rust_algorithm.proofs.InclusiveEdits.{ltb-same}
 use Rattle.rust_algorithm.proofs.Union.{from-next}
 
 -- INTERSECT: what two ranges have in common, and what that puts in front of a list

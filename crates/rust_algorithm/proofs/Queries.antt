@@ -1,26 +1,25 @@
 -- What rangemap's get_key_value, contains_key, overlapping, overlaps, eq and cmp answer, of both kinds, is what a filter of the entries, `any` and `order` say.
-use Prim.Native.Nat.{ℕ, zero, suc, _-_, _≤_, _<_, Ordering, Ordering·lt, Ordering·eq, Ordering·gt}
+use Prim.Native.Nat.{ℕ, suc, _-_, _≤_, _<_, Ordering, Ordering·lt, Ordering·eq, Ordering·gt}
 use native.Mathlib.Omega.{arith}
 use native.Mathlib.Decide.{decLt, ℕ-discrete}
 use mathlib.Core.Path.{_≡_, refl, ap, sym, fun-ext, _∙_}
 use mathlib.Core.List.{List, [], _∷_, _++_, append-nil}
 use mathlib.Core.Bool.{Bool, true, false, _&&_, _||_, cond}
-use mathlib.Core.Option.{Option, some, none}
+use mathlib.Core.Option.{some, none}
 use lib.Dec.{ltb, leb, eqb}
-use borrow.Author.Tests.{lt-ltb, le-ltb, le-leb, lt-leb, eq-eqb, ne-eqb}
+use borrow.Author.Tests.{lt-ltb, le-ltb, eq-eqb, ne-eqb}
 use Rattle.span.specs.Span.{Span, span, inside, at, Ordered, Upto}
 use Rattle.span.specs.Operations.{overlaps, any, holds, flat, lex, order}
-use Rattle.span.proofs.Tests.{cases, lt-cases, in-yes, in-no}
+use Rattle.span.proofs.Tests.{in-yes, in-no}
 use Rattle.span.proofs.Holding.{ordered-from, ordered-right}
 use Rattle.span.proofs.Local.{EndsBefore}
 use Rattle.outcomes.specs.Outcomes.{isEqual}
 use Rattle.rust_algorithm.specs.Btree.{if-let, is-some, filtered, taken-while, reversed, taken, next, up-to}
 use Rattle.rust_algorithm.specs.Map.{map-get-key-value, map-get, map-contains-key, ending-past, map-overlapping, map-overlapping-back, map-overlaps}
 use Rattle.rust_algorithm.specs.Map.{map-eq, number-cmp, cmp-then, map-cmp}
-use Rattle.rust_algorithm.specs.InclusiveMap.{final, inclusive-range-contains, inclusive-get-key-value, inclusive-get, inclusive-contains-key}
-use Rattle.rust_algorithm.specs.InclusiveMap.{ending-from}
+use Rattle.rust_algorithm.specs.InclusiveMap.{inclusive-range-contains, inclusive-get-key-value, inclusive-get, inclusive-contains-key}
 use Rattle.rust_algorithm.specs.InclusiveMap.{inclusive-overlapping, inclusive-overlapping-back, inclusive-overlaps, inclusive-eq, inclusive-cmp}
-use Rattle.rust_algorithm.proofs.Candidate.{Reaches, Parted, part, ends-filtered, ends-reversed, ends-taken, filtered-app}
+use Rattle.rust_algorithm.proofs.Candidate.{Reaches, part, ends-filtered, ends-reversed, ends-taken, filtered-app}
 use Rattle.rust_algorithm.proofs.Candidate.{reversed-one, up-to-app, up-to-here, up-to-none}
 use Rattle.rust_algorithm.proofs.Gaps.{ordered-past}
 use Rattle.rust_algorithm.proofs.InclusiveEdits.{Sound, sound, sound-near, filtered-same, leb-ltb, ltb-same}

@@ -1,16 +1,15 @@
 -- rangemap's remove is `removed`.
 use Prim.Native.Nat.{ℕ, zero, suc, _≤_, _<_}
 use native.Mathlib.Omega.{arith}
-use mathlib.Core.Path.{_≡_, refl, ap, sym, subst, _∙_}
-use mathlib.Core.List.{List, [], _∷_, _++_}
+use mathlib.Core.Path.{_≡_, subst}
+use mathlib.Core.List.{List, _∷_, _++_}
 use mathlib.Core.Option.{Option, some, none}
-use lib.ListN.{length}
 use borrow.Author.Tests.{lt-ltb, le-ltb}
-use Rattle.span.specs.Span.{Span, span, Ordered, Upto, Tidy, keep, removed}
+use Rattle.span.specs.Span.{Span, span, Ordered, Tidy, keep, removed}
 use Rattle.rust_algorithm.specs.Btree.{if-let}
 use Rattle.rust_algorithm.specs.Map.{cut-out, remove-candidate, remove-loop, remove-body, map-remove}
 use Rattle.rust_algorithm.proofs.Entries.{Below, below-more, between-skip, between-none, between-here, cut-clear}
-use Rattle.rust_algorithm.proofs.Candidate.{Parted, part}
+use Rattle.rust_algorithm.proofs.Candidate.{part}
 use Rattle.rust_algorithm.proofs.Held.{limit}
 use Rattle.rust_algorithm.proofs.RemoveLoop.{Clearing, Prepared, below-ends, body, prepare}
 

@@ -1,21 +1,21 @@
 -- What is common to the removes of both kinds: the loop, from what a round of it does, and what comes before it.
-use Prim.Native.Nat.{ℕ, zero, suc, _≤_, _<_, min, max}
+use Prim.Native.Nat.{ℕ, zero, suc, _≤_, _<_}
 use native.Mathlib.Omega.{arith}
 use native.Mathlib.Decide.{decLt}
-use mathlib.Core.Path.{_≡_, refl, ap, sym, subst, _∙_}
+use mathlib.Core.Path.{_≡_, refl, ap, sym, _∙_}
 use mathlib.Core.List.{List, [], _∷_, _++_, append-nil}
 use mathlib.Core.Bool.{cond}
 use mathlib.Core.Option.{Option, some, none}
 use lib.ListN.{length}
 use Rattle.span.specs.Span.{Span, span, inside, at, Ordered, Upto, Separate, Tidy, Means, keep, removed}
 use Rattle.span.proofs.Tests.{below, among, beyond, place, in-yes, in-no, in-same, lt-cases}
-use Rattle.span.proofs.Holding.{at-out, at-app, at-keep, at-below, at-upto, or-none, ordered-from, upto-keep}
+use Rattle.span.proofs.Holding.{at-app, at-keep, at-below, at-upto, or-none, ordered-from, upto-keep}
 use Rattle.span.proofs.Laws.{only, itself, removed-means}
 use Rattle.span.proofs.Pieces.{tidy-left, tidy-right, tidy-ahead, tidy-app}
 use Rattle.span.proofs.Local.{EndsBefore}
 use Rattle.rust_algorithm.specs.Btree.{if-let}
 use Rattle.rust_algorithm.specs.Map.{cut-out, remove-candidate}
-use Rattle.rust_algorithm.proofs.Entries.{Below, below-more, below-upto, below-first, length-app, snoc, cut-clear, cut-left}
+use Rattle.rust_algorithm.proofs.Entries.{Below, below-more, below-upto, below-first, length-app, cut-clear, cut-left}
 use Rattle.rust_algorithm.proofs.Candidate.{Reaches, ends-snoc, remove-none, remove-first}
 use Rattle.rust_algorithm.proofs.Held.{at-behind, at-head, upto-right, apart-alike, ahead-alike, ahead-ends}
 

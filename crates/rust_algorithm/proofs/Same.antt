@@ -1,15 +1,13 @@
 -- What the theorems of one kind come to: the Rust's functions are those of the theory of spans, on lists that end by a limit. Both kinds have it.
-use Prim.Native.Nat.{ℕ, suc, _-_, _^_, _≤_, _<_, min, max, Ordering}
+use Prim.Native.Nat.{ℕ, suc, _-_, _^_, _≤_, _<_, min, max}
 use native.Mathlib.Omega.{arith}
 use native.Mathlib.Decide.{decLt}
 use mathlib.Core.Path.{_≡_, refl, ap, _∙_}
-use mathlib.Core.Bool.{Bool, true, false, _&&_}
 use mathlib.Core.List.{List, [], _∷_}
 use mathlib.Core.Option.{Option, some, none}
-use lib.Dec.{ltb, leb}
 use lib.IntN.{ℤ}
 use borrow.Author.Tests.{lt-ltb, le-ltb, le-leb, lt-leb}
-use Rattle.span.specs.Span.{Span, span, inside, Ordered, Upto, Tidy, Edit, given, history, Real}
+use Rattle.span.specs.Span.{Span, span, inside, Upto, Tidy, Edit, given, history, Real}
 use Rattle.span.specs.Operations.{over, common, united, overlaps, any, holds, gaps, order}
 use Rattle.span.proofs.Walks.{Spaced}
 use Rattle.key.specs.Rank.{keys}

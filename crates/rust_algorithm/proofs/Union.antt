@@ -4,21 +4,17 @@ use native.Mathlib.Omega.{arith}
 use native.Mathlib.Decide.{decLt}
 use mathlib.Core.Path.{_≡_, refl, ap, sym, _∙_}
 use mathlib.Core.List.{List, [], _∷_}
-use mathlib.Core.Bool.{Bool, true, false, _&&_, cond}
 use mathlib.Core.Option.{Option, some, none}
-use lib.Dec.{ltb, leb}
 use lib.ListN.{length}
-use borrow.Author.Tests.{lt-ltb, le-ltb, le-leb}
-use Rattle.span.specs.Span.{Span, span, inside, Ordered}
+use borrow.Author.Tests.{lt-ltb, le-ltb}
+use Rattle.span.specs.Span.{Span, inside, Ordered}
 use Rattle.span.specs.Operations.{Plain, merged, absorb, united}
 use Rattle.span.proofs.Tests.{in-yes, in-no}
 use Rattle.span.proofs.Holding.{ordered-from}
 use Rattle.span.proofs.Union.{ordered-united, plain-united}
 use Rattle.span.proofs.Walks.{Spaced, spaced-from, spaced-ordered, spaced-plain, united-left, united-right, united-from, absorb-apart, absorb-both}
-use Rattle.rust_algorithm.specs.Btree.{and-then, if-let}
-use Rattle.rust_algorithm.specs.Map.{given-first}
-use Rattle.rust_algorithm.specs.InclusiveMap.{final, closed, inclusive-range-contains}
-use Rattle.rust_algorithm.specs.Operations.{range-merge, inclusive-merge, PairStep, pair-step, after-next, join}
+use Rattle.rust_algorithm.specs.InclusiveMap.{inclusive-range-contains}
+use Rattle.rust_algorithm.specs.Operations.{range-merge, inclusive-merge, pair-step, join}
 use Rattle.rust_algorithm.specs.Operations.{union-loop, union-next, collect-union, set-union, inclusive-set-union}
 use Rattle.rust_algorithm.proofs.InclusiveEdits.{leb-ltb, ltb-same}
 

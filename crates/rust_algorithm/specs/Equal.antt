@@ -1,15 +1,14 @@
 -- EQUAL TO THE RUST on every input not refused: the statement, for a kind and the Rust's functions of that kind. `proofs/Equal` has that both kinds meet it.
-use Prim.Native.Nat.{ℕ, _<_, _≤_}
+use Prim.Native.Nat.{ℕ, _<_}
 use mathlib.Core.Path.{_≡_}
 use mathlib.Core.Bool.{false}
 use mathlib.Core.List.{List, [], _∷_, map}
-use mathlib.Core.Option.{Option, some, none}
+use mathlib.Core.Option.{Option, some}
 use lib.ListN.{length, take, drop}
 use lib.IntN.{ℤ}
 use mir.Syntax.{w64}
 use mir.Val.{SFits}
 use Rattle.span.specs.Span.{Span}
-use Rattle.span.specs.Operations.{puts}
 use Rattle.key.specs.Rank.{rank}
 use Rattle.key.specs.Range.{Kind, rangeOf}
 use Rattle.relations.specs.Relations as relations
@@ -42,6 +41,18 @@ pub record Writes (kind : Kind) (given : Option (List Span)) (starts ends : List
   pub list : List Span
   pub gave : given ≡ some list
   pub same : w ≡ writing kind list starts ends
+
+-- the edits of a set: what they give is the value 0, or none
+abbrev pub OfSet : List Change → Type 0
+OfSet [] = Unit {0}
+OfSet (c ∷ cs) = ((v : ℕ) → c .new ≡ some v → v ≡ 0) × OfSet cs
+
+-- an entry of a bulk insert as an edit, and the edits of as many entries as it says that it applied
+abbrev pub single : Entry → Change
+single x = record { start = x .start; end = x .end; new = some (x .value) }
+
+abbrev pub applied : Kind → Stored → List Entry → List Change
+applied kind m es = map single (take (inserts kind m 0 es .told .applied) es)
 
 module _ (kind : Kind) (rust : Functions) where
   -- MODULE 1: two ranges that are not empty or reversed, and intersect of any two, are related as the Rust says
@@ -88,13 +99,6 @@ module _ (kind : Kind) (rust : Functions) where
     pub intersection : (starts ends : List ℤ)
         → Writes kind (rust .intersection (ranges kind a) (ranges kind b)) starts ends (intersecting kind a b starts ends)
 
-  -- a bulk insert applies as many entries as it says, and leaves what extend leaves after those
-  abbrev pub single : Entry → Change
-  single x = record { start = x .start; end = x .end; new = some (x .value) }
-
-  abbrev pub applied : Stored → List Entry → List Change
-  applied m es = map single (take (inserts kind m 0 es .told .applied) es)
-
   pub record EqualToTheRust : Type 0 where
     -- EVERY TWO RANGES
     pub relations : (s e s′ e′ : ℤ) → SameRelations s e s′ e′
@@ -102,10 +106,12 @@ module _ (kind : Kind) (rust : Functions) where
     pub edits : (m : Stored) (cs : List Change) → Lent kind m → run kind m cs ≡ rustRun kind rust m cs
     -- EVERY HISTORY of edits of which none is refused
     pub histories : (cs : List Change) → run kind (cleared kind) cs .answer ≡ 0 → SameHistory cs
+    -- of a set too: edits that give 0 or none leave a set, so that each function of a set answers as the map's does
+    pub set-histories : (cs : List Change) → OfSet cs → run kind (cleared kind) cs .answer ≡ 0 → SoundSet kind (run kind (cleared kind) cs .left)
     -- EVERY QUESTION
     pub questions : (m : Stored) → Lent kind m → SameAnswers m
     pub order : (a b : Stored) → Lent kind a → Lent kind b → SameOrder a b
     pub sets : (a b : Stored) → SoundSet kind a → SoundSet kind b → Lent kind a → Lent kind b → SameOfSets a b
-    -- BULK INSERT is extend
+    -- BULK INSERT applies as many entries as it says, and leaves what extend leaves after those
     pub extend : (m : Stored) (es : List Entry) → Lent kind m
-        → rust .history (changes kind (applied m es)) (ranges kind m) ≡ some (ranges kind (inserts kind m 0 es .left))
+        → rust .history (changes kind (applied kind m es)) (ranges kind m) ≡ some (ranges kind (inserts kind m 0 es .left))

@@ -34,15 +34,15 @@ module _ (add-one sub-one : ℕ → Option ℕ) where
   unfoldable pub inclusive-ranges-touch : ℕ → ℕ → ℕ → ℕ → Option Bool
   inclusive-ranges-touch a b c d = and-then (cond (ltb (min b d) (max a c)) (add-one (min b d)) (some (min b d))) (λ extended. some (leb (max a c) extended))
 
-  -- 489-497 and 524-532: add back what of the stored range x lies left of s
+  -- 489-498 and 526-534: add back what of the stored range x lies left of s
   unfoldable pub left-back : Span → ℕ → List Span → Option (List Span)
   left-back x s m = cond (ltb (x .lo) s) (and-then (sub-one s) (λ e. some (entered (closed (x .lo) e (x .label)) m))) (some m)
 
-  -- 499-507 and 534-542: add back what of it lies right of e
+  -- 499-508 and 535-543: add back what of it lies right of e
   unfoldable pub right-back : Span → ℕ → List Span → Option (List Span)
   right-back x e m = cond (ltb e (final x)) (and-then (add-one e) (λ s. some (entered (closed s (final x) (x .label)) m))) (some m)
 
-  -- 488-507, and 524-543: delete the stored range x, and add back what of it lies left of s..=e, and what lies right of it
+  -- 488-508, and 524-543: delete the stored range x, and add back what of it lies left of s..=e, and what lies right of it
   unfoldable pub inclusive-cut-out : Span → ℕ → ℕ → List Span → Option (List Span)
   inclusive-cut-out x s e m = and-then (left-back x s (deleted (x .lo) m)) (right-back x e)
 
@@ -85,7 +85,7 @@ module _ (add-one sub-one : ℕ → Option ℕ) where
       (and-then (inclusive-candidate lo last m) (λ c. and-then (if-let c (λ x. inclusive-adjust x v given) (some given)) (inclusive-insert-body v)))
       none
 
-  -- 407-422: the last that starts by lo, if it overlaps lo..=last
+  -- 407-421: the last that starts by lo, if it overlaps lo..=last
   unfoldable pub inclusive-remove-candidate : ℕ → ℕ → List Span → Option Span
   inclusive-remove-candidate lo last m = next (filtered (λ x. inclusive-ranges-overlap (x .lo) (final x) lo last) (taken 1 (reversed (up-to lo m))))
 
@@ -187,7 +187,7 @@ module _ (add-one sub-one : ℕ → Option ℕ) where
   unfoldable pub inclusive-gaps : ℕ → ℕ → List Span → Option (List Span)
   inclusive-gaps lo last m = let over = ending-from lo m in inclusive-collect-gaps (suc (suc (length over))) last false lo over
 
--- 72-74: eq, of what iter gives (126-130 and 629-632), range and value
+-- 72-74: eq, of what iter gives (126-130 and 629-631), range and value
 unfoldable pub inclusive-eq : List Span → List Span → Bool
 inclusive-eq [] [] = true
 inclusive-eq [] (y ∷ ys) = false

@@ -27,7 +27,7 @@ pub record State : Type 0 where
 abbrev pub state : List Span → ℕ → ℕ → State
 state m s e = record { btm = m; start = s; end = e }
 
--- 464-483, and 498-513: delete the stored range x, and add back what of it lies left of s..e, and what lies right of it
+-- 464-482, and 498-513: delete the stored range x, and add back what of it lies left of s..e, and what lies right of it
 unfoldable pub cut-out : Span → ℕ → ℕ → List Span → List Span
 cut-out x s e m =
     let gone = deleted (x .lo) m in
@@ -71,7 +71,7 @@ map-insert lo hi v m =
     let given = state m lo hi in
     cond (ltb lo hi) (insert-body v (if-let (candidate lo hi m) (λ x. adjust x v given) given)) none
 
--- 388-399: the last that starts by lo, if it overlaps lo..hi
+-- 388-402: the last that starts by lo, if it overlaps lo..hi
 unfoldable pub remove-candidate : ℕ → ℕ → List Span → Option Span
 remove-candidate lo hi m = next (filtered (λ x. ranges-overlap (x .lo) (x .hi) lo hi) (taken 1 (reversed (up-to lo m))))
 
@@ -98,7 +98,7 @@ unfoldable pub map-history : List Edit → List Span → Option (List Span)
 map-history [] m = some m
 map-history (e ∷ es) m = and-then (map-edit (e .lo) (e .hi) (e .new) m) (map-history es)
 
--- 163-177: get_key_value, the last that starts by the key, if it contains the key (Range::contains is `inside`)
+-- 163-176: get_key_value, the last that starts by the key, if it contains the key (Range::contains is `inside`)
 unfoldable pub map-get-key-value : ℕ → List Span → Option Span
 map-get-key-value k m = next (filtered (λ x. inside (x .lo) (x .hi) k) (taken 1 (reversed (up-to k m))))
 

@@ -52,18 +52,18 @@ after-next [] = []
 after-next (x ∷ xs) = xs
 
 module _ (merge : Span → Span → Option Span) where
-  -- 164-172: join, with the next range of a list, if there is one
+  -- 162-170: join, with the next range of a list, if there is one
   abbrev pub join : Span → List Span → Option Span
   join r [] = none
   join r (x ∷ xs) = merge r x
 
-  -- 174-179: keep merging ranges as long as we can, for n rounds at most
+  -- 172-177: keep merging ranges as long as we can, for n rounds at most
   unfoldable pub union-loop : ℕ → Span → List Span → List Span → Option PairStep
   union-loop zero r a b = none
   union-loop (suc n) r a b = if-let (join r a) (λ s. union-loop n s (after-next a) b)
       (if-let (join r b) (λ s. union-loop n s a (after-next b)) (some (pair-step (some r) a b)))
 
-  -- 142-181: Union::next
+  -- 142-180: Union::next
   unfoldable pub union-next : List Span → List Span → Option PairStep
   union-next [] [] = some (pair-step none [] [])
   union-next (x ∷ xs) [] = union-loop (suc (length xs)) x xs []
@@ -77,7 +77,7 @@ module _ (merge : Span → Span → Option Span) where
   collect-union zero a b = none
   collect-union (suc n) a b = and-then (union-next a b) (λ s. given-first (s .range) (collect-union n (s .left) (s .right)))
 
--- 225-244: Intersection::next, for n rounds at most; end-of is what order_end compares
+-- 225-245: Intersection::next, for n rounds at most; end-of is what order_end compares
 module _ (end-of : Span → ℕ) (intersect : Span → Span → Option Span) where
   unfoldable pub intersection-next : ℕ → List Span → List Span → Option PairStep
   intersection-next zero a b = none
@@ -108,14 +108,14 @@ set-intersection a b = collect-intersection (λ x. x .hi) range-intersect (suc (
 unfoldable pub inclusive-set-intersection : List Span → List Span → Option (List Span)
 inclusive-set-intersection a b = collect-intersection final inclusive-intersect (suc (length a + length b)) a b
 
--- set.rs, 425-431, 417-423 and 266-287: a | b and a & b collect their ranges into a new set, one insert for each
+-- set.rs, 425-431, 417-423 and 266-286: a | b and a & b collect their ranges into a new set, one insert for each
 unfoldable pub set-or : List Span → List Span → Option (List Span)
 set-or a b = and-then (set-union a b) (λ xs. map-history (puts xs) [])
 
 unfoldable pub set-and : List Span → List Span → Option (List Span)
 set-and a b = and-then (set-intersection a b) (λ xs. map-history (puts xs) [])
 
--- inclusive_set.rs, 484-490, 476-482 and 292-313: the same of inclusive sets
+-- inclusive_set.rs, 484-490, 476-482 and 292-312: the same of inclusive sets
 module _ (add-one sub-one : ℕ → Option ℕ) where
   unfoldable pub inclusive-set-or : List Span → List Span → Option (List Span)
   inclusive-set-or a b = and-then (inclusive-set-union a b) (λ xs. inclusive-history add-one sub-one (puts xs) [])
