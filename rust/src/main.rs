@@ -11,6 +11,7 @@ mod report;
 mod report_days;
 mod sets;
 mod shown;
+mod transcription;
 
 use report::Report;
 use std::process::ExitCode;
@@ -64,6 +65,7 @@ fn replay(module: &str) -> bool {
         "maps" => print!("{}", maps::replay()),
         "set" => print!("{}", sets::replay()),
         "query" => print!("{}", query::replay()),
+        "transcription" => print!("{}", transcription::replay()),
         _ => {
             eprintln!("there is no replay of {module}");
             return false;

@@ -1,0 +1,167 @@
+-- THE DIFFERENCES, line by line as in docs/DIFFERENCES.md: the ledger refuses, and the transcribed Rust answers or panics. First what holds of every input,
+-- of both kinds; then the smallest inputs that the paper names, by computation. (That of an exhausted RangeInclusive cannot be written here.)
+use Prim.Native.Nat.{ℕ, suc, _≤_, _<_, min, max}
+use native.Mathlib.Omega.{arith}
+use native.Mathlib.Decide.{decLt}
+use mathlib.Core.Path.{_≡_, refl, ap, sym, _∙_}
+use mathlib.Core.Bool.{Bool, true, false, cond}
+use mathlib.Core.List.{List, [], _∷_, map}
+use mathlib.Core.Option.{Option, some, none}
+use lib.Dec.{ltb}
+use lib.ListN.{length}
+use lib.IntN.{ℤ}
+use mir.Syntax.{w64}
+use mir.Val.{ofZ}
+use borrow.Author.Tests.{lt-ltb, le-ltb, le-leb, lt-leb, eq-eqb, ne-eqb}
+use Rattle.span.specs.Span.{Span, span, inside, given}
+use Rattle.span.specs.Operations.{overlaps, any}
+use Rattle.span.proofs.Tests.{in-no}
+use Rattle.key.specs.Rank.{rank, keys}
+use Rattle.key.specs.Range.{Kind}
+use Rattle.key.proofs.Laws.{rank-below}
+use Rattle.relations.specs.Relations as relations
+use Rattle.relations.specs.declared.Relation.the-variants.{Empty}
+use Rattle.outcomes.specs.Stored.{places, Stored, ranges, storing, wellFormed}
+use Rattle.outcomes.specs.Outcomes.{Edited, leaving, editing, edited, met, meeting, metPart, overlapping, uncovered, gapsIn}
+use Rattle.outcomes.specs.Outcomes.{Entry, inserts, changes}
+use Rattle.outcomes.specs.Sets.{notWritten}
+use Rattle.outcomes.specs.declared.Asked.the-variants as Asked
+use Rattle.outcomes.specs.declared.Part.the-variants as Part
+use Rattle.rust_algorithm.specs.Btree.{filtered}
+use Rattle.rust_algorithm.specs.Map.{ranges-overlap}
+use Rattle.rust_algorithm.specs.Answers.{Functions, editedBy}
+use Rattle.rust_algorithm.specs.Equal.{Lent, single}
+use Rattle.rust_algorithm.proofs.Same.{Kept, Transcribed}
+use Rattle.rust_algorithm.proofs.Equal.{kept, well, ends-by, edit-equal, edited-is, left}
+
+-- OF EVERY INPUT
+-- contains and overlaps of ranges: where one is empty or reversed, the Rust says no
+pub contains-says-no : (lo hi k : ℕ) → hi ≤ lo → inside lo hi k ≡ false
+contains-says-no lo hi k h = in-no lo hi k (omega arith)
+
+pub overlaps-says-no : (a b c d : ℕ) → b ≤ a → ranges-overlap a b c d ≡ false
+unfolding ranges-overlap
+overlaps-says-no a b c d h = le-ltb (max a c) (min b d) (omega arith)
+
+-- an empty or reversed range
+module _ (kind : Kind) (s e : ℤ) (empty : kind .past e ≤ rank s) where
+  -- the ledger refuses
+  pub contains-refused : (k : ℤ) → relations.containing kind s e k ≡ Empty
+  unfolding relations.containing
+  contains-refused k = rw (le-leb (kind .past e) (rank s) empty)
+
+  pub overlaps-refused : (s′ e′ : ℤ) → relations.overlapping kind s e s′ e′ ≡ Empty
+  unfolding relations.overlapping
+  overlaps-refused s′ e′ = rw (le-leb (kind .past e) (rank s) empty)
+
+  pub touches-refused : (s′ e′ : ℤ) → relations.touching kind s e s′ e′ ≡ Empty
+  unfolding relations.touching
+  touches-refused s′ e′ = rw (le-leb (kind .past e) (rank s) empty)
+
+  module _ (rust : Functions) (transcribed : Transcribed kind rust) (m : Stored) (l : Lent kind m) where
+    is-well : wellFormed kind places m ≡ true
+    is-well = well kind rust transcribed m l
+
+    is-kept : Kept keys (ranges kind m)
+    is-kept = kept kind rust transcribed m is-well
+
+    -- overlapping and overlaps of a map: the Rust gives the ranges with start < the query's end and end > its start, whether it is empty or not
+    pub overlaps-answers : (meeting kind m s e ≡ Asked.Refused 1) × (rust .overlaps (rank s) (kind .past e) (ranges kind m)
+        ≡ any (overlaps (span (rank s) (kind .past e) 0)) (ranges kind m))
+    unfolding meeting met
+    overlaps-answers = (
+      rw (
+        is-well,
+        le-leb (kind .past e) (rank s) empty,
+      ),
+      transcribed .same .overlaps-same (rank s) (kind .past e) (ranges kind m) (transcribed .ends-from e) is-kept,
+    )
+
+    pub overlapping-answers : (overlapping kind m s e ≡ Part.Refused 1) × (rust .overlapping (rank s) (kind .past e) (ranges kind m)
+        ≡ filtered (overlaps (span (rank s) (kind .past e) 0)) (ranges kind m))
+    unfolding overlapping metPart
+    overlapping-answers = (
+      rw (
+        is-well,
+        le-leb (kind .past e) (rank s) empty,
+      ),
+      transcribed .same .overlapping-same (rank s) (kind .past e) (ranges kind m) (transcribed .ends-from e) is-kept,
+    )
+
+    -- gaps: the Rust gives no gap
+    pub gaps-answers : (starts ends : List ℤ) → (gapsIn kind m s e starts ends ≡ notWritten 1 starts ends)
+        × (rust .gaps (rank s) (kind .past e) (ranges kind m) ≡ some [])
+    unfolding gapsIn uncovered
+    gaps-answers starts ends = (
+      rw (is-well, le-leb (kind .past e) (rank s) empty),
+      transcribed .same .gaps-none (rank s) (kind .past e) (ranges kind m) (transcribed .ends-from e) empty (rank-below (ofZ w64 s)) is-kept,
+    )
+
+    -- insert and remove: the Rust panics
+    pub edit-panics : (new : Option ℕ) → (edited kind m s e new ≡ leaving 1 m) × (rust .edit (rank s) (kind .past e) new (ranges kind m) ≡ none)
+    unfolding edited editing
+    edit-panics new = (
+      rw (
+        is-well,
+        le-leb (kind .past e) (rank s) empty,
+      ),
+      transcribed .same .edit-panics (rank s) (kind .past e) new (ranges kind m) (transcribed .ends-from e) empty,
+    )
+
+-- no empty range, but no room
+module _ (kind : Kind) (rust : Functions) (transcribed : Transcribed kind rust) (m : Stored) (l : Lent kind m) where
+  -- one range more than there are places: the Rust has no limit
+  pub no-limit : (s e : ℤ) (new : Option ℕ) → rank s < kind .past e → places < length (given (rank s) (kind .past e) new (ranges kind m))
+      → (edited kind m s e new ≡ leaving 2 m) × (rust .edit (rank s) (kind .past e) new (ranges kind m) ≡ some
+      (given (rank s) (kind .past e) new (ranges kind m)))
+  unfolding edited editing
+  no-limit s e new h f =
+      let w = well kind rust transcribed m l in
+      let xs = given (rank s) (kind .past e) new (ranges kind m) in (
+        rw (w, lt-leb (kind .past e) (rank s) h, lt-ltb places (length xs) f),
+        transcribed .same .edit-same (rank s) (kind .past e) new (ranges kind m) h (ends-by kind rust transcribed e)
+            (kept kind rust transcribed m w),
+      )
+
+-- BULK INSERT with a bad entry: where the ledger answers 1, extend panics
+module _ (kind : Kind) (rust : Functions) (transcribed : Transcribed kind rust) where
+  -- an edit that answers 1 is one where the Rust panics
+  panicked : (m : Stored) (z : Option (List Span)) → editedBy kind m z .answer ≡ 1 → z ≡ none
+  panicked m none e = refl
+  panicked m (some xs) e = absurd (go (ltb places (length xs)) e)
+    where
+      go : (t : Bool) → cond t (leaving 2 m) (leaving 0 (storing kind places xs)) .answer ≡ 1 → ⊥
+      go true e = omega arith
+      go false e = omega arith
+
+  pub extend-panics : (m : Stored) (n : ℕ) (es : List Entry) → Lent kind m → inserts kind m n es .told .answer ≡ 1
+      → rust .history (changes kind (map single es)) (ranges kind m) ≡ none
+  unfolding inserts changes
+  extend-panics m n [] l e = absurd (omega arith)
+  extend-panics m n (x ∷ xs) l e =
+      let w = well kind rust transcribed m l in
+      let one = editing kind places m (x .start) (x .end) (some (x .value)) in
+      let call = rust .edit (rank (x .start)) (kind .past (x .end)) (some (x .value)) (ranges kind m) in
+      let is : editedBy kind m call ≡ one
+      = sym (edit-equal kind rust transcribed m (x .start) (x .end) (some (x .value)) w) ∙ edited-well w in
+      transcribed .same .history-first _ (changes kind (map single xs)) (ranges kind m) ∙ (elim (decLt 0 (one .answer)) [
+        | yes p ↦
+            let told : one .answer ≡ 1 = rw (ne-eqb (one .answer) 0 (omega arith)) at e in
+            let none-left : call ≡ none = panicked m call (ap (λ (o : Edited). o .answer) is ∙ told) in
+            rw none-left
+        | no p ↦
+            let z : one .answer ≡ 0 = omega arith in
+            let f = left kind rust transcribed m (x .start) (x .end) (some (x .value)) w (rw (edited-well w) z) in
+            let k = kept kind rust transcribed m w in
+            let by = ends-by kind rust transcribed (x .end) in
+            let calls : call ≡ some (given (rank (x .start)) (kind .past (x .end)) (some (x .value)) (ranges kind m))
+            = transcribed .same .edit-same (rank (x .start)) (kind .past (x .end)) (some (x .value)) (ranges kind m) (f .real) by k in
+            let holds = rw (edited-well w) at (f .holds) in
+            let rest : inserts kind (one .left) (suc n) xs .told .answer ≡ 1 = rw (eq-eqb (one .answer) 0 z) at e in
+            let lent : Lent kind (one .left) = rw (edited-well w) at (f .lent) in
+            rw (calls, ← holds) (extend-panics (one .left) (suc n) xs lent rest)
+      ])
+    where
+      edited-well : wellFormed kind places m ≡ true
+          → edited kind m (x .start) (x .end) (some (x .value)) ≡ editing kind places m (x .start) (x .end) (some (x .value))
+      edited-well w = edited-is kind rust transcribed m (x .start) (x .end) (some (x .value)) w

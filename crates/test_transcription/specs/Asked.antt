@@ -1,0 +1,110 @@
+-- Every map over three neighbouring keys, with the values 1 and 2, and every edit and question of it with keys there; every two sets over them.
+-- The answers are told as numbers. `o` is the rank of the first of the keys, so that the same is asked at both ends of i64.
+-- rust/src/transcription.rs asks rangemap the same, and prints the table that the transcription is held to.
+use Prim.Native.Nat.{ℕ, zero, suc, _+_, _-_, _*_, _^_, Ordering, Ordering·lt, Ordering·eq, Ordering·gt}
+use mathlib.Core.Bool.{Bool, cond}
+use mathlib.Core.List.{List, [], _∷_, _++_, map}
+use mathlib.Core.Option.{Option, some, none}
+use Rattle.span.specs.Span.{Span, span, joined}
+use Rattle.rust_algorithm.specs.Answers.{Functions, halfOpenRust, inclusiveRust}
+use Rattle.rust_algorithm.specs.InclusiveMap.{add-one-checked, sub-one-checked}
+
+-- ranges as a number, nine bits for each, with keys counted from o: 1 is no range
+unfoldable pub code : ℕ → List Span → ℕ
+code o [] = 1
+code o (x ∷ xs) = code o xs * 512 + ((x .lo - o) * 64 + (x .hi - o) * 8 + x .label)
+
+-- the same of what may panic: 0 is a panic
+abbrev pub told : ℕ → Option (List Span) → ℕ
+told o none = 0
+told o (some xs) = code o xs
+
+-- the same of one range, if there is one
+abbrev pub one : ℕ → Option Span → ℕ
+one o none = 1
+one o (some x) = code o (x ∷ [])
+
+-- an order as 0, 1 or 2, and as 4 more where the two are equal
+abbrev pub orderCode : Ordering → ℕ
+orderCode Ordering·lt = 0
+orderCode Ordering·eq = 1
+orderCode Ordering·gt = 2
+
+unfoldable pub equalCode : Bool → Ordering → ℕ
+equalCode b o = cond b 4 0 + orderCode o
+
+-- numbers below a base as one number
+unfoldable pub packed : ℕ → List ℕ → ℕ
+packed base [] = 0
+packed base (n ∷ ns) = packed base ns * base + n
+
+-- a question of each two keys of a list; the answers are of at most 28 bits
+unfoldable pub ofPairs : List ℕ → List ℕ → (ℕ → ℕ → ℕ) → List ℕ
+ofPairs [] es f = []
+ofPairs (s ∷ ss) es f = map (f s) es ++ ofPairs ss es f
+
+-- a key with a value, or with none where the value is 0
+unfoldable pub cell : ℕ → ℕ → List Span → List Span
+cell k zero xs = xs
+cell k (suc v) xs = span k (k + 1) (suc v) ∷ xs
+
+-- the map with these values at the three keys
+unfoldable pub state : ℕ → ℕ → ℕ → ℕ → List Span
+state o a b c = joined (cell o a (cell (o + 1) b (cell (o + 2) c [])))
+
+-- all that have these values at the first two keys; all of them
+unfoldable pub ofTwo : ℕ → ℕ → ℕ → List (List Span)
+ofTwo o a b = state o a b 0 ∷ state o a b 1 ∷ state o a b 2 ∷ []
+
+unfoldable pub states : ℕ → List (List Span)
+states o = (ofTwo o 0 0 ++ (ofTwo o 0 1 ++ ofTwo o 0 2)) ++ ((ofTwo o 1 0 ++ (ofTwo o 1 1 ++ ofTwo o 1 2)) ++ (ofTwo o 2 0 ++ (ofTwo o 2 1 ++ ofTwo o 2 2)))
+
+-- the ranges of a set have the label 0
+unfoldable pub plainly : List Span → List Span
+plainly [] = []
+plainly (x ∷ xs) = span (x .lo) (x .hi) 0 ∷ plainly xs
+
+-- all sets over the three keys
+unfoldable pub setsOf : ℕ → ℕ → ℕ → List (List Span)
+setsOf o a b = plainly (state o a b 0) ∷ plainly (state o a b 1) ∷ []
+
+unfoldable pub sets : ℕ → List (List Span)
+sets o = (setsOf o 0 0 ++ setsOf o 0 1) ++ (setsOf o 1 0 ++ setsOf o 1 1)
+
+-- the Rust's functions, the ranks that are asked, and the ranks just past an end
+module _ (rust : Functions) (o : ℕ) (starts ends : List ℕ) where
+  -- of a map: what it holds; remove, insert of 1, insert of 2, overlapping and gaps with each two keys, valid or not; get of each key
+  unfoldable pub row : List Span → List ℕ
+  row m =
+      code o m
+      ∷ packed (2 ^ 28) (ofPairs starts ends (λ s e. told o (rust .edit s e none m)))
+      ∷ packed (2 ^ 28) (ofPairs starts ends (λ s e. told o (rust .edit s e (some 1) m)))
+      ∷ packed (2 ^ 28) (ofPairs starts ends (λ s e. told o (rust .edit s e (some 2) m)))
+      ∷ packed (2 ^ 28) (ofPairs starts ends (λ s e. code o (rust .overlapping s e m)))
+      ∷ packed (2 ^ 28) (ofPairs starts ends (λ s e. told o (rust .gaps s e m)))
+      ∷ packed (2 ^ 28) (map (λ k. one o (rust .get-key-value k m)) starts)
+      ∷ packed 8 (map (λ n. equalCode (rust .eq m n) (rust .cmp m n)) (states o))
+      ∷ []
+
+  unfoldable pub rows : List (List Span) → List ℕ
+  rows [] = []
+  rows (m ∷ ms) = row m ++ rows ms
+
+  -- of two sets: union, intersection, and what the operators for them collect
+  unfoldable pub pair : List Span → List Span → ℕ
+  pair a b = packed (2 ^ 28) (told o (rust .union a b) ∷ told o (rust .intersection a b) ∷ told o (rust .bit-or a b) ∷ told o (rust .bit-and a b) ∷ [])
+
+  unfoldable pub pairs : List (List Span) → List (List Span) → List ℕ
+  pairs [] bs = []
+  pairs (a ∷ rest) bs = map (pair a) bs ++ pairs rest bs
+
+  -- all answers
+  unfoldable pub table : List ℕ
+  table = rows (states o) ++ pairs (sets o) (sets o)
+
+-- a half-open range ends at one of four keys, an inclusive one one past one of three
+unfoldable pub halfOpenTable : ℕ → List ℕ
+halfOpenTable o = let keys : List ℕ = o ∷ (o + 1) ∷ (o + 2) ∷ (o + 3) ∷ [] in table halfOpenRust o keys keys
+
+unfoldable pub inclusiveTable : ℕ → List ℕ
+inclusiveTable o = table (inclusiveRust add-one-checked sub-one-checked) o (o ∷ (o + 1) ∷ (o + 2) ∷ []) ((o + 1) ∷ (o + 2) ∷ (o + 3) ∷ [])
