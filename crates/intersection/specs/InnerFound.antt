@@ -1,8 +1,8 @@
 -- What the walk finds from two places on, in two sets that are lent as columns.
-use Prim.Native.Nat.{ℕ, _+_, min, max}
+use Prim.Native.Nat.{ℕ, _+_, _≤_, min, max}
 use mathlib.Core.Path.{_≡_}
 use mathlib.Core.Bool.{Bool}
-use mathlib.Core.List.{List}
+use mathlib.Core.List.{List, _∷_}
 use lib.Dec.{ltb}
 use lib.ListN.{getD}
 use lib.IntN.{ℤ, pos}
@@ -11,8 +11,12 @@ use Rattle.span.specs.Operations.{common}
 use Rattle.key.specs.Rank.{rank}
 use Rattle.key.specs.Range.{kindOf}
 use Rattle.key.specs.declared.RangeKind.{RangeKind}
-use Rattle.two_sets.specs.InnerKind.{wide}
 use Rattle.range_list.specs.InnerColumns.{rows, rest}
+use Rattle.range_list.specs.InnerLists.{Room}
+use Rattle.two_sets.specs.InnerKind.{wide}
+use Rattle.two_sets.specs.InnerSides.{Side}
+use Rattle.two_sets.specs.InnerLists.{Going}
+use Rattle.two_sets.specs.declared.Reached.{Reached}
 
 -- what the two sets have in common
 abbrev pub shared : RangeKind → List ℤ → List ℤ → ℕ → List ℤ → List ℤ → ℕ → List Span
@@ -25,6 +29,25 @@ sharedFrom kind sa ea na i sb eb nb j = common (rest (kindOf kind) sa ea na i) (
 -- the range that is open
 abbrev pub piece : RangeKind → ℤ → ℤ → Span
 piece kind s e = span (rank s) (wide kind + rank e) 0
+
+-- what is still to be written where the walk is: the open range, and what the sets have in common from there on
+abbrev pub openShared : RangeKind → List ℤ → List ℤ → ℕ → List ℤ → List ℤ → ℕ → Reached → List Span
+openShared kind sa ea na sb eb nb r = piece kind (r .start) (r .end) ∷ sharedFrom kind sa ea na (r .i) sb eb nb (r .j)
+
+-- the walk may go on from where it is: both places are in their sets, and the lent lists have room for what is still to be written
+pub record Ready (kind : RangeKind) (sa ea : List ℤ) (na : ℕ) (sb eb : List ℤ) (nb : ℕ) (r : Reached) (os oe : List ℤ) : Type 0 where
+  pub side-a : Side (kindOf kind) sa ea na
+  pub side-b : Side (kindOf kind) sb eb nb
+  pub in-a : r .i ≤ na
+  pub in-b : r .j ≤ nb
+  pub room : Room (r .at) (openShared kind sa ea na sb eb nb r) os oe
+
+-- it has gone on to another place: what was written on the way, and what is still to be
+pub record Gone (kind : RangeKind) (sa ea : List ℤ) (na : ℕ) (sb eb : List ℤ) (nb : ℕ) (r : Reached) (os oe : List ℤ) (r₁ : Reached) (os₁ oe₁ : List ℤ)
+    : Type 0 where
+  pub in-a : r₁ .i ≤ na
+  pub in-b : r₁ .j ≤ nb
+  pub going : Going (kindOf kind) (r .at) os oe (openShared kind sa ea na sb eb nb r) (r₁ .at) (openShared kind sa ea na sb eb nb r₁) os₁ oe₁
 
 -- the rank of the key at a place of a column
 abbrev pub keyRank : List ℤ → ℕ → ℕ

@@ -1,30 +1,21 @@
-// INTERSECTION of two sets: the common points as maximal ranges, from operations.rs, by one walk over both (crate `intersection::walk`).
-// Nothing is written before it is known that the lent lists are long enough; the ranges are counted for that only where there may be too many.
+// INTERSECTION of two sets: the common points as maximal ranges, from operations.rs, by one walk over both (`intersection::walk`).
+// The ranges are counted or written; the crate `operations` does the one after the other.
 mod walk;
 
 use crate::walk::step;
 use crate::walk::write_from;
 use key::RangeKind;
-use outcomes::Counted;
-use outcomes::NOT_FORMED;
-use outcomes::PLACES;
-use outcomes::TOO_SHORT;
-use range_list::shorter;
-use two_sets::are_sets;
-use two_sets::roomy;
+use two_sets::Reached;
 ghost use mathlib.Core.Path.{_≡_};
-ghost use Prim.Native.Nat.{_≤_};
 ghost use lib.ListN.{length};
-ghost use Rattle.key.specs.InnerDecides.{Decides};
 ghost use Rattle.key.specs.Range.{kindOf};
-ghost use Rattle.outcomes.specs.Stored.{lent, stored};
-ghost use Rattle.outcomes.specs.Sets.{SoundSet, intersected, intersecting};
-ghost use Rattle.range_list.specs.InnerLists.{wrote, Room, Puts};
+ghost use Rattle.range_list.specs.InnerLists.{Room};
 ghost use Rattle.two_sets.specs.InnerSides.{Side};
+ghost use Rattle.two_sets.specs.InnerLists.{Ended};
 ghost use Rattle.intersection.specs.InnerFound.{shared};
 
 // How many ranges the two sets have in common.
-fn counted(
+pub fn counted(
     kind: RangeKind,
     starts_a: &[i64],
     ends_a: &[i64],
@@ -33,8 +24,10 @@ fn counted(
     ends_b: &[i64],
     count_b: usize,
 ) -> usize
-    requires { ⌜ Side (kindOf kind) (now «starts_a») (now «ends_a») «count_a» × Side (kindOf kind) (now «starts_b») (now «ends_b») «count_b» ⌝ }
-    ensures { λ r. ⌜ r ≡ length (shared kind (now («starts_a» .entry)) (now («ends_a» .entry)) «count_a» (now («starts_b» .entry)) (now («ends_b» .entry)) «count_b») ⌝ }
+    requires { ⌜ Side (kindOf kind) (now «starts_a») (now «ends_a») «count_a»
+        × Side (kindOf kind) (now «starts_b») (now «ends_b») «count_b» ⌝ }
+    ensures { λ r. ⌜ r ≡ length (shared kind (now («starts_a» .entry)) (now («ends_a» .entry)) «count_a»
+        (now («starts_b» .entry)) (now («ends_b» .entry)) «count_b») ⌝ }
 {
     let mut n = 0;
     let mut i = 0;
@@ -49,7 +42,7 @@ fn counted(
 }
 
 // Writes what the sets have in common, and answers how many ranges that is. The first is looked for, and then the rest is written.
-fn write(
+pub fn write(
     kind: RangeKind,
     starts_a: &[i64],
     ends_a: &[i64],
@@ -60,11 +53,13 @@ fn write(
     out_starts: &mut [i64],
     out_ends: &mut [i64],
 ) -> usize
-    requires { ⌜ Side (kindOf kind) (now «starts_a») (now «ends_a») «count_a» × Side (kindOf kind) (now «starts_b») (now «ends_b») «count_b»
-        × Room 0 (shared kind (now «starts_a») (now «ends_a») «count_a» (now «starts_b») (now «ends_b») «count_b») (now «out_starts») (now «out_ends») ⌝ }
-    ensures { λ r. ⌜ (r ≡ length (shared kind (now («starts_a» .entry)) (now («ends_a» .entry)) «count_a» (now («starts_b» .entry)) (now («ends_b» .entry)) «count_b»))
-        × Puts (kindOf kind) 0 (shared kind (now («starts_a» .entry)) (now («ends_a» .entry)) «count_a» (now («starts_b» .entry)) (now («ends_b» .entry)) «count_b»)
-        (now («out_starts» .entry)) (now («out_ends» .entry)) (now («out_starts» .exit)) (now («out_ends» .exit)) ⌝ }
+    requires { ⌜ Side (kindOf kind) (now «starts_a») (now «ends_a») «count_a»
+        × Side (kindOf kind) (now «starts_b») (now «ends_b») «count_b»
+        × Room 0 (shared kind (now «starts_a») (now «ends_a») «count_a» (now «starts_b») (now «ends_b») «count_b»)
+        (now «out_starts») (now «out_ends») ⌝ }
+    ensures { λ r. ⌜ Ended (kindOf kind) 0 (shared kind (now («starts_a» .entry)) (now («ends_a» .entry)) «count_a»
+        (now («starts_b» .entry)) (now («ends_b» .entry)) «count_b»)
+        (now («out_starts» .entry)) (now («out_ends» .entry)) r (now («out_starts» .exit)) (now («out_ends» .exit)) ⌝ }
 {
     let mut i = 0;
     let mut j = 0;
@@ -73,134 +68,26 @@ fn write(
         i += s.left as usize;
         j += !s.left as usize;
         if s.found {
+            let first = Reached {
+                at: 0,
+                i,
+                j,
+                start: s.start,
+                end: s.end,
+            };
             return write_from(
                 kind,
                 starts_a,
                 ends_a,
                 count_a,
-                i,
                 starts_b,
                 ends_b,
                 count_b,
-                j,
-                s.start,
-                s.end,
+                first,
                 out_starts,
                 out_ends,
             );
         }
     }
     0
-}
-
-// Whether `room` places are enough. Two sets have fewer ranges in common than they have together, so mostly none is counted.
-fn fits(
-    kind: RangeKind,
-    starts_a: &[i64],
-    ends_a: &[i64],
-    count_a: usize,
-    starts_b: &[i64],
-    ends_b: &[i64],
-    count_b: usize,
-    room: usize,
-) -> bool
-    requires { ⌜ Side (kindOf kind) (now «starts_a») (now «ends_a») «count_a» × Side (kindOf kind) (now «starts_b») (now «ends_b») «count_b» ⌝ }
-    ensures { λ r. ⌜ Decides r (length (shared kind (now («starts_a» .entry)) (now («ends_a» .entry)) «count_a» (now («starts_b» .entry)) (now («ends_b» .entry)) «count_b») ≤ room) ⌝ }
-{
-    if roomy(count_a, count_b, room) {
-        return true;
-    }
-    if room < counted(kind, starts_a, ends_a, count_a, starts_b, ends_b, count_b) {
-        return false;
-    }
-    true
-}
-
-// THE UNCHECKED DOOR: the sets must be sound. The values are lent as a part of the sets, and none is read.
-pub fn intersection_unchecked(
-    kind: RangeKind,
-    count_a: usize,
-    starts_a: &[i64],
-    ends_a: &[i64],
-    values_a: &[u8],
-    count_b: usize,
-    starts_b: &[i64],
-    ends_b: &[i64],
-    values_b: &[u8],
-    out_starts: &mut [i64],
-    out_ends: &mut [i64],
-) -> Counted
-    requires { ⌜ SoundSet (kindOf kind) (stored «count_a» (now «starts_a») (now «ends_a») (now «values_a»)) × SoundSet (kindOf kind) (stored «count_b» (now «starts_b») (now «ends_b») (now «values_b»)) ⌝ }
-    ensures { λ r. ⌜ wrote r (now («out_starts» .exit)) (now («out_ends» .exit))
-        ≡ intersected (kindOf kind) (stored «count_a» (now («starts_a» .entry)) (now («ends_a» .entry)) (now («values_a» .entry))) (stored «count_b» (now («starts_b» .entry)) (now («ends_b» .entry)) (now («values_b» .entry))) (now («out_starts» .entry)) (now («out_ends» .entry)) ⌝ }
-{
-    let room = shorter(out_starts.len(), out_ends.len());
-    if !fits(
-        kind,
-        starts_a,
-        ends_a,
-        count_a,
-        starts_b,
-        ends_b,
-        count_b,
-        room,
-    ) {
-        return Counted::Refused(TOO_SHORT);
-    }
-    let n = write(
-        kind,
-        starts_a,
-        ends_a,
-        count_a,
-        starts_b,
-        ends_b,
-        count_b,
-        out_starts,
-        out_ends,
-    );
-    Counted::Count(n)
-}
-
-// Any two sets are taken.
-pub fn intersection<'a, 'b>(
-    kind: RangeKind,
-    count_a: &'a usize,
-    starts_a: &'a [i64; PLACES],
-    ends_a: &'a [i64; PLACES],
-    values_a: &'a [u8; PLACES],
-    count_b: &'b usize,
-    starts_b: &'b [i64; PLACES],
-    ends_b: &'b [i64; PLACES],
-    values_b: &'b [u8; PLACES],
-    out_starts: &mut [i64],
-    out_ends: &mut [i64],
-) -> Counted
-    ensures { λ r. ⌜ wrote r (now («out_starts» .exit)) (now («out_ends» .exit)) ≡ intersecting (kindOf kind) (lent («count_a» .entry) («starts_a» .entry) («ends_a» .entry) («values_a» .entry)) (lent («count_b» .entry) («starts_b» .entry) («ends_b» .entry) («values_b» .entry)) (now («out_starts» .entry)) (now («out_ends» .entry)) ⌝ }
-{
-    if !are_sets(
-        kind,
-        *count_a,
-        starts_a,
-        ends_a,
-        values_a,
-        *count_b,
-        starts_b,
-        ends_b,
-        values_b,
-    ) {
-        return Counted::Refused(NOT_FORMED);
-    }
-    intersection_unchecked(
-        kind,
-        *count_a,
-        starts_a,
-        ends_a,
-        values_a,
-        *count_b,
-        starts_b,
-        ends_b,
-        values_b,
-        out_starts,
-        out_ends,
-    )
 }

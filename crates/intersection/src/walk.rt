@@ -1,18 +1,16 @@
 // THE WALK over two sets that finds what they have in common, with two positions; the range that ends first goes.
 use key::RangeKind;
 use range_list::put;
+use two_sets::Reached;
 use two_sets::meets;
 use two_sets::pick;
 ghost use mathlib.Core.Path.{_≡_};
-ghost use mathlib.Core.List.{_∷_};
 ghost use Prim.Native.Nat.{_+_, _≤_, _<_};
 ghost use lib.ListN.{length};
 ghost use Rattle.key.specs.Rank.{rank};
 ghost use Rattle.key.specs.Range.{kindOf};
-ghost use Rattle.range_list.specs.InnerLists.{Room, Puts};
-ghost use Rattle.two_sets.specs.InnerSides.{Side};
-ghost use Rattle.two_sets.specs.InnerLists.{Going};
-ghost use Rattle.intersection.specs.InnerFound.{sharedFrom, piece, keyRank, Stepped};
+ghost use Rattle.two_sets.specs.InnerLists.{Ended};
+ghost use Rattle.intersection.specs.InnerFound.{openShared, keyRank, Stepped, Ready, Gone};
 ghost use Rattle.intersection.specs.InnerAhead.{Carries};
 
 // A step of the walk: what the two ranges at hand have in common, whether that is anything, and whether the left one goes.
@@ -48,7 +46,8 @@ pub fn step(
     j: usize,
 ) -> Overlap
     requires { ⌜ (i < length (now «starts_a»)) × (i < length (now «ends_a»)) × (j < length (now «starts_b»)) × (j < length (now «ends_b»)) ⌝ }
-    ensures { λ r. ⌜ Stepped kind (keyRank (now («starts_a» .entry)) i) (keyRank (now («ends_a» .entry)) i) (keyRank (now («starts_b» .entry)) j) (keyRank (now («ends_b» .entry)) j) (r .start) (r .end) (r .found) (r .left) ⌝ }
+    ensures { λ r. ⌜ Stepped kind (keyRank (now («starts_a» .entry)) i) (keyRank (now («ends_a» .entry)) i)
+        (keyRank (now («starts_b» .entry)) j) (keyRank (now («ends_b» .entry)) j) (r .start) (r .end) (r .found) (r .left) ⌝ }
 {
     step_over(kind, starts_a[i], ends_a[i], starts_b[j], ends_b[j])
 }
@@ -104,46 +103,31 @@ fn step_ahead(
     }
 }
 
-// Where the walk is: so many ranges are written, it is at places `i` and `j`, and the range from `start` to `end` is open.
-struct Reached {
-    at: usize,
-    i: usize,
-    j: usize,
-    start: i64,
-    end: i64,
-}
-
-// Writes the range from `start` to `end` and what the sets have in common from places `from_a` and `from_b` on, until either set is at its last range.
+// Writes the open range and what the sets have in common from there on, until either set is at its last range.
 // Each step writes the open range, and a range that is found becomes the open one: so no branch depends on the keys.
 fn write_most(
     kind: RangeKind,
     starts_a: &[i64],
     ends_a: &[i64],
     count_a: usize,
-    from_a: usize,
     starts_b: &[i64],
     ends_b: &[i64],
     count_b: usize,
-    from_b: usize,
-    start: i64,
-    end: i64,
+    from: Reached,
     out_starts: &mut [i64],
     out_ends: &mut [i64],
 ) -> Reached
-    requires { ⌜ Side (kindOf kind) (now «starts_a») (now «ends_a») «count_a» × Side (kindOf kind) (now «starts_b») (now «ends_b») «count_b»
-        × («from_a» ≤ «count_a») × («from_b» ≤ «count_b»)
-        × Room 0 (piece kind start end ∷ sharedFrom kind (now «starts_a») (now «ends_a») «count_a» «from_a» (now «starts_b») (now «ends_b») «count_b» «from_b») (now «out_starts») (now «out_ends») ⌝ }
-    ensures { λ r. ⌜ (r .i ≤ «count_a») × (r .j ≤ «count_b»)
-        × Going (kindOf kind) 0 (now («out_starts» .entry)) (now («out_ends» .entry)) (piece kind start end ∷ sharedFrom kind (now («starts_a» .entry)) (now («ends_a» .entry)) «count_a» «from_a» (now («starts_b» .entry)) (now («ends_b» .entry)) «count_b» «from_b»)
-        (r .at) (piece kind (r .start) (r .end) ∷ sharedFrom kind (now («starts_a» .entry)) (now («ends_a» .entry)) «count_a» (r .i) (now («starts_b» .entry)) (now («ends_b» .entry)) «count_b» (r .j)) (now («out_starts» .exit)) (now («out_ends» .exit)) ⌝ }
+    requires { ⌜ Ready kind (now «starts_a») (now «ends_a») «count_a» (now «starts_b») (now «ends_b») «count_b» from (now «out_starts») (now «out_ends») ⌝ }
+    ensures { λ r. ⌜ Gone kind (now («starts_a» .entry)) (now («ends_a» .entry)) «count_a» (now («starts_b» .entry)) (now («ends_b» .entry)) «count_b»
+        from (now («out_starts» .entry)) (now («out_ends» .entry)) r (now («out_starts» .exit)) (now («out_ends» .exit)) ⌝ }
 {
-    let mut end_a = end_at(ends_a, count_a, from_a);
-    let mut end_b = end_at(ends_b, count_b, from_b);
-    let mut at = 0;
-    let mut i = from_a;
-    let mut j = from_b;
-    let mut lo = start;
-    let mut hi = end;
+    let mut at = from.at;
+    let mut i = from.i;
+    let mut j = from.j;
+    let mut lo = from.start;
+    let mut hi = from.end;
+    let mut end_a = end_at(ends_a, count_a, i);
+    let mut end_b = end_at(ends_b, count_b, j);
     while i + 1 < count_a && j + 1 < count_b {
         put(out_starts, out_ends, at, lo, hi);
         let t = step_ahead(kind, starts_a, ends_a, i, end_a, starts_b, ends_b, j, end_b);
@@ -164,35 +148,29 @@ fn write_most(
     }
 }
 
-// Writes the range from `start` to `end` into place `first`, and behind it all that the sets have in common from places `from_a` and `from_b` on.
+// Writes the open range and all that the sets have in common from there on, and answers how many ranges are written then.
 fn write_rest(
     kind: RangeKind,
     starts_a: &[i64],
     ends_a: &[i64],
     count_a: usize,
-    from_a: usize,
     starts_b: &[i64],
     ends_b: &[i64],
     count_b: usize,
-    from_b: usize,
-    first: usize,
-    start: i64,
-    end: i64,
+    from: Reached,
     out_starts: &mut [i64],
     out_ends: &mut [i64],
 ) -> usize
-    requires { ⌜ Side (kindOf kind) (now «starts_a») (now «ends_a») «count_a» × Side (kindOf kind) (now «starts_b») (now «ends_b») «count_b»
-        × («from_a» ≤ «count_a») × («from_b» ≤ «count_b»)
-        × Room first (piece kind start end ∷ sharedFrom kind (now «starts_a») (now «ends_a») «count_a» «from_a» (now «starts_b») (now «ends_b») «count_b» «from_b») (now «out_starts») (now «out_ends») ⌝ }
-    ensures { λ r. ⌜ (r ≡ first + length (piece kind start end ∷ sharedFrom kind (now («starts_a» .entry)) (now («ends_a» .entry)) «count_a» «from_a» (now («starts_b» .entry)) (now («ends_b» .entry)) «count_b» «from_b»))
-        × Puts (kindOf kind) first (piece kind start end ∷ sharedFrom kind (now («starts_a» .entry)) (now («ends_a» .entry)) «count_a» «from_a» (now («starts_b» .entry)) (now («ends_b» .entry)) «count_b» «from_b»)
-        (now («out_starts» .entry)) (now («out_ends» .entry)) (now («out_starts» .exit)) (now («out_ends» .exit)) ⌝ }
+    requires { ⌜ Ready kind (now «starts_a») (now «ends_a») «count_a» (now «starts_b») (now «ends_b») «count_b» from (now «out_starts») (now «out_ends») ⌝ }
+    ensures { λ r. ⌜ Ended (kindOf kind) (from .at) (openShared kind (now («starts_a» .entry)) (now («ends_a» .entry)) «count_a»
+        (now («starts_b» .entry)) (now («ends_b» .entry)) «count_b» from)
+        (now («out_starts» .entry)) (now («out_ends» .entry)) r (now («out_starts» .exit)) (now («out_ends» .exit)) ⌝ }
 {
-    let mut at = first;
-    let mut i = from_a;
-    let mut j = from_b;
-    let mut lo = start;
-    let mut hi = end;
+    let mut at = from.at;
+    let mut i = from.i;
+    let mut j = from.j;
+    let mut lo = from.start;
+    let mut hi = from.end;
     while i < count_a && j < count_b {
         put(out_starts, out_ends, at, lo, hi);
         let s = step(kind, starts_a, ends_a, i, starts_b, ends_b, j);
@@ -206,41 +184,33 @@ fn write_rest(
     at + 1
 }
 
-// Writes the range from `start` to `end`, and all that the sets have in common from places `from_a` and `from_b` on.
+// The same, in two parts: the ends are read ahead as long as both sets have a next range.
 pub fn write_from(
     kind: RangeKind,
     starts_a: &[i64],
     ends_a: &[i64],
     count_a: usize,
-    from_a: usize,
     starts_b: &[i64],
     ends_b: &[i64],
     count_b: usize,
-    from_b: usize,
-    start: i64,
-    end: i64,
+    from: Reached,
     out_starts: &mut [i64],
     out_ends: &mut [i64],
 ) -> usize
-    requires { ⌜ Side (kindOf kind) (now «starts_a») (now «ends_a») «count_a» × Side (kindOf kind) (now «starts_b») (now «ends_b») «count_b»
-        × («from_a» ≤ «count_a») × («from_b» ≤ «count_b»)
-        × Room 0 (piece kind start end ∷ sharedFrom kind (now «starts_a») (now «ends_a») «count_a» «from_a» (now «starts_b») (now «ends_b») «count_b» «from_b») (now «out_starts») (now «out_ends») ⌝ }
-    ensures { λ r. ⌜ (r ≡ length (piece kind start end ∷ sharedFrom kind (now («starts_a» .entry)) (now («ends_a» .entry)) «count_a» «from_a» (now («starts_b» .entry)) (now («ends_b» .entry)) «count_b» «from_b»))
-        × Puts (kindOf kind) 0 (piece kind start end ∷ sharedFrom kind (now («starts_a» .entry)) (now («ends_a» .entry)) «count_a» «from_a» (now («starts_b» .entry)) (now («ends_b» .entry)) «count_b» «from_b»)
-        (now («out_starts» .entry)) (now («out_ends» .entry)) (now («out_starts» .exit)) (now («out_ends» .exit)) ⌝ }
+    requires { ⌜ Ready kind (now «starts_a») (now «ends_a») «count_a» (now «starts_b») (now «ends_b») «count_b» from (now «out_starts») (now «out_ends») ⌝ }
+    ensures { λ r. ⌜ Ended (kindOf kind) (from .at) (openShared kind (now («starts_a» .entry)) (now («ends_a» .entry)) «count_a»
+        (now («starts_b» .entry)) (now («ends_b» .entry)) «count_b» from)
+        (now («out_starts» .entry)) (now («out_ends» .entry)) r (now («out_starts» .exit)) (now («out_ends» .exit)) ⌝ }
 {
-    let w = write_most(
+    let most = write_most(
         kind,
         starts_a,
         ends_a,
         count_a,
-        from_a,
         starts_b,
         ends_b,
         count_b,
-        from_b,
-        start,
-        end,
+        from,
         out_starts,
         out_ends,
     );
@@ -249,14 +219,10 @@ pub fn write_from(
         starts_a,
         ends_a,
         count_a,
-        w.i,
         starts_b,
         ends_b,
         count_b,
-        w.j,
-        w.at,
-        w.start,
-        w.end,
+        most,
         out_starts,
         out_ends,
     )

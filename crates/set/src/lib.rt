@@ -1,6 +1,7 @@
 // Module 5: the half-open set, from set.rs of rangemap. The exported functions, for C and Rust, are here: each lends all the fields of its set
 // to a function of the crate `set_abi`, which answers in numbers. Rattle callers use the crate `set_ops`.
 use key::RangeKind;
+use operations::Operation;
 use outcomes::Applied;
 use outcomes::Count;
 use outcomes::Order;
@@ -254,8 +255,9 @@ pub extern "C" fn range_set_intersection(
 ) -> Count
     ensures { λ r. ⌜ Listed r (now («out_starts» .exit)) (now («out_ends» .exit)) (intersecting halfOpen (held (now (a .entry))) (held (now (b .entry))) (now («out_starts» .entry)) (now («out_ends» .entry))) ⌝ }
 {
-    set_abi::intersection(
+    set_abi::combine(
         KIND,
+        Operation::Intersection,
         &a.count,
         &a.starts,
         &a.ends,
@@ -279,8 +281,9 @@ pub extern "C" fn range_set_union(
 ) -> Count
     ensures { λ r. ⌜ Listed r (now («out_starts» .exit)) (now («out_ends» .exit)) (uniting halfOpen (held (now (a .entry))) (held (now (b .entry))) (now («out_starts» .entry)) (now («out_ends» .entry))) ⌝ }
 {
-    set_abi::union(
+    set_abi::combine(
         KIND,
+        Operation::Union,
         &a.count,
         &a.starts,
         &a.ends,

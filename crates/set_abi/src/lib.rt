@@ -1,6 +1,7 @@
 // The functions of a set of either kind, over its fields, with their answers as structs of numbers: what C and Rust see. The exported functions of
 // `set` and `inclusive_set` name their kind and lend all the fields of their set to these.
 use key::RangeKind;
+use operations::Operation;
 use outcomes::Applied;
 use outcomes::Count;
 use outcomes::Order;
@@ -20,7 +21,8 @@ ghost use Rattle.key.specs.Range.{kindOf};
 ghost use Rattle.outcomes.specs.Stored.{lent};
 ghost use Rattle.outcomes.specs.Numbers.{toldOf, countOf, rangeOf, stretchOf, orderOf, totalOf};
 ghost use Rattle.outcomes.specs.Outcomes.{Listed, cleared, extended, leaving};
-ghost use Rattle.outcomes.specs.Sets.{formedSet, intersecting, uniting, totalling};
+ghost use Rattle.outcomes.specs.Sets.{formedSet, totalling};
+ghost use Rattle.operations.specs.InnerOperation.{combinedAny};
 ghost use Rattle.set_ops.specs.Answers.{pairs, setContaining, setCounting, setEquality, setExtending, setFirst, setGaps, setInserting, setIsEmpty, setLast, setLookup, setMeeting, setOrdering, setOverlapping, setRangeAt, setRemoving};
 
 pub fn is_empty<'a>(
@@ -283,8 +285,10 @@ pub fn is_formed<'a>(
     store::plain::is_set(kind, *count, starts, ends, values)
 }
 
-pub fn intersection<'a, 'b>(
+// Intersection and union.
+pub fn combine<'a, 'b>(
     kind: RangeKind,
+    operation: Operation,
     count: &'a usize,
     starts: &'a [i64; PLACES],
     ends: &'a [i64; PLACES],
@@ -296,40 +300,14 @@ pub fn intersection<'a, 'b>(
     out_starts: &mut [i64],
     out_ends: &mut [i64],
 ) -> Count
-    ensures { λ r. ⌜ Listed r (now («out_starts» .exit)) (now («out_ends» .exit)) (intersecting (kindOf kind) (lent (count .entry) (starts .entry) (ends .entry) (values .entry)) (lent (count2 .entry) (starts2 .entry) (ends2 .entry) (values2 .entry)) (now («out_starts» .entry)) (now («out_ends» .entry))) ⌝ }
+    ensures { λ r. ⌜ Listed r (now («out_starts» .exit)) (now («out_ends» .exit)) (combinedAny operation (kindOf kind)
+        (lent (count .entry) (starts .entry) (ends .entry) (values .entry))
+        (lent (count2 .entry) (starts2 .entry) (ends2 .entry) (values2 .entry))
+        (now («out_starts» .entry)) (now («out_ends» .entry))) ⌝ }
 {
-    count_of(intersection::intersection(
+    count_of(operations::combine(
         kind,
-        count,
-        starts,
-        ends,
-        values,
-        count2,
-        starts2,
-        ends2,
-        values2,
-        out_starts,
-        out_ends,
-    ))
-}
-
-pub fn union<'a, 'b>(
-    kind: RangeKind,
-    count: &'a usize,
-    starts: &'a [i64; PLACES],
-    ends: &'a [i64; PLACES],
-    values: &'a [u8; PLACES],
-    count2: &'b usize,
-    starts2: &'b [i64; PLACES],
-    ends2: &'b [i64; PLACES],
-    values2: &'b [u8; PLACES],
-    out_starts: &mut [i64],
-    out_ends: &mut [i64],
-) -> Count
-    ensures { λ r. ⌜ Listed r (now («out_starts» .exit)) (now («out_ends» .exit)) (uniting (kindOf kind) (lent (count .entry) (starts .entry) (ends .entry) (values .entry)) (lent (count2 .entry) (starts2 .entry) (ends2 .entry) (values2 .entry)) (now («out_starts» .entry)) (now («out_ends» .entry))) ⌝ }
-{
-    count_of(union::union(
-        kind,
+        operation,
         count,
         starts,
         ends,

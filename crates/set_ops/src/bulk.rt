@@ -4,24 +4,14 @@ use map_ops::change::unchecked;
 use outcomes::Applied;
 use outcomes::NOT_FORMED;
 use outcomes::PLACES;
+use range_list::shorter;
 use store::formed::is_formed;
 use store::plain::plain;
 ghost use mathlib.Core.Path.{_≡_};
-ghost use Prim.Native.Nat.{min};
 ghost use Rattle.key.specs.Range.{kindOf};
 ghost use Rattle.outcomes.specs.Stored.{lent, Sound};
 ghost use Rattle.outcomes.specs.Outcomes.{inserts, extended};
 ghost use Rattle.set_ops.specs.Answers.{pairs, setExtending};
-
-// The lesser of two lengths.
-fn shorter(a: usize, b: usize) -> usize
-    ensures { λ r. ⌜ r ≡ min a b ⌝ }
-{
-    if a < b {
-        return a;
-    }
-    b
-}
 
 // The ranges of two lent lists, into a set that is well formed.
 fn extend_formed(

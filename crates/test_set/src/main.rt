@@ -5,6 +5,7 @@
 // A line has a set by its ranges, what it is asked with, and the answers, each behind a letter: its number first, then all its fields.
 // A set is passed by value, and lent once for all the questions of a line: that is proved soonest.
 use key::RangeKind;
+use operations::Operation;
 use outcomes::Count;
 use outcomes::Order;
 use outcomes::PLACES;
@@ -372,8 +373,9 @@ fn ask_intersection<'a, 'b>(
     let mut out_ends = [0i64; 3];
     print_count(
         b'a',
-        set_abi::intersection(
+        set_abi::combine(
             kind,
+            Operation::Intersection,
             count,
             starts,
             ends,
@@ -405,8 +407,9 @@ fn ask_union<'a, 'b>(
     let mut out_ends = [0i64; 3];
     print_count(
         b'u',
-        set_abi::union(
+        set_abi::combine(
             kind,
+            Operation::Union,
             count,
             starts,
             ends,

@@ -57,6 +57,8 @@ module _ (kind : Kind) {ss es : List ℤ} {n : ℕ} (side : Side kind ss es n) w
   rest-none = columns.rest-none kind ss es n (side .held) (side .ends-as)
 
 -- the range at a place, by the ranks of its keys
-pub rest-more : (kind : RangeKind) {ss es : List ℤ} {n : ℕ} → Side (kindOf kind) ss es n → (k : ℕ) {s e : ℕ} → k < n → s ≡ rank (getD ss k (pos 0)) → e ≡ rank (getD es k (pos 0))
+pub rest-more : (kind : RangeKind) {ss es : List ℤ} {n : ℕ} → Side (kindOf kind) ss es n → (k : ℕ) {s e : ℕ} → k < n
+    → s ≡ rank (getD ss k (pos 0)) → e ≡ rank (getD es k (pos 0))
     → rest (kindOf kind) ss es n k ≡ span s (wide kind + e) 0 ∷ rest (kindOf kind) ss es n (k + 1)
-rest-more kind {ss = ss} {es = es} {n = n} side k h p q = columns.rest-more (kindOf kind) ss es n (side .held) (side .ends-as) k h ∙ rw (past-is kind (getD es k (pos 0)), p, q)
+rest-more kind {ss = ss} {es = es} {n = n} side k h p q =
+    columns.rest-more (kindOf kind) ss es n (side .held) (side .ends-as) k h ∙ rw (past-is kind (getD es k (pos 0)), p, q)

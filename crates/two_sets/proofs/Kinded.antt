@@ -31,11 +31,15 @@ by-answer true f g = sym (f refl)
 by-answer false f g = sym (g refl)
 
 pub lt-test : (m n : ℕ) → ltZ (toZ w64 m) (toZ w64 n) ≡ ltb (bitRank m) (bitRank n)
-lt-test m n = by-answer (ltZ (toZ w64 m) (toZ w64 n)) (λ e. lt-ltb (bitRank m) (bitRank n) (rank-lt m n e)) (λ e. le-ltb (bitRank m) (bitRank n) (rank-ge m n e))
+lt-test m n =
+    by-answer (ltZ (toZ w64 m) (toZ w64 n)) (λ e. lt-ltb (bitRank m) (bitRank n) (rank-lt m n e)) (λ e. le-ltb (bitRank m) (bitRank n) (rank-ge m n e))
 
 -- what `meets` answers
 pub meets-is : {r : Bool} (kind : RangeKind) (s e : ℤ) → Decides r (rank s < kindOf kind .past e) → r ≡ ltb (rank s) (wide kind + rank e)
-meets-is {r} kind s e d = let p = past-is kind e in by-answer r (λ t. let h = d .right t in lt-ltb (rank s) (wide kind + rank e) (omega arith)) (λ f. let h = not-full d f in le-ltb (rank s) (wide kind + rank e) (omega arith))
+meets-is {r} kind s e d =
+    let p = past-is kind e in
+    by-answer r (λ t. let h = d .right t in lt-ltb (rank s) (wide kind + rank e) (omega arith))
+    (λ f. let h = not-full d f in le-ltb (rank s) (wide kind + rank e) (omega arith))
 
 -- an end as the code stores it
 end-bits : (kind : RangeKind) (b : ℕ) → toZ w64 b ≡ kindOf kind .ending (wide kind + bitRank b)
@@ -45,10 +49,12 @@ end-bits kind b =
 
 -- the greater and the lesser of two keys that were read, by their ranks
 pub greater-rank : {r : ℤ} (a b : ℤ) → r ≡ greater (toZ w64 (ofZ w64 a)) (toZ w64 (ofZ w64 b)) → rank (toZ w64 (ofZ w64 r)) ≡ max (rank a) (rank b)
-greater-rank {r} a b e = rank-back (ofZ w64 r) ∙ ap rank e ∙ rank-greater (toZ w64 (ofZ w64 a)) (toZ w64 (ofZ w64 b)) ∙ rw (rank-back (ofZ w64 a), rank-back (ofZ w64 b))
+greater-rank {r} a b e =
+    rank-back (ofZ w64 r) ∙ ap rank e ∙ rank-greater (toZ w64 (ofZ w64 a)) (toZ w64 (ofZ w64 b)) ∙ rw (rank-back (ofZ w64 a), rank-back (ofZ w64 b))
 
 pub lesser-rank : {r : ℤ} (a b : ℤ) → r ≡ lesser (toZ w64 (ofZ w64 a)) (toZ w64 (ofZ w64 b)) → rank (toZ w64 (ofZ w64 r)) ≡ min (rank a) (rank b)
-lesser-rank {r} a b e = rank-back (ofZ w64 r) ∙ ap rank e ∙ rank-lesser (toZ w64 (ofZ w64 a)) (toZ w64 (ofZ w64 b)) ∙ rw (rank-back (ofZ w64 a), rank-back (ofZ w64 b))
+lesser-rank {r} a b e =
+    rank-back (ofZ w64 r) ∙ ap rank e ∙ rank-lesser (toZ w64 (ofZ w64 a)) (toZ w64 (ofZ w64 b)) ∙ rw (rank-back (ofZ w64 a), rank-back (ofZ w64 b))
 
 -- and as it writes it
 pub put-end : (kind : RangeKind) (l : List ℤ) {l₁ : List ℤ} (n b : ℕ) → l₁ ≡ set l n (toZ w64 b) → l₁ ≡ set l n (kindOf kind .ending (wide kind + bitRank b))

@@ -14,14 +14,16 @@ use Rattle.span.specs.Span.{Span}
 use Rattle.key.specs.Rank.{keyAt}
 use Rattle.key.specs.Range.{Kind}
 use Rattle.range_list.specs.InnerLists.{Room, Puts}
-use Rattle.two_sets.specs.InnerLists.{Counting, Going}
+use Rattle.two_sets.specs.InnerLists.{Counting, Going, Ended}
 
 -- one range more is counted, or none
-sum-step : (at : ℕ) {all : ℕ} (todo : List Span) (fresh : Bool) (x : Span) (more : List Span) → at + length todo ≡ all → todo ≡ cond fresh (x ∷ more) more → at + boolByte fresh + length more ≡ all
+sum-step : (at : ℕ) {all : ℕ} (todo : List Span) (fresh : Bool) (x : Span) (more : List Span) → at + length todo ≡ all → todo ≡ cond fresh (x ∷ more) more
+    → at + boolByte fresh + length more ≡ all
 sum-step at todo true x more g e = let s = rw e at g in omega (arith, s)
 sum-step at todo false x more g e = let s = rw e at g in omega (arith, s)
 
-pub counting-step : {goal : List Span} {at : ℕ} {todo : List Span} (fresh : Bool) (x : Span) {more : List Span} → Counting goal at todo → todo ≡ cond fresh (x ∷ more) more → Counting goal (at + boolByte fresh) more
+pub counting-step : {goal : List Span} {at : ℕ} {todo : List Span} (fresh : Bool) (x : Span) {more : List Span} → Counting goal at todo
+    → todo ≡ cond fresh (x ∷ more) more → Counting goal (at + boolByte fresh) more
 counting-step {at = at} {todo} fresh x {more} g e = record { sum = sum-step at todo fresh x more (g .sum) e }
 
 pub counting-done : {goal : List Span} {at : ℕ} {todo : List Span} → Counting goal at todo → todo ≡ [] → at ≡ length goal
@@ -68,25 +70,29 @@ module _ (kind : Kind) {n : ℕ} {os oe : List ℤ} {goal : List Span} where
     }
 
     -- all that were left are written
-    pub going-done : {r : ℕ} {os₂ oe₂ : List ℤ} → (r ≡ at + length todo) × Puts kind at todo os₁ oe₁ os₂ oe₂ → (r ≡ n + length goal) × Puts kind n goal os oe os₂ oe₂
-    going-done w = (w .0 ∙ g .count, record { starts = w .1 .starts ∙ g .starts; ends = w .1 .ends ∙ g .ends })
+    pub going-done : {r : ℕ} {os₂ oe₂ : List ℤ} → Ended kind at todo os₁ oe₁ r os₂ oe₂ → Ended kind n goal os oe r os₂ oe₂
+    going-done w = record { count = w .count ∙ g .count; puts = record { starts = w .puts .starts ∙ g .starts; ends = w .puts .ends ∙ g .ends } }
 
     -- the last is written
     pub going-last : (x : Span) {os₂ oe₂ : List ℤ} → todo ≡ x ∷ [] → os₂ ≡ set os₁ at (keyAt (x .lo)) → oe₂ ≡ set oe₁ at (kind .ending (x .hi))
-        → (at + 1 ≡ n + length goal) × Puts kind n goal os oe os₂ oe₂
-    going-last x e s t = going-done (rw e (refl, record { starts = s; ends = t }))
+        → Ended kind n goal os oe (at + 1) os₂ oe₂
+    going-last x e s t = going-done (rw e (record { count = refl; puts = record { starts = s; ends = t } }))
 
--- a number of ranges that are written from the first place on
-pub from-first : {r l : ℕ} {P : Type 0} → (r ≡ 0 + l) × P → (r ≡ l) × P
-from-first {l = l} w = let z : 0 + l ≡ l = omega arith in (w .0 ∙ z, w .1)
+-- the number of ranges that were written from the first place on
+pub from-first : {kind : Kind} {xs : List Span} {os oe os₁ oe₁ : List ℤ} {r : ℕ} → Ended kind 0 xs os oe r os₁ oe₁
+    → (r ≡ length xs) × Puts kind 0 xs os oe os₁ oe₁
+from-first w = (omega (arith, w .count), w .puts)
 
 -- nothing was written before, and all is written now; and there is nothing to write
 module _ (kind : Kind) {os oe os₁ oe₁ : List ℤ} {goal todo : List Span} (s : os₁ ≡ os) (e : oe₁ ≡ oe) (t : goal ≡ todo) where
   pub first-room : Room 0 goal os oe → Room 0 todo os₁ oe₁
   first-room r = rw (s, e, ← t) r
 
-  pub first-written : {r : ℕ} {os₂ oe₂ : List ℤ} → (r ≡ length todo) × Puts kind 0 todo os₁ oe₁ os₂ oe₂ → (r ≡ length goal) × Puts kind 0 goal os oe os₂ oe₂
-  first-written w = (w .0 ∙ ap length (sym t), record { starts = rw (← s, t) (w .1 .starts); ends = rw (← e, t) (w .1 .ends) })
+  pub first-written : {r : ℕ} {os₂ oe₂ : List ℤ} → Ended kind 0 todo os₁ oe₁ r os₂ oe₂ → Ended kind 0 goal os oe r os₂ oe₂
+  first-written w = record {
+    count = rw t (w .count);
+    puts = record { starts = rw (← s, t) (w .puts .starts); ends = rw (← e, t) (w .puts .ends) };
+  }
 
-  pub none-written : todo ≡ [] → (0 ≡ length goal) × Puts kind 0 goal os oe os₁ oe₁
-  none-written n = let g = t ∙ n in (rw g refl, record { starts = rw g s; ends = rw g e })
+  pub none-written : todo ≡ [] → Ended kind 0 goal os oe 0 os₁ oe₁
+  none-written n = let g = t ∙ n in record { count = rw g refl; puts = record { starts = rw g s; ends = rw g e } }

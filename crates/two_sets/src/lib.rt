@@ -1,5 +1,5 @@
-// What the walks over two sets share, for either kind of range. A walk has no branch that depends on the keys: what would be a branch is a choice of two values,
-// since no processor foresees which of two sets comes next.
+// What the walks over two sets share, for either kind of range. A walk has no branch that depends on the keys: what would be a branch is a choice
+// of two values, since no processor foresees which of two sets comes next.
 use key::RangeKind;
 use key::full;
 use outcomes::PLACES;
@@ -14,6 +14,15 @@ ghost use Rattle.outcomes.specs.Stored.{stored};
 ghost use Rattle.outcomes.specs.Sets.{formedSet, SoundSet};
 ghost use Rattle.two_sets.specs.InnerKind.{wide};
 
+// Where a walk is: the first `at` places are written, it is at places `i` and `j` of the two sets, and the range from `start` to `end` is open.
+pub struct Reached {
+    pub at: usize,
+    pub i: usize,
+    pub j: usize,
+    pub start: i64,
+    pub end: i64,
+}
+
 // Whether two lent sets are as they must be: the first is checked, then the second.
 pub fn are_sets(
     kind: RangeKind,
@@ -26,8 +35,10 @@ pub fn are_sets(
     ends_b: &[i64; PLACES],
     values_b: &[u8; PLACES],
 ) -> bool
-    ensures { λ r. ⌜ r ≡ (formedSet (kindOf kind) (stored «count_a» (now («starts_a» .entry)) (now («ends_a» .entry)) (now («values_a» .entry))) && formedSet (kindOf kind) (stored «count_b» (now («starts_b» .entry)) (now («ends_b» .entry)) (now («values_b» .entry)))) ⌝ }
-    ensures { λ r. ⌜ (r ≡ true → SoundSet (kindOf kind) (stored «count_a» (now («starts_a» .entry)) (now («ends_a» .entry)) (now («values_a» .entry))) × SoundSet (kindOf kind) (stored «count_b» (now («starts_b» .entry)) (now («ends_b» .entry)) (now («values_b» .entry)))) ⌝ }
+    ensures { λ r. ⌜ r ≡ (formedSet (kindOf kind) (stored «count_a» (now («starts_a» .entry)) (now («ends_a» .entry)) (now («values_a» .entry)))
+        && formedSet (kindOf kind) (stored «count_b» (now («starts_b» .entry)) (now («ends_b» .entry)) (now («values_b» .entry)))) ⌝ }
+    ensures { λ r. ⌜ (r ≡ true → SoundSet (kindOf kind) (stored «count_a» (now («starts_a» .entry)) (now («ends_a» .entry)) (now («values_a» .entry)))
+        × SoundSet (kindOf kind) (stored «count_b» (now («starts_b» .entry)) (now («ends_b» .entry)) (now («values_b» .entry)))) ⌝ }
 {
     if !is_set(kind, count_a, starts_a, ends_a, values_a) {
         return false;

@@ -10,15 +10,17 @@ use Rattle.span.specs.Operations.{absorb, united}
 use Rattle.key.specs.Rank.{rank}
 use Rattle.key.specs.Range.{kindOf}
 use Rattle.key.specs.declared.RangeKind.{RangeKind}
-use Rattle.two_sets.specs.InnerKind.{wide}
 use Rattle.range_list.specs.InnerColumns.{rows, rest}
+use Rattle.two_sets.specs.InnerKind.{wide}
+use Rattle.two_sets.specs.declared.Reached.{Reached}
 use Rattle.union.specs.declared.walk.Taken.{Taken}
 
 -- the union of the two sets
 abbrev pub either : RangeKind → List ℤ → List ℤ → ℕ → List ℤ → List ℤ → ℕ → List Span
 either kind sa ea na sb eb nb = united (rows (kindOf kind) sa ea na) (rows (kindOf kind) sb eb nb)
 
--- what is still to be written where a range of the ranks from s to e is open: it, laid into the union from place i of the first set and place j of the second on
+-- what is still to be written where a range of the ranks from s to e is open: it, laid into the union from place i of the first set
+-- and place j of the second on
 abbrev pub openFrom : RangeKind → ℕ → ℕ → List ℤ → List ℤ → ℕ → ℕ → List ℤ → List ℤ → ℕ → ℕ → List Span
 openFrom kind s e sa ea na i sb eb nb j = absorb (span s (wide kind + e) 0) (united (rest (kindOf kind) sa ea na i) (rest (kindOf kind) sb eb nb j))
 
@@ -29,6 +31,19 @@ pub record Opened (kind : RangeKind) (s e : ℕ) (sa ea : List ℤ) (na i : ℕ)
   pub full : s < wide kind + e
   pub after-a : Ordered s (rest (kindOf kind) sa ea na i)
   pub after-b : Ordered s (rest (kindOf kind) sb eb nb j)
+
+-- both, where the walk is
+abbrev pub openAt : RangeKind → List ℤ → List ℤ → ℕ → List ℤ → List ℤ → ℕ → Reached → List Span
+openAt kind sa ea na sb eb nb r = openFrom kind (rank (r .start)) (rank (r .end)) sa ea na (r .i) sb eb nb (r .j)
+
+abbrev pub OpenedAt : RangeKind → List ℤ → List ℤ → ℕ → List ℤ → List ℤ → ℕ → Reached → Type 0
+OpenedAt kind sa ea na sb eb nb r = Opened kind (rank (r .start)) (rank (r .end)) sa ea na (r .i) sb eb nb (r .j)
+
+-- the walk is there once the first range is taken: nothing is written, and the whole union is still to be
+pub record First (kind : RangeKind) (sa ea : List ℤ) (na : ℕ) (sb eb : List ℤ) (nb : ℕ) (r : Reached) : Type 0 where
+  pub none-yet : r .at ≡ 0
+  pub all : either kind sa ea na sb eb nb ≡ openAt kind sa ea na sb eb nb r
+  pub opened : OpenedAt kind sa ea na sb eb nb r
 
 -- the range at place k of a set of n is taken, where the other set, of m, is at place l: it starts no later than the range there
 pub record Takes (ss es : List ℤ) (n k : ℕ) (ts : List ℤ) (m l : ℕ) (r : Taken) : Type 0 where

@@ -2,6 +2,7 @@
 // Ranges that overlap become one. Ranges that only touch stay apart, as in the Rust.
 use key::RangeKind;
 use range_list::put;
+use two_sets::Reached;
 use two_sets::meets;
 use two_sets::pick;
 ghost use mathlib.Core.Path.{_≡_};
@@ -10,20 +11,21 @@ ghost use lib.Dec.{ltb};
 ghost use lib.ListN.{length};
 ghost use Rattle.key.specs.Rank.{rank};
 ghost use Rattle.key.specs.Range.{kindOf};
-ghost use Rattle.range_list.specs.InnerLists.{Room, Puts};
+ghost use Rattle.range_list.specs.InnerLists.{Room};
 ghost use Rattle.two_sets.specs.InnerKind.{wide};
 ghost use Rattle.two_sets.specs.InnerSides.{Side};
-ghost use Rattle.union.specs.InnerFound.{openFrom, Opened, Next};
+ghost use Rattle.two_sets.specs.InnerLists.{Ended};
+ghost use Rattle.union.specs.InnerFound.{openAt, OpenedAt, Next, First};
 
 // A range that is taken, and whether it is the left set's.
-pub struct Taken {
-    pub start: i64,
-    pub end: i64,
-    pub left: bool,
+struct Taken {
+    start: i64,
+    end: i64,
+    left: bool,
 }
 
 // The next range, by its start, where one set is at place `i` and the other at place `j`.
-pub fn next(
+fn next(
     starts_a: &[i64],
     ends_a: &[i64],
     count_a: usize,
@@ -33,7 +35,8 @@ pub fn next(
     count_b: usize,
     j: usize,
 ) -> Taken
-    requires { ⌜ («count_a» ≤ length (now «starts_a»)) × (length (now «ends_a») ≡ length (now «starts_a»)) × («count_b» ≤ length (now «starts_b»)) × (length (now «ends_b») ≡ length (now «starts_b»))
+    requires { ⌜ («count_a» ≤ length (now «starts_a»)) × (length (now «ends_a») ≡ length (now «starts_a»))
+        × («count_b» ≤ length (now «starts_b»)) × (length (now «ends_b») ≡ length (now «starts_b»))
         × (i ≤ «count_a») × (j ≤ «count_b») × (i + j < «count_a» + «count_b») ⌝ }
     ensures { λ r. ⌜ Next (now («starts_a» .entry)) (now («ends_a» .entry)) «count_a» i (now («starts_b» .entry)) (now («ends_b» .entry)) «count_b» j r ⌝ }
 {
@@ -68,30 +71,55 @@ fn overlaps(kind: RangeKind, end: i64, start: i64) -> bool
     meets(kind, start, end)
 }
 
-// How many ranges there are where the range from `start` to `end` is open.
+// Where the walk is once the first range is taken: that is the open one.
+pub fn first(
+    kind: RangeKind,
+    starts_a: &[i64],
+    ends_a: &[i64],
+    count_a: usize,
+    starts_b: &[i64],
+    ends_b: &[i64],
+    count_b: usize,
+) -> Reached
+    requires { ⌜ Side (kindOf kind) (now «starts_a») (now «ends_a») «count_a»
+        × Side (kindOf kind) (now «starts_b») (now «ends_b») «count_b» × (0 < «count_a» + «count_b») ⌝ }
+    ensures { λ r. ⌜ First kind (now («starts_a» .entry)) (now («ends_a» .entry)) «count_a» (now («starts_b» .entry)) (now («ends_b» .entry)) «count_b» r ⌝ }
+{
+    let t = next(starts_a, ends_a, count_a, 0, starts_b, ends_b, count_b, 0);
+    let i = t.left as usize;
+    let j = !t.left as usize;
+    Reached {
+        at: 0,
+        i,
+        j,
+        start: t.start,
+        end: t.end,
+    }
+}
+
+// How many ranges there are from where the walk is.
 pub fn counted_from(
     kind: RangeKind,
     starts_a: &[i64],
     ends_a: &[i64],
     count_a: usize,
-    from_a: usize,
     starts_b: &[i64],
     ends_b: &[i64],
     count_b: usize,
-    from_b: usize,
-    start: i64,
-    end: i64,
+    from: Reached,
 ) -> usize
-    requires { ⌜ Side (kindOf kind) (now «starts_a») (now «ends_a») «count_a» × Side (kindOf kind) (now «starts_b») (now «ends_b») «count_b»
-        × Opened kind (rank start) (rank end) (now «starts_a») (now «ends_a») «count_a» «from_a» (now «starts_b») (now «ends_b») «count_b» «from_b» ⌝ }
-    ensures { λ r. ⌜ r ≡ length (openFrom kind (rank start) (rank end) (now («starts_a» .entry)) (now («ends_a» .entry)) «count_a» «from_a» (now («starts_b» .entry)) (now («ends_b» .entry)) «count_b» «from_b») ⌝ }
+    requires { ⌜ Side (kindOf kind) (now «starts_a») (now «ends_a») «count_a»
+        × Side (kindOf kind) (now «starts_b») (now «ends_b») «count_b»
+        × OpenedAt kind (now «starts_a») (now «ends_a») «count_a» (now «starts_b») (now «ends_b») «count_b» from ⌝ }
+    ensures { λ r. ⌜ r ≡ length (openAt kind (now («starts_a» .entry)) (now («ends_a» .entry)) «count_a»
+        (now («starts_b» .entry)) (now («ends_b» .entry)) «count_b» from) ⌝ }
 {
     let total = count_a + count_b;
     let mut n = 0;
-    let mut i = from_a;
-    let mut j = from_b;
-    let mut lo = start;
-    let mut hi = end;
+    let mut i = from.i;
+    let mut j = from.j;
+    let mut lo = from.start;
+    let mut hi = from.end;
     while i + j < total {
         let t = next(starts_a, ends_a, count_a, i, starts_b, ends_b, count_b, j);
         let joins = overlaps(kind, hi, t.start);
@@ -104,36 +132,35 @@ pub fn counted_from(
     n + 1
 }
 
-// Writes the ranges, where the range from `start` to `end` is open. Each step writes the open range; the next one makes it longer, or becomes the open one:
-// so no branch depends on the keys.
+// Writes the ranges from where the walk is, and answers how many are written then. Each step writes the open range; the next one makes it longer,
+// or becomes the open one: so no branch depends on the keys.
 pub fn write_from(
     kind: RangeKind,
     starts_a: &[i64],
     ends_a: &[i64],
     count_a: usize,
-    from_a: usize,
     starts_b: &[i64],
     ends_b: &[i64],
     count_b: usize,
-    from_b: usize,
-    start: i64,
-    end: i64,
+    from: Reached,
     out_starts: &mut [i64],
     out_ends: &mut [i64],
 ) -> usize
-    requires { ⌜ Side (kindOf kind) (now «starts_a») (now «ends_a») «count_a» × Side (kindOf kind) (now «starts_b») (now «ends_b») «count_b»
-        × Opened kind (rank start) (rank end) (now «starts_a») (now «ends_a») «count_a» «from_a» (now «starts_b») (now «ends_b») «count_b» «from_b»
-        × Room 0 (openFrom kind (rank start) (rank end) (now «starts_a») (now «ends_a») «count_a» «from_a» (now «starts_b») (now «ends_b») «count_b» «from_b») (now «out_starts») (now «out_ends») ⌝ }
-    ensures { λ r. ⌜ (r ≡ length (openFrom kind (rank start) (rank end) (now («starts_a» .entry)) (now («ends_a» .entry)) «count_a» «from_a» (now («starts_b» .entry)) (now («ends_b» .entry)) «count_b» «from_b»))
-        × Puts (kindOf kind) 0 (openFrom kind (rank start) (rank end) (now («starts_a» .entry)) (now («ends_a» .entry)) «count_a» «from_a» (now («starts_b» .entry)) (now («ends_b» .entry)) «count_b» «from_b»)
-        (now («out_starts» .entry)) (now («out_ends» .entry)) (now («out_starts» .exit)) (now («out_ends» .exit)) ⌝ }
+    requires { ⌜ Side (kindOf kind) (now «starts_a») (now «ends_a») «count_a»
+        × Side (kindOf kind) (now «starts_b») (now «ends_b») «count_b»
+        × OpenedAt kind (now «starts_a») (now «ends_a») «count_a» (now «starts_b») (now «ends_b») «count_b» from
+        × Room (from .at) (openAt kind (now «starts_a») (now «ends_a») «count_a» (now «starts_b») (now «ends_b») «count_b» from)
+        (now «out_starts») (now «out_ends») ⌝ }
+    ensures { λ r. ⌜ Ended (kindOf kind) (from .at) (openAt kind (now («starts_a» .entry)) (now («ends_a» .entry)) «count_a»
+        (now («starts_b» .entry)) (now («ends_b» .entry)) «count_b» from)
+        (now («out_starts» .entry)) (now («out_ends» .entry)) r (now («out_starts» .exit)) (now («out_ends» .exit)) ⌝ }
 {
     let total = count_a + count_b;
-    let mut at = 0;
-    let mut i = from_a;
-    let mut j = from_b;
-    let mut lo = start;
-    let mut hi = end;
+    let mut at = from.at;
+    let mut i = from.i;
+    let mut j = from.j;
+    let mut lo = from.start;
+    let mut hi = from.end;
     while i + j < total {
         put(out_starts, out_ends, at, lo, hi);
         let t = next(starts_a, ends_a, count_a, i, starts_b, ends_b, count_b, j);

@@ -8,7 +8,9 @@ full-requires : tie.Need-full-requires
 full-requires c κs = tt
 
 returns : tie.Need-returns
-returns c = let s = c .before in meets-is (s .args .kind) (s .args .start) (s .args .end) (rw (toZ-ofZ (s .fits .start), toZ-ofZ (s .fits .end)) at (c .full .ensures))
+returns c =
+    let s = c .before in
+    meets-is (s .args .kind) (s .args .start) (s .args .end) (rw (toZ-ofZ (s .fits .start), toZ-ofZ (s .fits .end)) at (c .full .ensures))
 
 pub meets-spec : {M : Type 1} → statement M
 meets-spec = tie.close (tie.spec full-requires returns)

@@ -68,7 +68,10 @@ pick-requires-2 : tie.Need-pick-requires-2
 pick-requires-2 c κs = tt
 
 returns-3 : tie.Need-returns-3
-returns-3 c = next-both _ (omega arith) (omega arith) (lt-test _ _) (simp rank-back (simp rank-back at (c .before .before .before .pick .ensures))) (simp rank-back (simp rank-back at (c .pick2 .ensures)))
+returns-3 c =
+    next-both _ (omega arith) (omega arith) (lt-test _ _)
+    (simp rank-back (simp rank-back at (c .before .before .before .pick .ensures)))
+    (simp rank-back (simp rank-back at (c .pick2 .ensures)))
 
 pub next-spec : {M : Type 1} → statement M
 next-spec =

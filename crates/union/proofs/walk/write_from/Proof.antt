@@ -13,7 +13,7 @@ use Rattle.range_list.proofs.Answering.{put-start}
 use Rattle.two_sets.specs.InnerKind.{wide}
 use Rattle.two_sets.proofs.Kinded.{greater-bits, put-end}
 use Rattle.two_sets.specs.InnerLists.{Going}
-use Rattle.two_sets.proofs.Writing.{going-first, going-room, going-last, from-first}
+use Rattle.two_sets.proofs.Writing.{going-first, going-room, going-last}
 use Rattle.two_sets.proofs.Columns.{one-goes}
 use Rattle.union.specs.InnerFound.{openFrom, Opened}
 use Rattle.union.proofs.Steps.{still-open, going-on, open-last}
@@ -21,44 +21,53 @@ use Rattle.union.proofs.walk.write_from.Statement.{statement}
 use Rattle.union.proofs.walk.write_from.Tie as tie
 
 abbrev Inv-loop : tie.InvT-loop
-Inv-loop kind starts-a ends-a count-a from-a starts-b ends-b count-b from-b start end out-starts₀ out-ends₀ total at₀ i₀ j₀ lo₀ hi₀ out-starts out-ends at i j lo hi =
+Inv-loop kind starts-a ends-a count-a starts-b ends-b count-b out-starts₀ out-ends₀ total at₀ i₀ j₀ lo₀ hi₀ out-starts out-ends at i j lo hi =
     Opened kind (bitRank lo) (bitRank hi) starts-a ends-a count-a i starts-b ends-b count-b j
-    × Going (kindOf kind) 0 out-starts₀ out-ends₀ (openFrom kind (bitRank start) (bitRank end) starts-a ends-a count-a from-a starts-b ends-b count-b from-b)
+    × Going (kindOf kind) at₀ out-starts₀ out-ends₀ (openFrom kind (bitRank lo₀) (bitRank hi₀) starts-a ends-a count-a i₀ starts-b ends-b count-b j₀)
     at (openFrom kind (bitRank lo) (bitRank hi) starts-a ends-a count-a i starts-b ends-b count-b j) out-starts out-ends
 
 abbrev μ-loop : tie.MeasureT-loop
-μ-loop kind starts-a ends-a count-a from-a starts-b ends-b count-b from-b start end out-starts₀ out-ends₀ total at₀ i₀ j₀ lo₀ hi₀ out-starts out-ends at i j lo hi = (count-a + count-b) - (i + j)
+μ-loop kind starts-a ends-a count-a starts-b ends-b count-b out-starts₀ out-ends₀ total at₀ i₀ j₀ lo₀ hi₀ out-starts out-ends at i j lo hi =
+    (count-a + count-b) - (i + j)
+
+-- THE RUNGS: where the function began, and where this turn of the loop did
+abbrev entry : tie.At-loop Inv-loop μ-loop → tie.Start Inv-loop μ-loop
+entry c = c .before .before .before
+
+abbrev turn : tie.After-next Inv-loop μ-loop → tie.In-loop Inv-loop μ-loop
+turn c = c .before .before .before .before .before .before
 
 add-total : tie.Need-add-total Inv-loop μ-loop
 add-total c = omega arith
 
 loop-holds : tie.Need-loop-holds Inv-loop μ-loop
-loop-holds c = (c .pre .2, going-first (kindOf (c .args .kind)))
+loop-holds c = let s = c .before .before in (s .pre .2, going-first (kindOf (s .args .kind)))
 
 add-loop : tie.Need-add-loop Inv-loop μ-loop
 add-loop c = omega arith
 
 -- what the test says; and there is a place for the open range
 record Inside (c : tie.In-loop Inv-loop μ-loop) : Type 0 where
-  within : c .before .loop .i + c .before .loop .j < c .before .before .args .count-a + c .before .before .args .count-b
-  fits : c .before .before .args .count-a + c .before .before .args .count-b < 2 ^ 64
-  room : (c .before .loop .at < length (c .before .loop .out-starts)) × (c .before .loop .at < length (c .before .loop .out-ends))
+  within : c .before .loop .i + c .before .loop .j < entry (c .before) .args .count-a + entry (c .before) .args .count-b
+  fits : entry (c .before) .args .count-a + entry (c .before) .args .count-b < 2 ^ 64
+  room : let l = c .before .loop in (l .at < length (l .out-starts)) × (l .at < length (l .out-ends))
   at-fits : c .before .loop .at + 1 < 2 ^ 64
 
 inside : (c : tie.In-loop Inv-loop μ-loop) → Inside c
 inside c =
-    let s = c .before .before in
+    let s = entry (c .before) in
     let r = going-room (kindOf (s .args .kind)) (c .before .loop .inv .1) (absorb-some _ _) (s .pre .3) in
-    record { within = omega arith; fits = omega arith; room = r; at-fits = omega (arith, r) }
+    record { within = omega arith; fits = omega arith; room = r; at-fits = omega (arith, r, s .good) }
 
 put-requires : tie.Need-put-requires Inv-loop μ-loop
 put-requires c κs = inside (c .before .before) .room
 
 next-requires : tie.Need-next-requires Inv-loop μ-loop
 next-requires c κs =
-    let s = c .before .before .before .before .before .before .before in
-    let l = c .before .before .before .before .before .before .loop in
-    (s .pre .0 .held, s .pre .0 .ends-as, s .pre .1 .held, s .pre .1 .ends-as, l .inv .0 .in-a, l .inv .0 .in-b, inside (c .before .before .before .before .before) .within)
+    let t = c .before .before .before .before .before in
+    let s = entry (t .before) in
+    let l = t .before .loop in
+    (s .pre .0 .held, s .pre .0 .ends-as, s .pre .1 .held, s .pre .1 .ends-as, l .inv .0 .in-a, l .inv .0 .in-b, inside t .within)
 
 overlaps-requires : tie.Need-overlaps-requires Inv-loop μ-loop
 overlaps-requires c κs = tt
@@ -69,8 +78,8 @@ cast-i c = tt
 add-i : tie.Need-add-i Inv-loop μ-loop
 add-i c =
     let x = c .before .before .before in
-    let l = x .before .before .before .before .before .before .before .loop in
-    let h = inside (x .before .before .before .before .before .before) in
+    let l = turn x .before .loop in
+    let h = inside (turn x) in
     let f : l .i + boolByte (x .next .result .left) < 2 ^ 64 = omega (arith, one-goes (x .next .result .left), h .within, h .fits) in
     record { fits = f }
 
@@ -80,8 +89,8 @@ cast-j c = tt
 add-j : tie.Need-add-j Inv-loop μ-loop
 add-j c =
     let x = c .before .before .before .before in
-    let l = x .before .before .before .before .before .before .before .loop in
-    let h = inside (x .before .before .before .before .before .before) in
+    let l = turn x .before .loop in
+    let h = inside (turn x) in
     let f : l .j + boolByte (not (x .next .result .left)) < 2 ^ 64 = omega (arith, one-goes (x .next .result .left), h .within, h .fits) in
     record { fits = f }
 
@@ -92,8 +101,8 @@ add-at : tie.Need-add-at Inv-loop μ-loop
 add-at c =
     let m = c .before .before in
     let x = m .before .before in
-    let l = x .before .before .before .before .before .before .before .loop in
-    let h = inside (x .before .before .before .before .before .before) in
+    let l = turn x .before .loop in
+    let h = inside (turn x) in
     let f : l .at + boolByte (not (m .overlaps .result)) < 2 ^ 64 = omega (arith, one-goes (m .overlaps .result), h .at-fits) in
     record { fits = f }
 
@@ -106,18 +115,19 @@ max-requires c κs = tt
 loop-less : tie.Need-loop-less Inv-loop μ-loop
 loop-less c =
     let x = c .before .before .before .before .before .before .before .before in
-    let l = x .before .before .before .before .before .before .before .loop in
-    let a = x .before .before .before .before .before .before .before .before .args in
-    let h = inside (x .before .before .before .before .before .before) in
-    let f : (a .count-a + a .count-b) - ((l .i + boolByte (x .next .result .left)) + (l .j + boolByte (not (x .next .result .left)))) < (a .count-a + a .count-b) - (l .i + l .j) = omega (arith, one-goes (x .next .result .left), h .within) in
+    let l = turn x .before .loop in
+    let a = entry (turn x .before) .args in
+    let left = x .next .result .left in
+    let f : (a .count-a + a .count-b) - ((l .i + boolByte left) + (l .j + boolByte (not left))) < (a .count-a + a .count-b) - (l .i + l .j) =
+    omega (arith, one-goes left, inside (turn x) .within) in
     f
 
 loop-again : tie.Need-loop-again Inv-loop μ-loop
 loop-again c =
     let m = c .before .before .before .before .before .before in
     let x = m .before .before in
-    let l = x .before .before .before .before .before .before .before .loop in
-    let s = x .before .before .before .before .before .before .before .before in
+    let l = turn x .before .loop in
+    let s = entry (turn x .before) in
     let w = x .before .before .before .put .ensures in
     let t = x .next .ensures in
     let p = simp rank-back at (m .overlaps .ensures) in
@@ -129,11 +139,11 @@ loop-again c =
     )
 
 -- there is a place for the last range
-last-room : (c : tie.After-loop Inv-loop μ-loop) → (c .before .loop .at < length (c .before .loop .out-starts)) × (c .before .loop .at < length (c .before .loop .out-ends))
-last-room c = let s = c .before .before in going-room (kindOf (s .args .kind)) (c .before .loop .inv .1) (absorb-some _ _) (s .pre .3)
+last-room : (c : tie.After-loop Inv-loop μ-loop) → let l = c .before .loop in (l .at < length (l .out-starts)) × (l .at < length (l .out-ends))
+last-room c = let s = entry (c .before) in going-room (kindOf (s .args .kind)) (c .before .loop .inv .1) (absorb-some _ _) (s .pre .3)
 
 last-fits : (c : tie.After-loop Inv-loop μ-loop) → c .before .loop .at + 1 < 2 ^ 64
-last-fits c = omega (arith, last-room c)
+last-fits c = omega (arith, last-room c, entry (c .before) .good)
 
 put-requires-2 : tie.Need-put-requires-2 Inv-loop μ-loop
 put-requires-2 c κs = last-room (c .before .before)
@@ -149,12 +159,14 @@ same-length-2 c = omega arith
 
 returns : tie.Need-returns Inv-loop μ-loop
 returns c =
-    let l = c .before .before .before .before .before .before .loop in
-    let s = c .before .before .before .before .before .before .before in
+    let e = c .before .before .before .before .before in
+    let l = e .before .loop in
+    let s = entry (e .before) in
     let a = s .args in
     let w = c .before .before .put2 .ensures in
-    from-first (going-last (kindOf (a .kind)) (l .inv .1) (span (bitRank (l .lo)) (wide (a .kind) + bitRank (l .hi)) 0) (open-last (a .kind) (s .pre .0) (s .pre .1) (omega arith) (l .inv .0))
-    (put-start (l .out-starts) (l .at) (l .lo) (w .0)) (put-end (a .kind) (l .out-ends) (l .at) (l .hi) (w .1)))
+    going-last (kindOf (a .kind)) (l .inv .1) (span (bitRank (l .lo)) (wide (a .kind) + bitRank (l .hi)) 0)
+    (open-last (a .kind) (s .pre .0) (s .pre .1) (omega (arith, e .loop-test .left)) (l .inv .0))
+    (put-start (l .out-starts) (l .at) (l .lo) (w .0)) (put-end (a .kind) (l .out-ends) (l .at) (l .hi) (w .1))
 
 pub write-from-spec : {M : Type 1} → statement M
 write-from-spec =

@@ -1,15 +1,17 @@
--- `union::fits` meets its contract.
+-- `operations::fits` meets its contract.
 use native.Mathlib.Omega.{arith}
 use Rattle.key.proofs.Answers.{holds, fails}
-use Rattle.union.proofs.Steps.{most}
-use Rattle.union.proofs.fits.Statement.{statement}
-use Rattle.union.proofs.fits.Tie as tie
+use Rattle.operations.proofs.Doors.{most}
+use Rattle.operations.proofs.fits.Statement.{statement}
+use Rattle.operations.proofs.fits.Tie as tie
 
 roomy-requires : tie.Need-roomy-requires
 roomy-requires c κs = tt
 
 returns : tie.Need-returns
-returns c = let s = c .before .before in holds (omega (arith, most (s .args .kind) (s .pre .0) (s .pre .1), c .before .roomy .ensures (c .if1 .taken)))
+returns c =
+    let s = c .before .before in
+    holds (omega (arith, most (s .args .operation) (s .args .kind) (s .pre .0) (s .pre .1), c .before .roomy .ensures (c .if1 .taken)))
 
 counted-requires : tie.Need-counted-requires
 counted-requires c κs = c .before .before .pre

@@ -1,0 +1,2 @@
+-- Doors: what the doors answer, for each operation.
+pub mod Doors

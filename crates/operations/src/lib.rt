@@ -1,0 +1,248 @@
+// Module 4: the operations on two sets, from operations.rs of rangemap. They differ in their walk alone (crates `intersection` and `union`).
+// Nothing is written before it is known that the lent lists are long enough; the ranges are counted for that only where there may be too many.
+use key::RangeKind;
+use outcomes::Counted;
+use outcomes::NOT_FORMED;
+use outcomes::PLACES;
+use outcomes::TOO_SHORT;
+use range_list::shorter;
+use two_sets::are_sets;
+use two_sets::roomy;
+ghost use mathlib.Core.Path.{_≡_};
+ghost use Prim.Native.Nat.{_≤_};
+ghost use lib.ListN.{length};
+ghost use Rattle.key.specs.InnerDecides.{Decides};
+ghost use Rattle.key.specs.Range.{kindOf};
+ghost use Rattle.outcomes.specs.Stored.{lent, stored};
+ghost use Rattle.outcomes.specs.Sets.{SoundSet};
+ghost use Rattle.range_list.specs.InnerLists.{wrote, Room};
+ghost use Rattle.two_sets.specs.InnerSides.{Side};
+ghost use Rattle.two_sets.specs.InnerLists.{Ended};
+ghost use Rattle.operations.specs.InnerOperation.{found, combined, combinedAny};
+
+// The operations: what two sets have in common, and what either has.
+pub enum Operation {
+    Intersection,
+    Union,
+}
+
+// How many ranges an operation finds.
+fn counted(
+    kind: RangeKind,
+    operation: Operation,
+    starts_a: &[i64],
+    ends_a: &[i64],
+    count_a: usize,
+    starts_b: &[i64],
+    ends_b: &[i64],
+    count_b: usize,
+) -> usize
+    requires { ⌜ Side (kindOf kind) (now «starts_a») (now «ends_a») «count_a»
+        × Side (kindOf kind) (now «starts_b») (now «ends_b») «count_b» ⌝ }
+    ensures { λ r. ⌜ r ≡ length (found operation kind (now («starts_a» .entry)) (now («ends_a» .entry)) «count_a»
+        (now («starts_b» .entry)) (now («ends_b» .entry)) «count_b») ⌝ }
+{
+    match operation {
+        Operation::Intersection => intersection::counted(
+            kind,
+            starts_a,
+            ends_a,
+            count_a,
+            starts_b,
+            ends_b,
+            count_b,
+        ),
+        Operation::Union => union::counted(
+            kind,
+            starts_a,
+            ends_a,
+            count_a,
+            starts_b,
+            ends_b,
+            count_b,
+        ),
+    }
+}
+
+// Writes what an operation finds, and answers how many ranges that is.
+fn write(
+    kind: RangeKind,
+    operation: Operation,
+    starts_a: &[i64],
+    ends_a: &[i64],
+    count_a: usize,
+    starts_b: &[i64],
+    ends_b: &[i64],
+    count_b: usize,
+    out_starts: &mut [i64],
+    out_ends: &mut [i64],
+) -> usize
+    requires { ⌜ Side (kindOf kind) (now «starts_a») (now «ends_a») «count_a»
+        × Side (kindOf kind) (now «starts_b») (now «ends_b») «count_b»
+        × Room 0 (found operation kind (now «starts_a») (now «ends_a») «count_a» (now «starts_b») (now «ends_b») «count_b»)
+        (now «out_starts») (now «out_ends») ⌝ }
+    ensures { λ r. ⌜ Ended (kindOf kind) 0 (found operation kind (now («starts_a» .entry)) (now («ends_a» .entry)) «count_a»
+        (now («starts_b» .entry)) (now («ends_b» .entry)) «count_b»)
+        (now («out_starts» .entry)) (now («out_ends» .entry)) r (now («out_starts» .exit)) (now («out_ends» .exit)) ⌝ }
+{
+    match operation {
+        Operation::Intersection => intersection::write(
+            kind,
+            starts_a,
+            ends_a,
+            count_a,
+            starts_b,
+            ends_b,
+            count_b,
+            out_starts,
+            out_ends,
+        ),
+        Operation::Union => union::write(
+            kind,
+            starts_a,
+            ends_a,
+            count_a,
+            starts_b,
+            ends_b,
+            count_b,
+            out_starts,
+            out_ends,
+        ),
+    }
+}
+
+// Whether `room` places are enough. An operation finds at most as many ranges as the two sets have together, so mostly none is counted.
+fn fits(
+    kind: RangeKind,
+    operation: Operation,
+    starts_a: &[i64],
+    ends_a: &[i64],
+    count_a: usize,
+    starts_b: &[i64],
+    ends_b: &[i64],
+    count_b: usize,
+    room: usize,
+) -> bool
+    requires { ⌜ Side (kindOf kind) (now «starts_a») (now «ends_a») «count_a»
+        × Side (kindOf kind) (now «starts_b») (now «ends_b») «count_b» ⌝ }
+    ensures { λ r. ⌜ Decides r (length (found operation kind (now («starts_a» .entry)) (now («ends_a» .entry)) «count_a»
+        (now («starts_b» .entry)) (now («ends_b» .entry)) «count_b») ≤ room) ⌝ }
+{
+    if roomy(count_a, count_b, room) {
+        return true;
+    }
+    let n = counted(
+        kind,
+        operation,
+        starts_a,
+        ends_a,
+        count_a,
+        starts_b,
+        ends_b,
+        count_b,
+    );
+    if room < n {
+        return false;
+    }
+    true
+}
+
+// THE UNCHECKED DOOR: the sets must be sound. The values are lent as a part of the sets, and none is read.
+pub fn combine_unchecked(
+    kind: RangeKind,
+    operation: Operation,
+    count_a: usize,
+    starts_a: &[i64],
+    ends_a: &[i64],
+    values_a: &[u8],
+    count_b: usize,
+    starts_b: &[i64],
+    ends_b: &[i64],
+    values_b: &[u8],
+    out_starts: &mut [i64],
+    out_ends: &mut [i64],
+) -> Counted
+    requires { ⌜ SoundSet (kindOf kind) (stored «count_a» (now «starts_a») (now «ends_a») (now «values_a»))
+        × SoundSet (kindOf kind) (stored «count_b» (now «starts_b») (now «ends_b») (now «values_b»)) ⌝ }
+    ensures { λ r. ⌜ wrote r (now («out_starts» .exit)) (now («out_ends» .exit)) ≡ combined operation (kindOf kind)
+        (stored «count_a» (now («starts_a» .entry)) (now («ends_a» .entry)) (now («values_a» .entry)))
+        (stored «count_b» (now («starts_b» .entry)) (now («ends_b» .entry)) (now («values_b» .entry)))
+        (now («out_starts» .entry)) (now («out_ends» .entry)) ⌝ }
+{
+    let room = shorter(out_starts.len(), out_ends.len());
+    if !fits(
+        kind,
+        operation,
+        starts_a,
+        ends_a,
+        count_a,
+        starts_b,
+        ends_b,
+        count_b,
+        room,
+    ) {
+        return Counted::Refused(TOO_SHORT);
+    }
+    let n = write(
+        kind,
+        operation,
+        starts_a,
+        ends_a,
+        count_a,
+        starts_b,
+        ends_b,
+        count_b,
+        out_starts,
+        out_ends,
+    );
+    Counted::Count(n)
+}
+
+// Any two sets are taken.
+pub fn combine<'a, 'b>(
+    kind: RangeKind,
+    operation: Operation,
+    count_a: &'a usize,
+    starts_a: &'a [i64; PLACES],
+    ends_a: &'a [i64; PLACES],
+    values_a: &'a [u8; PLACES],
+    count_b: &'b usize,
+    starts_b: &'b [i64; PLACES],
+    ends_b: &'b [i64; PLACES],
+    values_b: &'b [u8; PLACES],
+    out_starts: &mut [i64],
+    out_ends: &mut [i64],
+) -> Counted
+    ensures { λ r. ⌜ wrote r (now («out_starts» .exit)) (now («out_ends» .exit)) ≡ combinedAny operation (kindOf kind)
+        (lent («count_a» .entry) («starts_a» .entry) («ends_a» .entry) («values_a» .entry))
+        (lent («count_b» .entry) («starts_b» .entry) («ends_b» .entry) («values_b» .entry))
+        (now («out_starts» .entry)) (now («out_ends» .entry)) ⌝ }
+{
+    if !are_sets(
+        kind,
+        *count_a,
+        starts_a,
+        ends_a,
+        values_a,
+        *count_b,
+        starts_b,
+        ends_b,
+        values_b,
+    ) {
+        return Counted::Refused(NOT_FORMED);
+    }
+    combine_unchecked(
+        kind,
+        operation,
+        *count_a,
+        starts_a,
+        ends_a,
+        values_a,
+        *count_b,
+        starts_b,
+        ends_b,
+        values_b,
+        out_starts,
+        out_ends,
+    )
+}
