@@ -51,7 +51,8 @@ module _ {A : Type 0} (f : Span → A) (z : A) (l vs : List A) (ys news : List S
   last-part = map-drop f j (take count ys) ∙ ap (drop j) (map-take f count ys ∙ ap (take count) old) ∙ drop-take j count l
 
   column : map f parts ≡ take i l ++ vs ++ take (count - j) (drop j l)
-  column = map-append f (take i (take count ys)) (news ++ drop j (take count ys)) ∙ rw (map-append f news (drop j (take count ys)), first-part, last-part, new) (sym (append-assoc (take i l) vs (take (count - j) (drop j l))))
+  column = map-append f (take i (take count ys)) (news ++ drop j (take count ys))
+      ∙ rw (map-append f news (drop j (take count ys)), first-part, last-part, new) (sym (append-assoc (take i l) vs (take (count - j) (drop j l))))
 
   pub column-spliced : filled (length l) z (map f parts) ≡ spliced l i j count vs z
   unfolding filled spliced
@@ -62,8 +63,8 @@ module _ {A : Type 0} (f : Span → A) (z : A) (l vs : List A) (ys news : List S
       rw (column, n)
 
 -- of one plan
-module _ (kind : Kind) (law : Lawful kind) (m : Stored) (cols : ColumnsOf m) (p : Replacement) (fs : AllFit (m .starts)) (fe : AllFit (m .ends)) {change : Change}
-    (plan : Planned kind m change p) where
+module _ (kind : Kind) (law : Lawful kind) (m : Stored) (cols : ColumnsOf m) (p : Replacement) (fs : AllFit (m .starts)) (fe : AllFit (m .ends))
+    {change : Change} (plan : Planned kind m change p) where
   abbrev n : ℕ
   n = length (m .starts)
 
@@ -83,35 +84,38 @@ module _ (kind : Kind) (law : Lawful kind) (m : Stored) (cols : ColumnsOf m) (p 
   len-starts : length (newStarts p) ≡ p .n
   len-starts = length-take-le (p .n) _ (plan .apt .few)
 
-  len-ends : length (newEnds p) ≡ p .n
-  len-ends = length-take-le (p .n) _ (plan .apt .few)
+  as-ends : length (newEnds p) ≡ length (newStarts p)
+  as-ends = length-take-le (p .n) _ (plan .apt .few) ∙ sym len-starts
 
-  len-values : length (newValues p) ≡ p .n
-  len-values = length-take-le (p .n) _ (plan .apt .few)
+  as-values : length (newValues p) ≡ length (newStarts p)
+  as-values = length-take-le (p .n) _ (plan .apt .few) ∙ sym len-starts
 
   starts-col : filled n (pos 0) (map (λ (x : Span). keyAt (x .lo)) left) ≡ spliced (m .starts) (p .from) (p .to) (m .count) (newStarts p) (pos 0)
-  starts-col = rw (← whole) (column-spliced (λ (x : Span). keyAt (x .lo)) (pos 0) (m .starts) (newStarts p) ys news (p .from) (p .to) (m .count)
+  starts-col = rw (← whole)
+      (column-spliced (λ (x : Span). keyAt (x .lo)) (pos 0) (m .starts) (newStarts p) ys news (p .from) (p .to) (m .count)
       (starts-back kind (m .starts) (m .ends) (m .values) (cols .ends-as) (cols .values-as) fs)
-      (starts-back kind (newStarts p) (newEnds p) (newValues p) (omega (arith, len-starts, len-ends)) (omega (arith, len-starts, len-values)) (plan .starts-fit))
+      (starts-back kind (newStarts p) (newEnds p) (newValues p) as-ends as-values (plan .starts-fit))
       (plan .apt .ascending) (plan .apt .within) (cols .held))
 
   ends-col : filled n (pos 0) (map (λ (x : Span). kind .ending (x .hi)) left) ≡ spliced (m .ends) (p .from) (p .to) (m .count) (newEnds p) (pos 0)
-  ends-col = rw (← whole, ← cols .ends-as) (column-spliced (λ (x : Span). kind .ending (x .hi)) (pos 0) (m .ends) (newEnds p) ys news (p .from) (p .to) (m .count)
+  ends-col = rw (← whole, ← cols .ends-as)
+      (column-spliced (λ (x : Span). kind .ending (x .hi)) (pos 0) (m .ends) (newEnds p) ys news (p .from) (p .to) (m .count)
       (ends-back kind law (m .starts) (m .ends) (m .values) (cols .ends-as) (cols .values-as) fe)
-      (ends-back kind law (newStarts p) (newEnds p) (newValues p) (omega (arith, len-starts, len-ends)) (omega (arith, len-starts, len-values)) (plan .ends-fit))
+      (ends-back kind law (newStarts p) (newEnds p) (newValues p) as-ends as-values (plan .ends-fit))
       (plan .apt .ascending) (plan .apt .within) (omega arith))
 
   values-col : filled n 0 (map (λ (x : Span). x .label) left) ≡ spliced (m .values) (p .from) (p .to) (m .count) (newValues p) 0
-  values-col = rw (← whole, ← cols .values-as) (column-spliced (λ (x : Span). x .label) 0 (m .values) (newValues p) ys news (p .from) (p .to) (m .count)
+  values-col = rw (← whole, ← cols .values-as)
+      (column-spliced (λ (x : Span). x .label) 0 (m .values) (newValues p) ys news (p .from) (p .to) (m .count)
       (values-back kind (m .starts) (m .ends) (m .values) (cols .ends-as) (cols .values-as))
-      (values-back kind (newStarts p) (newEnds p) (newValues p) (omega (arith, len-starts, len-ends)) (omega (arith, len-starts, len-values)))
+      (values-back kind (newStarts p) (newEnds p) (newValues p) as-ends as-values)
       (plan .apt .ascending) (plan .apt .within) (omega arith))
 
   -- how many ranges are left
   pub length-left : length left ≡ newCount (m .count) p
   length-left =
       let a = length-spans kind (m .starts) (m .ends) (m .values) (cols .ends-as) (cols .values-as) in
-      let b = length-spans kind (newStarts p) (newEnds p) (newValues p) (omega (arith, len-starts, len-ends)) (omega (arith, len-starts, len-values)) in
+      let b = length-spans kind (newStarts p) (newEnds p) (newValues p) as-ends as-values in
       let h : length (take (m .count) ys) ≡ m .count = length-take-le (m .count) ys (omega (arith, cols .held)) in
       let t : length (take (p .from) (take (m .count) ys)) ≡ p .from = length-take-le (p .from) (take (m .count) ys) (omega (arith, plan .apt)) in
       rw (← whole, length-append, length-append, t, b, len-starts) (omega (arith, length-drop (p .to) (take (m .count) ys)))
@@ -129,4 +133,5 @@ pub edit-carried : (kind : Kind) (law : Lawful kind) (m : Stored) → Sound kind
     → Planned kind m change p → carried m p ≡ editing kind (length (m .starts)) m (change .start) (change .end) (asked change)
 unfolding editing
 edit-carried kind law m sound {change} p h plan =
-    carried-given kind law m (columns kind law m sound) p (sound .starts-fit) (sound .ends-fit) plan ∙ rw (lt-leb (kind .past (change .end)) (rank (change .start)) h)
+    carried-given kind law m (columns kind law m sound) p (sound .starts-fit) (sound .ends-fit) plan
+    ∙ rw (lt-leb (kind .past (change .end)) (rank (change .start)) h)

@@ -28,7 +28,8 @@ use Rattle.outcomes.specs.Stored.{Stored, spans, ranges, AllFit, Sound}
 use Rattle.outcomes.proofs.Formed.{good}
 use Rattle.edit.specs.declared.Change.{Change}
 use Rattle.edit.specs.declared.Met.{Met}
-use Rattle.edit.specs.InnerPlan.{HasKey, valueIf, asked, nowhere, Touching, Meets, Beside, b-clear, b-joined, b-kept, entry, kept, Brings, Overlaid, Planned}
+use Rattle.edit.specs.InnerPlan.{HasKey, valueIf, asked, nowhere, Touching, Meets, Beside, b-clear, b-joined, b-kept}
+use Rattle.edit.specs.InnerPlan.{entry, kept, Brings, Overlaid, Planned}
 use Rattle.edit.proofs.Cuts.{cut-right}
 use Rattle.edit.proofs.Places.{len, at-place}
 
@@ -41,7 +42,8 @@ halves (suc n) (x ∷ xs) = rw (← halves n xs)
 thirds : {A : Type 0} (i j : ℕ) (l : List A) → i ≤ j → l ≡ take i l ++ (take (j - i) (drop i l) ++ drop j l)
 thirds i j l h =
     let e : i + (j - i) ≡ j = omega arith in
-    halves i l ∙ ap (λ (r : List _). take i l ++ r) (halves (j - i) (drop i l) ∙ ap (λ (r : List _). take (j - i) (drop i l) ++ r) (drop-drop (j - i) i l ∙ ap (λ (k : ℕ). drop k l) e))
+    let last = drop-drop (j - i) i l ∙ ap (λ (k : ℕ). drop k l) e in
+    halves i l ∙ ap (λ (r : List _). take i l ++ r) (halves (j - i) (drop i l) ∙ ap (λ (r : List _). take (j - i) (drop i l) ++ r) last)
 
 ends-before : (c : ℕ) (l : List Span) → ((k : ℕ) → k < length l → getD l k nowhere .hi < c) → EndsBefore c l
 ends-before c [] h = tt
@@ -119,9 +121,11 @@ module _ (xs : List Span) (lo hi : ℕ) (new : Option ℕ) (from to : ℕ) (ns :
     ordered-met : Ordered 0 (x ∷ take (to - from - 1) (drop (suc from) xs))
     ordered-met = subst (Ordered 0) first-met (ordered-left 0 ms rs (ordered-right 0 ls (ms ++ rs) (cut-tidy .ordered)))
 
-    pub replaced-some : joined (keep (span (x .lo) lo (x .label)) [] ++ piece lo hi new (keep (span hi (y .hi) (y .label)) [])) ≡ ns → ls ++ (ns ++ rs) ≡ given lo hi new xs
+    pub replaced-some : joined (keep (span (x .lo) lo (x .label)) [] ++ piece lo hi new (keep (span hi (y .hi) (y .label)) [])) ≡ ns
+        → ls ++ (ns ++ rs) ≡ given lo hi new xs
     replaced-some p = replaced (ap (given lo hi new) first-met
-        ∙ middle lo hi 0 new x _ (take (to - from - 1) (drop from xs)) y (sym first-met ∙ last-met) ordered-met (t .reach from (omega arith) (omega (arith, t .within))) (t .begun (to - 1) (omega arith)) ∙ p)
+        ∙ middle lo hi 0 new x _ (take (to - from - 1) (drop from xs)) y (sym first-met ∙ last-met) ordered-met
+        (t .reach from (omega arith) (omega (arith, t .within))) (t .begun (to - 1) (omega arith)) ∙ p)
 
 -- the span of an entry
 abbrev entrySpan : Kind → Entry → Span
@@ -162,7 +166,8 @@ beside-none (b-joined h e) = absurd e
 beside-none (b-kept h n) = holds h
 
 -- the new range's key is an i64
-pub beside-fits : {Beyond : Type 0} {p : ℕ} {new : Option ℕ} {own far key : ℤ} {k : Bool} → Beside Beyond p new own far k key → SFits w64 own → SFits w64 far → SFits w64 key
+pub beside-fits : {Beyond : Type 0} {p : ℕ} {new : Option ℕ} {own far key : ℤ} {k : Bool}
+    → Beside Beyond p new own far k key → SFits w64 own → SFits w64 far → SFits w64 key
 beside-fits (b-clear h) f g = f
 beside-fits (b-joined h e) f g = g
 beside-fits (b-kept h n) f g = f
@@ -194,7 +199,8 @@ module _ {kind : Kind} (law : Lawful kind) where
       middle-cut (rank first) (rank start) (kind .past end) (kind .past last) p q real
       ∙ rw (keep-with _ _ _ j (beside-none left), keep-with _ _ _ k (later-too (beside-none right))) (with-app j _ _)
   pieces (some v) {p} {q} {first} {start} {end} {last} real (b-clear h) right =
-      left-clear (rank first) (rank start) p (span (rank start) (kind .past end) v ∷ keep (span (kind .past end) (kind .past last) q) []) (omega arith) ∙ right-side right
+      left-clear (rank first) (rank start) p (span (rank start) (kind .past end) v ∷ keep (span (kind .past end) (kind .past last) q) []) (omega arith)
+      ∙ right-side right
   pieces (some v) {p} {q} {first} {start} {end} {last} real (b-joined h e) right =
       left-joined (span (rank start) (kind .past end) v ∷ keep (span (kind .past end) (kind .past last) q) []) h e (right-side right)
   pieces (some v) {p} {q} {first} {start} {end} {last} real (b-kept h n) right =
@@ -202,7 +208,8 @@ module _ {kind : Kind} (law : Lawful kind) where
 
 -- the spans of the entries that come
 columns-spans : (kind : Kind) (n : ℕ) (x y z : Entry)
-    → spans kind (take n (x .start ∷ y .start ∷ z .start ∷ [])) (take n (x .end ∷ y .end ∷ z .end ∷ [])) (take n (x .value ∷ y .value ∷ z .value ∷ [])) ≡ map (entrySpan kind) (take n (x ∷ y ∷ z ∷ []))
+    → spans kind (take n (x .start ∷ y .start ∷ z .start ∷ [])) (take n (x .end ∷ y .end ∷ z .end ∷ [])) (take n (x .value ∷ y .value ∷ z .value ∷ []))
+    ≡ map (entrySpan kind) (take n (x ∷ y ∷ z ∷ []))
 unfolding spans
 columns-spans kind zero x y z = refl
 columns-spans kind (suc zero) x y z = refl
@@ -210,7 +217,8 @@ columns-spans kind (suc (suc zero)) x y z = refl
 columns-spans kind (suc (suc (suc zero))) x y z = refl
 columns-spans kind (suc (suc (suc (suc n)))) x y z = refl
 
-brings-spans : (kind : Kind) (p : Replacement) {i j n : ℕ} {es : List Entry} → Brings p i j n es → spans kind (newStarts p) (newEnds p) (newValues p) ≡ map (entrySpan kind) es
+brings-spans : (kind : Kind) (p : Replacement) {i j n : ℕ} {es : List Entry} → Brings p i j n es
+    → spans kind (newStarts p) (newEnds p) (newValues p) ≡ map (entrySpan kind) es
 brings-spans kind p b = columns-spans kind (p .n) (p .x) (p .y) (p .z) ∙ ap (map (entrySpan kind)) (b .are)
 
 -- the keys of an entry are i64, and those of a list of entries
@@ -245,16 +253,20 @@ ends-fit-of (x ∷ xs) g zero = g .0 .end-fits
 ends-fit-of (x ∷ xs) g (suc k) = ends-fit-of xs (g .1) k
 
 brings-starts : (p : Replacement) {i j n : ℕ} {es : List Entry} → Brings p i j n es → EntriesFit es → AllFit (newStarts p)
-brings-starts p {es = es} b g = subst AllFit (ap (map (λ (x : Entry). x .start)) (sym (b .are)) ∙ column-of (λ (x : Entry). x .start) (p .n) (p .x) (p .y) (p .z)) (starts-fit-of es g)
+brings-starts p {es = es} b g =
+    subst AllFit (ap (map (λ (x : Entry). x .start)) (sym (b .are)) ∙ column-of (λ (x : Entry). x .start) (p .n) (p .x) (p .y) (p .z)) (starts-fit-of es g)
 
 brings-ends : (p : Replacement) {i j n : ℕ} {es : List Entry} → Brings p i j n es → EntriesFit es → AllFit (newEnds p)
-brings-ends p {es = es} b g = subst AllFit (ap (map (λ (x : Entry). x .end)) (sym (b .are)) ∙ column-of (λ (x : Entry). x .end) (p .n) (p .x) (p .y) (p .z)) (ends-fit-of es g)
+brings-ends p {es = es} b g =
+    subst AllFit (ap (map (λ (x : Entry). x .end)) (sym (b .are)) ∙ column-of (λ (x : Entry). x .end) (p .n) (p .x) (p .y) (p .z)) (ends-fit-of es g)
 
-map-kept : (kind : Kind) (k : Bool) (x : Entry) (xs : List Entry) (y : Span) (ys : List Span) → (k ≡ true → entrySpan kind x ≡ y) → map (entrySpan kind) xs ≡ ys → map (entrySpan kind) (kept k x xs) ≡ with k y ys
+map-kept : (kind : Kind) (k : Bool) (x : Entry) (xs : List Entry) (y : Span) (ys : List Span) → (k ≡ true → entrySpan kind x ≡ y)
+    → map (entrySpan kind) xs ≡ ys → map (entrySpan kind) (kept k x xs) ≡ with k y ys
 map-kept kind true x xs y ys e f = rw (e refl, f)
 map-kept kind false x xs y ys e f = f
 
-map-comes : (kind : Kind) (comes : Bool) (s e : ℤ) (v : ℕ) (xs : List Entry) → map (entrySpan kind) (kept comes (entry s e v) xs) ≡ piece (rank s) (kind .past e) (valueIf comes v) (map (entrySpan kind) xs)
+map-comes : (kind : Kind) (comes : Bool) (s e : ℤ) (v : ℕ) (xs : List Entry)
+    → map (entrySpan kind) (kept comes (entry s e v) xs) ≡ piece (rank s) (kind .past e) (valueIf comes v) (map (entrySpan kind) xs)
 map-comes kind true s e v xs = refl
 map-comes kind false s e v xs = refl
 
@@ -305,7 +317,8 @@ module _ (kind : Kind) (law : Lawful kind) (m : Stored) (sound : Sound kind m) (
       let y = at-place kind law m sound (to - 1) (omega (arith, t .touching .within, len kind law m sound)) in
       let left-part : Span = span (rank first) lo below in
       let right-part : Span = span hi (kind .past last) above in
-      let ns : List Span = with (o .left-kept) left-part (piece (rank (o .start)) (kind .past (o .end)) (asked change) (with (o .right-kept) right-part [])) in
+      let new : List Span → List Span = piece (rank (o .start)) (kind .past (o .end)) (asked change) in
+      let ns : List Span = with (o .left-kept) left-part (new (with (o .right-kept) right-part [])) in
       let cut-left : o .left-kept ≡ true → entrySpan kind (entry first (met .below) below) ≡ left-part =
       λ i. let h = beside-beyond (o .left) i in ap (λ (k : ℕ). span (rank first) k below) (t .cuts-below (omega arith)) in
       let cut-right : o .right-kept ≡ true → entrySpan kind (entry (met .above) last above) ≡ right-part =
@@ -315,5 +328,6 @@ module _ (kind : Kind) (law : Lawful kind) (m : Stored) (sound : Sound kind m) (
       (kept-fit (change .comes) _ _ (record { start-fits = beside-fits (o .left) fs first-fits; end-fits = beside-fits (o .right) fe last-fits })
       (kept-fit (o .right-kept) _ [] (record { start-fits = t .above-fits; end-fits = last-fits }) tt)))
       (map-kept kind (o .left-kept) _ _ left-part _ cut-left
-      (map-comes kind (change .comes) (o .start) (o .end) (change .value) _ ∙ ap (piece (rank (o .start)) (kind .past (o .end)) (asked change)) (map-kept kind (o .right-kept) _ [] right-part [] cut-right refl)))
-      (replaced-some (ranges kind m) lo hi (asked change) from to ns real (good sound .tidy) (t .touching) some-met (rw (x, y) (pieces law (asked change) real (o .left) (o .right))))
+      (map-comes kind (change .comes) (o .start) (o .end) (change .value) _ ∙ ap new (map-kept kind (o .right-kept) _ [] right-part [] cut-right refl)))
+      (replaced-some (ranges kind m) lo hi (asked change) from to ns real (good sound .tidy) (t .touching) some-met
+      (rw (x, y) (pieces law (asked change) real (o .left) (o .right))))

@@ -83,6 +83,8 @@ returns c =
     let f-above : SFits w64 (g .met .above) = sfits-of (met .1 .1 .1 .0 .1) in
     let l = beside-by (less f-first f-start) (rw (toZ-ofZ f-first, toZ-ofZ f-start) at (left .join-or-keep .ensures)) in
     let r = beside-by (less f-end f-last) (rw (toZ-ofZ f-end, toZ-ofZ f-last) at (right .join-or-keep2 .ensures)) in
+    let f-low = beside-fits l f-start f-first in
+    let f-high = beside-fits r f-end f-last in
     record {
       left-kept = left .join-or-keep .result .kept;
       right-kept = right .join-or-keep2 .result .kept;
@@ -90,7 +92,7 @@ returns c =
       end = right .join-or-keep2 .result .key;
       left = l;
       right = r;
-      brings = simp (toZ-ofZ f-first, toZ-ofZ f-last, toZ-ofZ f-below, toZ-ofZ f-above, toZ-ofZ (beside-fits l f-start f-first), toZ-ofZ (beside-fits r f-end f-last)) at (c .bring .ensures);
+      brings = simp (toZ-ofZ f-first, toZ-ofZ f-last, toZ-ofZ f-below, toZ-ofZ f-above, toZ-ofZ f-low, toZ-ofZ f-high) at (c .bring .ensures);
     }
 
 pub plan-over-spec : {M : Type 1} → statement M

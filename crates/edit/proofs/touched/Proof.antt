@@ -5,7 +5,7 @@ use lib.IntN.{pos}
 use mir.Facts.{toZ-ofZ}
 use borrow.Author.Needs.{sfits-of}
 use Rattle.key.specs.Rank.{rank}
-use Rattle.key.specs.Range.{kindOf}
+use Rattle.key.specs.Range.{Kind, kindOf}
 use Rattle.key.proofs.Laws.{rank-back}
 use Rattle.key.proofs.Lawful.{lawful, inclusive-too}
 use Rattle.outcomes.specs.Stored.{Stored, stored}
@@ -39,6 +39,7 @@ returns c =
     let s = entry told in
     let g = s .args in
     let m : Stored = stored (g .count) (g .starts .now) (g .ends .now) (g .values .now) in
+    let kind : Kind = kindOf (g .kind) in
     let law = lawful (g .kind) in
     let least = rw (toZ-ofZ (sfits-of (told .before .struct-told .given .0 .1))) at (below .least-end .ensures) in
     let greatest = rw (toZ-ofZ (sfits-of (told .before .struct-told .given .1 .0 .1))) at (above .greatest-start .ensures) in
@@ -46,7 +47,7 @@ returns c =
     let to = c .begun .ensures in
     let more = reached-after inclusive-too (searched (s .pre .0) law .1) from in
     rw (toZ-ofZ (least .fits), toZ-ofZ (greatest .fits)) (record {
-      touching = touching (kindOf (g .kind)) law m (s .pre .0) (rank (g .change .start)) (kindOf (g .kind) .past (g .change .end)) _ _ (omega arith) (to .from) (to .within)
+      touching = touching kind law m (s .pre .0) (rank (g .change .start)) (kind .past (g .change .end)) _ _ (omega arith) (to .from) (to .within)
           (λ k h. least .short (getD (g .ends .now) k (pos 0)) (omega (arith, simp rank-back at (from .below k h))))
           (λ k h b. least .reaches (getD (g .ends .now) k (pos 0)) (omega (arith, simp rank-back at (more k h b))))
           (λ k h b. greatest .begins (getD (g .starts .now) k (pos 0)) (omega (arith, simp rank-back at (to .before k b h))))
