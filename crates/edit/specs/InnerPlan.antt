@@ -98,7 +98,7 @@ kept false x xs = xs
 
 -- a part put in front, if it is kept
 abbrev pub ahead : Part → List Entry → List Entry
-ahead x xs = kept (x .kept) (x .range) xs
+ahead x xs = kept (x .kept) (entry (x .start) (x .end) (x .value)) xs
 
 -- the entries that come
 abbrev pub coming : Replacement → List Entry

@@ -7,7 +7,6 @@ mod sides;
 use key::RangeKind;
 use key::full;
 use plan::Part;
-use splice::Entry;
 use splice::Replacement;
 use store::search::reaching;
 use store::walk::begun;
@@ -87,27 +86,21 @@ fn plan_over(starts: &[i64], ends: &[i64], values: &[u8], met: Met, change: Chan
         met,
         Part {
             kept: left.kept,
-            range: Entry {
-                start: first,
-                end: below,
-                value: first_value,
-            },
+            start: first,
+            end: below,
+            value: first_value,
         },
         Part {
             kept: change.comes,
-            range: Entry {
-                start: low,
-                end: high,
-                value: change.value,
-            },
+            start: low,
+            end: high,
+            value: change.value,
         },
         Part {
             kept: right.kept,
-            range: Entry {
-                start: above,
-                end: last,
-                value: last_value,
-            },
+            start: above,
+            end: last,
+            value: last_value,
         },
     )
 }
@@ -132,18 +125,18 @@ fn plan_of(
     if from < to {
         return plan_over(starts, ends, values, met, change);
     }
-    let range = Entry {
-        start: start,
-        end: end,
-        value: change.value,
-    };
+    let value = change.value;
     let nothing = Part {
         kept: false,
-        range: range,
+        start: start,
+        end: end,
+        value: value,
     };
     let new = Part {
         kept: change.comes,
-        range: range,
+        start: start,
+        end: end,
+        value: value,
     };
     crate::plan::bring(met, nothing, new, nothing)
 }

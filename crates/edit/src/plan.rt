@@ -13,7 +13,9 @@ ghost use Rattle.edit.specs.InnerPlan.{Brings, coming, ahead, carried, C
 // A range, and whether the plan keeps it.
 pub struct Part {
     pub kept: bool,
-    pub range: Entry,
+    pub start: i64,
+    pub end: i64,
+    pub value: u8,
 }
 
 // A plan by which one more range comes, before the others, if it is kept.
@@ -25,7 +27,11 @@ fn in_front(part: Part, p: Replacement) -> Replacement
     if !kept {
         return p;
     }
-    let new = part.range;
+    let new = Entry {
+        start: part.start,
+        end: part.end,
+        value: part.value,
+    };
     let x = p.x;
     let y = p.y;
     Replacement {
@@ -42,7 +48,11 @@ fn in_front(part: Part, p: Replacement) -> Replacement
 pub fn bring(met: Met, left: Part, new: Part, right: Part) -> Replacement
     ensures { λ r. ⌜ Brings r (met .from) (met .to) 3 (ahead left (ahead new (ahead right []))) ⌝ }
 {
-    let unused = new.range;
+    let unused = Entry {
+        start: 0,
+        end: 0,
+        value: 0,
+    };
     let none = Replacement {
         from: met.from,
         to: met.to,

@@ -29,6 +29,11 @@ pub record Apt (count : ℕ) (p : Replacement) : Type 0 where
   pub within : p .to ≤ count
   pub few : p .n ≤ 3
 
+-- so many places hold the ranges that there are, and those that there are then
+pub record Room (count : ℕ) (p : Replacement) (places : ℕ) : Type 0 where
+  pub held : count ≤ places
+  pub room : newCount count p ≤ places
+
 -- the columns are of one length, hold the count, and are 0 from there on
 pub record Columns (count : ℕ) (starts ends : List ℤ) (values : List ℕ) : Type 0 where
   pub ends-as : length ends ≡ length starts

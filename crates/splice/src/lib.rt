@@ -4,8 +4,8 @@ ghost use mathlib.Core.List.{[], _∷_};
 ghost use Prim.Native.Nat.{_+_, _≤_};
 ghost use lib.ListN.{length, take};
 ghost use lib.IntN.{pos};
-ghost use Rattle.splice.specs.InnerSplice.{moved, cleared, put, Spare, spliced, Room};
-ghost use Rattle.splice.specs.InnerReplace.{Columns, Apt, newCount, newStarts, newEnds, newValues};
+ghost use Rattle.splice.specs.InnerSplice.{moved, cleared, put, Spare, spliced};
+ghost use Rattle.splice.specs.InnerReplace.{Columns, Apt, Room, newStarts, newEnds, newValues};
 
 // A range and its value.
 pub struct Entry {
@@ -91,11 +91,14 @@ fn put_i64(a: &mut [i64], i: usize, k: usize, x: i64, y: i64, z: i64)
     a[i + 2] = z;
 }
 
-// Replaces the places from `from` up to `to` of the first `count` by the first n of x, y and z; those after them move up or down.
-fn splice_i64(a: &mut [i64], from: usize, to: usize, count: usize, n: usize, x: i64, y: i64, z: i64)
-    requires { ⌜ Room (length (now a)) from to count n × Spare (now a) count (pos 0) ⌝ }
-    ensures { λ _. ⌜ now (a .exit) ≡ spliced (now (a .entry)) from to count (take n (x ∷ y ∷ z ∷ [])) (pos 0) ⌝ }
+// Carries a replacement out in one column, in which x, y and z come; the places after those that go move up or down.
+fn splice_i64(a: &mut [i64], count: usize, p: Replacement, x: i64, y: i64, z: i64)
+    requires { ⌜ Apt count p × Room count p (length (now a)) × Spare (now a) count (pos 0) ⌝ }
+    ensures { λ _. ⌜ now (a .exit) ≡ spliced (now (a .entry)) (p .from) (p .to) count (take (p .n) (x ∷ y ∷ z ∷ [])) (pos 0) ⌝ }
 {
+    let from = p.from;
+    let to = p.to;
+    let n = p.n;
     let next = from + n;
     let rest = count - to;
     move_i64(a, to, next, rest);
@@ -170,11 +173,14 @@ fn put_u8(a: &mut [u8], i: usize, k: usize, x: u8, y: u8, z: u8)
     a[i + 2] = z;
 }
 
-// Replaces the places from `from` up to `to` of the first `count` by the first n of x, y and z; those after them move up or down.
-fn splice_u8(a: &mut [u8], from: usize, to: usize, count: usize, n: usize, x: u8, y: u8, z: u8)
-    requires { ⌜ Room (length (now a)) from to count n × Spare (now a) count 0 ⌝ }
-    ensures { λ _. ⌜ now (a .exit) ≡ spliced (now (a .entry)) from to count (take n (x ∷ y ∷ z ∷ [])) 0 ⌝ }
+// Carries a replacement out in one column, in which x, y and z come; the places after those that go move up or down.
+fn splice_u8(a: &mut [u8], count: usize, p: Replacement, x: u8, y: u8, z: u8)
+    requires { ⌜ Apt count p × Room count p (length (now a)) × Spare (now a) count 0 ⌝ }
+    ensures { λ _. ⌜ now (a .exit) ≡ spliced (now (a .entry)) (p .from) (p .to) count (take (p .n) (x ∷ y ∷ z ∷ [])) 0 ⌝ }
 {
+    let from = p.from;
+    let to = p.to;
+    let n = p.n;
     let next = from + n;
     let rest = count - to;
     move_u8(a, to, next, rest);
@@ -184,18 +190,15 @@ fn splice_u8(a: &mut [u8], from: usize, to: usize, count: usize, n: usize, x: u8
 
 // Replaces places in all three columns.
 pub fn splice(count: usize, starts: &mut [i64], ends: &mut [i64], values: &mut [u8], p: Replacement)
-    requires { ⌜ Columns count (now starts) (now ends) (now values) × Apt count p × (newCount count p ≤ length (now starts)) ⌝ }
+    requires { ⌜ Columns count (now starts) (now ends) (now values) × Apt count p × Room count p (length (now starts)) ⌝ }
     ensures { λ _. ⌜ now (starts .exit) ≡ spliced (now (starts .entry)) (p .from) (p .to) count (newStarts p) (pos 0) ⌝ }
     ensures { λ _. ⌜ now (ends .exit) ≡ spliced (now (ends .entry)) (p .from) (p .to) count (newEnds p) (pos 0) ⌝ }
     ensures { λ _. ⌜ now (values .exit) ≡ spliced (now (values .entry)) (p .from) (p .to) count (newValues p) 0 ⌝ }
 {
-    let from = p.from;
-    let to = p.to;
-    let n = p.n;
     let x = p.x;
     let y = p.y;
     let z = p.z;
-    splice_i64(starts, from, to, count, n, x.start, y.start, z.start);
-    splice_i64(ends, from, to, count, n, x.end, y.end, z.end);
-    splice_u8(values, from, to, count, n, x.value, y.value, z.value);
+    splice_i64(starts, count, p, x.start, y.start, z.start);
+    splice_i64(ends, count, p, x.end, y.end, z.end);
+    splice_u8(values, count, p, x.value, y.value, z.value);
 }

@@ -1,7 +1,7 @@
 -- `splice::splice` meets its contract.
 use Prim.Native.Nat.{ℕ}
 use native.Mathlib.Omega.{arith}
-use mathlib.Core.Path.{_≡_, refl}
+use mathlib.Core.Path.{_≡_}
 use mathlib.Core.List.{List, [], _∷_}
 use lib.IntN.{ℤ, pos}
 use lib.ListN.{length, take}
@@ -9,7 +9,8 @@ use mir.Syntax.{w64}
 use mir.Val.{SFits, toZ, ofZ}
 use mir.Facts.{toZ-ofZ}
 use borrow.Author.Needs.{needs, sfits-of}
-use Rattle.splice.specs.InnerSplice.{Room, spliced}
+use Rattle.splice.specs.InnerSplice.{spliced}
+use Rattle.splice.specs.InnerReplace.{Room}
 use Rattle.splice.specs.declared.Replacement.{Replacement}
 use Rattle.splice.proofs.splice.Statement.{statement}
 use Rattle.splice.proofs.splice.Tie as tie
@@ -28,25 +29,21 @@ abbrev values-done : tie.After-slice-known2 → tie.After-splice-u8
 values-done c = c .before .before
 
 -- each column has room for what comes
-room : (s : tie.Start) (len : ℕ) → len ≡ length (s .args .starts .now)
-    → Room len (s .args .p .from) (s .args .p .to) (s .args .count) (s .args .p .n)
-room s len e =
-    let apt = s .pre .1 in
-    let held = s .pre .0 .held in
-    record { ascending = apt .ascending; within = apt .within; held = omega arith; few = apt .few; room = omega (arith, s .pre .2) }
+fits : (s : tie.Start) (len : ℕ) → len ≡ length (s .args .starts .now) → Room (s .args .count) (s .args .p) len
+fits s len e = let cols = s .pre .0 in record { held = omega (arith, cols .held); room = omega (arith, s .pre .2 .room) }
 
 splice-i64-requires : tie.Need-splice-i64-requires
-splice-i64-requires c κs = let s = entry c in (room s _ refl, s .pre .0 .spare-starts)
+splice-i64-requires c κs = let s = entry c in (s .pre .1, s .pre .2, s .pre .0 .spare-starts)
 
 splice-i64-requires-2 : tie.Need-splice-i64-requires-2
 splice-i64-requires-2 c κs =
     let s = entry (starts-done c .before) in
-    (room s _ (s .pre .0 .ends-as), s .pre .0 .spare-ends)
+    (s .pre .1, fits s _ (s .pre .0 .ends-as), s .pre .0 .spare-ends)
 
 splice-u8-requires : tie.Need-splice-u8-requires
 splice-u8-requires c κs =
     let s = entry (starts-done (ends-done c .before) .before) in
-    (room s _ (s .pre .0 .values-as), s .pre .0 .spare-values)
+    (s .pre .1, fits s _ (s .pre .0 .values-as), s .pre .0 .spare-values)
 
 same-length : tie.Need-same-length
 same-length c = search needs

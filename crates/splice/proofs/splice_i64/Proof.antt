@@ -51,10 +51,12 @@ returns c =
     let m = moved p in
     let s = entry m in
     let g = s .args in
-    let r = s .pre .0 in
+    let q = g .p in
+    let apt = s .pre .0 in
     let vs : List ℤ = g .x ∷ g .y ∷ g .z ∷ [] in
-    let k = length-take-le (g .n) vs (omega arith) in
-    splice-done (g .a .now) (g .from) (g .to) (g .count) (take (g .n) vs) (pos 0) (r .ascending) (r .within) (r .held) (omega arith) (s .pre .1) (g .n) k
+    let k = length-take-le (q .n) vs (apt .few) in
+    splice-done (g .a .now) (q .from) (q .to) (g .count) (take (q .n) vs) (pos 0) (apt .ascending) (apt .within)
+    (s .pre .1 .held) (omega (arith, s .pre .1 .room)) (s .pre .2) (q .n) k
     (m .move-i64 .ensures)
     (rw (toZ-ofZ (s .fits .x), toZ-ofZ (s .fits .y), toZ-ofZ (s .fits .z)) at (p .put-i64 .ensures))
     (e .clear-i64 .ensures)

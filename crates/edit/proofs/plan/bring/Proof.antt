@@ -18,7 +18,7 @@ returns : tie.Need-returns
 returns c =
     let two = c .before in
     let one = two .before in
-    let g = one .before .before .args in
+    let g = one .before .args in
     let x = one .in-front .ensures in
     let y = two .in-front2 .ensures in
     let z = c .in-front3 .ensures in

@@ -35,7 +35,7 @@ returns c = let s = entry (c .before) in no-room (lent-map s) (s .args .p) (c .i
 splice-requires : tie.Need-splice-requires
 splice-requires c κs =
     let s = entry (roomy c .before) in
-    (s .pre .0, s .pre .1, omega arith)
+    (s .pre .0, s .pre .1, record { held = s .pre .0 .held; room = omega arith })
 
 same-length : tie.Need-same-length
 same-length c = search needs
