@@ -21,11 +21,16 @@ module _ {kind : Kind} (law : Lawful kind) where
   pub cut-right : (end last : ℤ) → rank end < rank last → kind .past end < keys
   cut-right end last h = omega (arith, law .later end last h, law .ends-within last, law .limit-keys)
 
-  pub least-end : {start r : ℤ} → kind .past r ≡ rank start → LeastEnd kind start r
-  least-end {start} {r} p = record { short = λ e h. omega (arith, law .later e r h); reaches = λ e h. omega (arith, law .no-later r e h) }
+  pub least-end : {start r : ℤ} → kind .past r ≡ rank start → SFits w64 r → LeastEnd kind start r
+  least-end {start} {r} p f = record {
+    short = λ e h. omega (arith, law .later e r h);
+    reaches = λ e h. omega (arith, law .no-later r e h);
+    cuts = λ _. p;
+    fits = f;
+  }
 
-  pub greatest-start : {end r : ℤ} → rank r ≡ kind .past end → GreatestStart kind end r
-  greatest-start p = record { begins = λ s h. omega arith; off = λ s h. omega arith }
+  pub greatest-start : {end r : ℤ} → rank r ≡ kind .past end → SFits w64 r → GreatestStart kind end r
+  greatest-start p f = record { begins = λ s h. omega arith; off = λ s h. omega arith; cuts = λ _. p; fits = f }
 
 -- one more in front of two at most
 pub one-more : {A : Type 0} (n : ℕ) (w x y z : A) → n ≤ 2 → take (n + 1) (w ∷ x ∷ y ∷ []) ≡ w ∷ take n (x ∷ y ∷ z ∷ [])

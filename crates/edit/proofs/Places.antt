@@ -15,7 +15,7 @@ use Rattle.key.proofs.Lawful.{Lawful}
 use Rattle.outcomes.specs.Stored.{Stored, ranges, Sound}
 use Rattle.outcomes.proofs.Formed.{shape, good, length-ranges, getD-ranges}
 use Rattle.splice.specs.InnerSplice.{Spare}
-use Rattle.edit.specs.InnerPlan.{nowhere, Touching, Columns}
+use Rattle.edit.specs.InnerPlan.{nowhere, Touching, ColumnsOf}
 
 -- what holds nothing from a place on is filled up with nothing there
 spare-of : {A : Type 0} (l : List A) (count : ℕ) (z : A) → ((k : ℕ) → count ≤ k → getD l k z ≡ z) → Spare l count z
@@ -70,7 +70,7 @@ module _ (kind : Kind) (law : Lawful kind) (m : Stored) (sound : Sound kind m) w
         ];
   }
 
-  pub columns : Columns m
+  pub columns : ColumnsOf m
   columns = record {
     ends-as = sound .ends-as;
     values-as = sound .values-as;

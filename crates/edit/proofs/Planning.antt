@@ -21,11 +21,16 @@ use Rattle.key.specs.Range.{Kind, rangeOf}
 use Rattle.key.specs.InnerDecides.{Decides}
 use Rattle.key.proofs.Answers.{never, holds, fails, not-full}
 use Rattle.key.proofs.Lawful.{Lawful}
+use Rattle.splice.specs.InnerReplace.{newStarts, newEnds, newValues}
 use Rattle.splice.specs.declared.Entry.{Entry}
+use Rattle.splice.specs.declared.Replacement.{Replacement}
 use Rattle.outcomes.specs.Stored.{Stored, spans, ranges, AllFit, Sound}
-use Rattle.edit.specs.declared.Replacement.{Replacement}
-use Rattle.edit.specs.InnerPlan.{nowhere, Touching, newStarts, newEnds, newValues, kept, Brings, Planned, asked, LeftSide, l-clear, l-joined, l-kept, RightSide, r-clear, r-joined, r-kept}
 use Rattle.outcomes.proofs.Formed.{good}
+use Rattle.edit.specs.declared.Change.{Change}
+use Rattle.edit.specs.declared.Met.{Met}
+use Rattle.edit.specs.InnerPlan.{HasKey, valueIf, asked, nowhere, Touching, Meets, Beside, b-clear, b-joined, b-kept}
+use Rattle.edit.specs.InnerPlan.{entry, kept, Brings, Overlaid, Planned}
+use Rattle.edit.proofs.Cuts.{cut-right}
 use Rattle.edit.proofs.Places.{len, at-place}
 
 -- a list, cut at two places
@@ -37,7 +42,8 @@ halves (suc n) (x ∷ xs) = rw (← halves n xs)
 thirds : {A : Type 0} (i j : ℕ) (l : List A) → i ≤ j → l ≡ take i l ++ (take (j - i) (drop i l) ++ drop j l)
 thirds i j l h =
     let e : i + (j - i) ≡ j = omega arith in
-    halves i l ∙ ap (λ (r : List _). take i l ++ r) (halves (j - i) (drop i l) ∙ ap (λ (r : List _). take (j - i) (drop i l) ++ r) (drop-drop (j - i) i l ∙ ap (λ (k : ℕ). drop k l) e))
+    let last = drop-drop (j - i) i l ∙ ap (λ (k : ℕ). drop k l) e in
+    halves i l ∙ ap (λ (r : List _). take i l ++ r) (halves (j - i) (drop i l) ∙ ap (λ (r : List _). take (j - i) (drop i l) ++ r) last)
 
 ends-before : (c : ℕ) (l : List Span) → ((k : ℕ) → k < length l → getD l k nowhere .hi < c) → EndsBefore c l
 ends-before c [] h = tt
@@ -115,12 +121,11 @@ module _ (xs : List Span) (lo hi : ℕ) (new : Option ℕ) (from to : ℕ) (ns :
     ordered-met : Ordered 0 (x ∷ take (to - from - 1) (drop (suc from) xs))
     ordered-met = subst (Ordered 0) first-met (ordered-left 0 ms rs (ordered-right 0 ls (ms ++ rs) (cut-tidy .ordered)))
 
-    pub replaced-some : joined (keep (span (x .lo) lo (x .label)) [] ++ piece lo hi new (keep (span hi (y .hi) (y .label)) [])) ≡ ns → ls ++ (ns ++ rs) ≡ given lo hi new xs
+    pub replaced-some : joined (keep (span (x .lo) lo (x .label)) [] ++ piece lo hi new (keep (span hi (y .hi) (y .label)) [])) ≡ ns
+        → ls ++ (ns ++ rs) ≡ given lo hi new xs
     replaced-some p = replaced (ap (given lo hi new) first-met
-        ∙ middle lo hi 0 new x _ (take (to - from - 1) (drop from xs)) y (sym first-met ∙ last-met) ordered-met (t .reach from (omega arith) (omega (arith, t .within))) (t .begun (to - 1) (omega arith)) ∙ p)
-
-abbrev entry : ℤ → ℤ → ℕ → Entry
-entry s e v = record { start = s; end = e; value = v }
+        ∙ middle lo hi 0 new x _ (take (to - from - 1) (drop from xs)) y (sym first-met ∙ last-met) ordered-met
+        (t .reach from (omega arith) (omega (arith, t .within))) (t .begun (to - 1) (omega arith)) ∙ p)
 
 -- the span of an entry
 abbrev entrySpan : Kind → Entry → Span
@@ -141,57 +146,70 @@ unfolding keep
 keep-with a b p true d = rw (lt-ltb a b (d .right refl))
 keep-with a b p false d = rw (le-ltb a b (not-full d refl))
 
--- THE SIDES: on the left of the new range the first span that is met begins at `first` with the label p, on its right the last ends with `last` and the label q
+-- THE SIDES: what becomes of an old range on a side of the new one
+
+-- a test in the code decides whether the old range goes beyond
+pub beside-by : {b : Bool} {Beyond : Type 0} {p : ℕ} {new : Option ℕ} {own far key : ℤ} {k : Bool}
+    → Decides b Beyond → Beside (b ≡ true) p new own far k key → Beside Beyond p new own far k key
+beside-by {b} d (b-clear h) = b-clear (d .wrong (not-so b h))
+  where
+    not-so : (b : Bool) → (b ≡ true → ⊥) → b ≡ false
+    not-so true h = absurd (h refl)
+    not-so false h = refl
+beside-by d (b-joined h e) = b-joined (d .right h) e
+beside-by d (b-kept h n) = b-kept (d .right h) n
+
+-- where no value comes, what goes beyond is kept
+beside-none : {Beyond : Type 0} {p : ℕ} {own far key : ℤ} {k : Bool} → Beside Beyond p none own far k key → Decides k Beyond
+beside-none (b-clear h) = fails h
+beside-none (b-joined h e) = absurd e
+beside-none (b-kept h n) = holds h
+
+-- the new range's key is an i64
+pub beside-fits : {Beyond : Type 0} {p : ℕ} {new : Option ℕ} {own far key : ℤ} {k : Bool}
+    → Beside Beyond p new own far k key → SFits w64 own → SFits w64 far → SFits w64 key
+beside-fits (b-clear h) f g = f
+beside-fits (b-joined h e) f g = g
+beside-fits (b-kept h n) f g = f
+
+-- only what goes beyond is kept
+beside-beyond : {Beyond : Type 0} {p : ℕ} {new : Option ℕ} {own far key : ℤ} {k : Bool} → Beside Beyond p new own far k key → k ≡ true → Beyond
+beside-beyond (b-clear h) t = never t
+beside-beyond (b-joined h e) t = never t
+beside-beyond (b-kept h n) t = h
+
+-- on the left of the new range the first span that is met begins at `first` with the label p, on its right the last ends with `last` and the label q
 module _ {kind : Kind} (law : Lawful kind) where
-  left-decides : {first start cut key : ℤ} {p : ℕ} {j : Bool} → LeftSide kind first start p none j cut key → Decides j (rank first < rank start)
-  left-decides (l-clear h) = fails (λ w. omega arith)
-  left-decides (l-joined h e) = absurd e
-  left-decides (l-kept h n c f) = holds h
+  later-too : {end last : ℤ} {k : Bool} → Decides k (rank end < rank last) → Decides k (kind .past end < kind .past last)
+  later-too {end} {last} {k = true} d = holds (law .later end last (d .right refl))
+  later-too {end} {last} {k = false} d = fails (λ w. omega (arith, law .no-later last end (not-full d refl)))
 
-  right-decides : {end last cut key : ℤ} {q : ℕ} {k : Bool} → RightSide kind end last q none k cut key → Decides k (kind .past end < kind .past last)
-  right-decides {end} {last} (r-clear h) = fails (λ w. omega (arith, law .no-later last end h))
-  right-decides (r-joined h e) = absurd e
-  right-decides {end} {last} (r-kept h n c f) = holds (law .later end last h)
+  right-side : {lo v q : ℕ} {end last key : ℤ} {k : Bool} → Beside (rank end < rank last) q (some v) end last k key
+      → joined (span lo (kind .past end) v ∷ keep (span (kind .past end) (kind .past last) q) [])
+      ≡ span lo (kind .past key) v ∷ with k (span (kind .past end) (kind .past last) q) []
+  right-side {lo} {v} {q} {end} {last} (b-clear h) = right-clear lo (kind .past end) (kind .past last) v q (law .no-later last end (omega arith))
+  right-side {lo} {v} {q} {end} {last} (b-joined h e) = right-joined lo (kind .past end) (kind .past last) v q (law .later end last h) (sym e)
+  right-side {lo} {v} {q} {end} {last} (b-kept h n) = right-kept lo (kind .past end) (kind .past last) v q (law .later end last h) (λ e. n (sym e))
 
-  right-side : {lo v q : ℕ} {end last cut key : ℤ} {k : Bool} → RightSide kind end last q (some v) k cut key
-      → joined (span lo (kind .past end) v ∷ keep (span (kind .past end) (kind .past last) q) []) ≡ span lo (kind .past key) v ∷ with k (span (kind .past end) (kind .past last) q) []
-  right-side {lo} {v} {q} {end} {last} (r-clear h) = right-clear lo (kind .past end) (kind .past last) v q (law .no-later last end h)
-  right-side {lo} {v} {q} {end} {last} (r-joined h e) = right-joined lo (kind .past end) (kind .past last) v q (law .later end last h) (sym e)
-  right-side {lo} {v} {q} {end} {last} (r-kept h n c f) = right-kept lo (kind .past end) (kind .past last) v q (law .later end last h) (λ e. n (sym e))
-
-  pieces : (new : Option ℕ) {p q : ℕ} {first start end last c s d e : ℤ} {j k : Bool} → rank start < kind .past end → LeftSide kind first start p new j c s → RightSide kind end last q new k d e
+  pieces : (new : Option ℕ) {p q : ℕ} {first start end last s e : ℤ} {j k : Bool} → rank start < kind .past end
+      → Beside (rank first < rank start) p new start first j s → Beside (rank end < rank last) q new end last k e
       → joined (keep (span (rank first) (rank start) p) [] ++ piece (rank start) (kind .past end) new (keep (span (kind .past end) (kind .past last) q) []))
       ≡ with j (span (rank first) (rank start) p) (piece (rank s) (kind .past e) new (with k (span (kind .past end) (kind .past last) q) []))
   pieces none {p} {q} {first} {start} {end} {last} {j = j} {k = k} real left right =
-      middle-cut (rank first) (rank start) (kind .past end) (kind .past last) p q real ∙ rw (keep-with _ _ _ j (left-decides left), keep-with _ _ _ k (right-decides right)) (with-app j _ _)
-  pieces (some v) {p} {q} {first} {start} {end} {last} real (l-clear h) right = left-clear (rank first) (rank start) p (span (rank start) (kind .past end) v ∷ keep (span (kind .past end) (kind .past last) q) []) h ∙ right-side right
-  pieces (some v) {p} {q} {first} {start} {end} {last} real (l-joined h e) right = left-joined (span (rank start) (kind .past end) v ∷ keep (span (kind .past end) (kind .past last) q) []) h e (right-side right)
-  pieces (some v) {p} {q} {first} {start} {end} {last} real (l-kept h n c f) right = left-kept (span (rank start) (kind .past end) v ∷ keep (span (kind .past end) (kind .past last) q) []) h n (right-side right)
-
--- the cut and the new range's key are i64; what is kept is kept up to the cut
-pub left-fits : {kind : Kind} {first start cut key : ℤ} {p : ℕ} {new : Option ℕ} {k : Bool} → LeftSide kind first start p new k cut key → SFits w64 first → SFits w64 start → SFits w64 cut × SFits w64 key
-left-fits (l-clear h) f g = (g, g)
-left-fits (l-joined h e) f g = (g, f)
-left-fits (l-kept h n c i) f g = (i, g)
-
-left-cut : {kind : Kind} {first start cut key : ℤ} {p : ℕ} {new : Option ℕ} {k : Bool} → LeftSide kind first start p new k cut key → k ≡ true → kind .past cut ≡ rank start
-left-cut (l-clear h) t = never t
-left-cut (l-joined h e) t = never t
-left-cut (l-kept h n c i) t = c
-
-pub right-fits : {kind : Kind} {end last cut key : ℤ} {q : ℕ} {new : Option ℕ} {k : Bool} → RightSide kind end last q new k cut key → SFits w64 end → SFits w64 last → SFits w64 cut × SFits w64 key
-right-fits (r-clear h) f g = (f, f)
-right-fits (r-joined h e) f g = (f, g)
-right-fits (r-kept h n c i) f g = (i, f)
-
-right-cut : {kind : Kind} {end last cut key : ℤ} {q : ℕ} {new : Option ℕ} {k : Bool} → RightSide kind end last q new k cut key → k ≡ true → rank cut ≡ kind .past end
-right-cut (r-clear h) t = never t
-right-cut (r-joined h e) t = never t
-right-cut (r-kept h n c i) t = c
+      middle-cut (rank first) (rank start) (kind .past end) (kind .past last) p q real
+      ∙ rw (keep-with _ _ _ j (beside-none left), keep-with _ _ _ k (later-too (beside-none right))) (with-app j _ _)
+  pieces (some v) {p} {q} {first} {start} {end} {last} real (b-clear h) right =
+      left-clear (rank first) (rank start) p (span (rank start) (kind .past end) v ∷ keep (span (kind .past end) (kind .past last) q) []) (omega arith)
+      ∙ right-side right
+  pieces (some v) {p} {q} {first} {start} {end} {last} real (b-joined h e) right =
+      left-joined (span (rank start) (kind .past end) v ∷ keep (span (kind .past end) (kind .past last) q) []) h e (right-side right)
+  pieces (some v) {p} {q} {first} {start} {end} {last} real (b-kept h n) right =
+      left-kept (span (rank start) (kind .past end) v ∷ keep (span (kind .past end) (kind .past last) q) []) h n (right-side right)
 
 -- the spans of the entries that come
 columns-spans : (kind : Kind) (n : ℕ) (x y z : Entry)
-    → spans kind (take n (x .start ∷ y .start ∷ z .start ∷ [])) (take n (x .end ∷ y .end ∷ z .end ∷ [])) (take n (x .value ∷ y .value ∷ z .value ∷ [])) ≡ map (entrySpan kind) (take n (x ∷ y ∷ z ∷ []))
+    → spans kind (take n (x .start ∷ y .start ∷ z .start ∷ [])) (take n (x .end ∷ y .end ∷ z .end ∷ [])) (take n (x .value ∷ y .value ∷ z .value ∷ []))
+    ≡ map (entrySpan kind) (take n (x ∷ y ∷ z ∷ []))
 unfolding spans
 columns-spans kind zero x y z = refl
 columns-spans kind (suc zero) x y z = refl
@@ -199,7 +217,8 @@ columns-spans kind (suc (suc zero)) x y z = refl
 columns-spans kind (suc (suc (suc zero))) x y z = refl
 columns-spans kind (suc (suc (suc (suc n)))) x y z = refl
 
-brings-spans : (kind : Kind) (p : Replacement) {i j n : ℕ} {es : List Entry} → Brings p i j n es → spans kind (newStarts p) (newEnds p) (newValues p) ≡ map (entrySpan kind) es
+brings-spans : (kind : Kind) (p : Replacement) {i j n : ℕ} {es : List Entry} → Brings p i j n es
+    → spans kind (newStarts p) (newEnds p) (newValues p) ≡ map (entrySpan kind) es
 brings-spans kind p b = columns-spans kind (p .n) (p .x) (p .y) (p .z) ∙ ap (map (entrySpan kind)) (b .are)
 
 -- the keys of an entry are i64, and those of a list of entries
@@ -234,59 +253,81 @@ ends-fit-of (x ∷ xs) g zero = g .0 .end-fits
 ends-fit-of (x ∷ xs) g (suc k) = ends-fit-of xs (g .1) k
 
 brings-starts : (p : Replacement) {i j n : ℕ} {es : List Entry} → Brings p i j n es → EntriesFit es → AllFit (newStarts p)
-brings-starts p {es = es} b g = subst AllFit (ap (map (λ (x : Entry). x .start)) (sym (b .are)) ∙ column-of (λ (x : Entry). x .start) (p .n) (p .x) (p .y) (p .z)) (starts-fit-of es g)
+brings-starts p {es = es} b g =
+    subst AllFit (ap (map (λ (x : Entry). x .start)) (sym (b .are)) ∙ column-of (λ (x : Entry). x .start) (p .n) (p .x) (p .y) (p .z)) (starts-fit-of es g)
 
 brings-ends : (p : Replacement) {i j n : ℕ} {es : List Entry} → Brings p i j n es → EntriesFit es → AllFit (newEnds p)
-brings-ends p {es = es} b g = subst AllFit (ap (map (λ (x : Entry). x .end)) (sym (b .are)) ∙ column-of (λ (x : Entry). x .end) (p .n) (p .x) (p .y) (p .z)) (ends-fit-of es g)
+brings-ends p {es = es} b g =
+    subst AllFit (ap (map (λ (x : Entry). x .end)) (sym (b .are)) ∙ column-of (λ (x : Entry). x .end) (p .n) (p .x) (p .y) (p .z)) (ends-fit-of es g)
 
-map-kept : (kind : Kind) (k : Bool) (x : Entry) (xs : List Entry) (y : Span) (ys : List Span) → (k ≡ true → entrySpan kind x ≡ y) → map (entrySpan kind) xs ≡ ys → map (entrySpan kind) (kept k x xs) ≡ with k y ys
+map-kept : (kind : Kind) (k : Bool) (x : Entry) (xs : List Entry) (y : Span) (ys : List Span) → (k ≡ true → entrySpan kind x ≡ y)
+    → map (entrySpan kind) xs ≡ ys → map (entrySpan kind) (kept k x xs) ≡ with k y ys
 map-kept kind true x xs y ys e f = rw (e refl, f)
 map-kept kind false x xs y ys e f = f
 
-map-comes : (kind : Kind) (comes : Bool) (s e : ℤ) (v : ℕ) (xs : List Entry) → map (entrySpan kind) (kept comes (entry s e v) xs) ≡ piece (rank s) (kind .past e) (asked comes v) (map (entrySpan kind) xs)
+map-comes : (kind : Kind) (comes : Bool) (s e : ℤ) (v : ℕ) (xs : List Entry)
+    → map (entrySpan kind) (kept comes (entry s e v) xs) ≡ piece (rank s) (kind .past e) (valueIf comes v) (map (entrySpan kind) xs)
 map-comes kind true s e v xs = refl
 map-comes kind false s e v xs = refl
 
 -- RIGHT PLANS of a sound map, of either kind
-module _ (kind : Kind) (law : Lawful kind) (m : Stored) (sound : Sound kind m) (start end : ℤ) (comes : Bool) (v : ℕ) (real : rank start < kind .past end) (fs : SFits w64 start) (fe : SFits w64 end) {from to : ℕ}
-    (t : Touching (ranges kind m) (rank start) (kind .past end) from to) (p : Replacement) where
-  abbrev first : ℤ
-  first = getD (m .starts) from (pos 0)
+module _ (kind : Kind) (law : Lawful kind) (m : Stored) (sound : Sound kind m) (change : Change) (real : HasKey kind change)
+    (fs : SFits w64 (change .start)) (fe : SFits w64 (change .end)) {met : Met} (t : Meets kind m change met) (p : Replacement) where
+  abbrev lo : ℕ
+  lo = rank (change .start)
 
-  abbrev last : ℤ
-  last = getD (m .ends) (to - 1) (pos 0)
+  abbrev hi : ℕ
+  hi = kind .past (change .end)
 
-  abbrev below : ℕ
-  below = getD (m .values) from 0
+  abbrev from : ℕ
+  from = met .from
 
-  abbrev above : ℕ
-  above = getD (m .values) (to - 1) 0
+  abbrev to : ℕ
+  to = met .to
 
   planned : {es : List Entry} {ns : List Span} → Brings p from to 3 es → EntriesFit es → map (entrySpan kind) es ≡ ns
-      → take from (ranges kind m) ++ (ns ++ drop to (ranges kind m)) ≡ given (rank start) (kind .past end) (asked comes v) (ranges kind m) → Planned kind m (rank start) (kind .past end) (asked comes v) p
+      → take from (ranges kind m) ++ (ns ++ drop to (ranges kind m)) ≡ given lo hi (asked change) (ranges kind m) → Planned kind m change p
   planned b g e r = record {
-    apt = record { ascending = omega (arith, b .from-is, b .to-is, t .ascending); within = omega (arith, b .to-is, t .within, len kind law m sound); few = b .few };
+    apt = record {
+      ascending = omega (arith, b .from-is, b .to-is, t .touching .ascending);
+      within = omega (arith, b .to-is, t .touching .within, len kind law m sound);
+      few = b .few;
+    };
     starts-fit = brings-starts p b g;
     ends-fit = brings-ends p b g;
     right = rw (b .from-is, b .to-is, brings-spans kind p b, e) r;
   }
 
   -- nothing is met: the new range comes, or nothing
-  pub planned-alone : from ≡ to → Brings p from to 3 (kept comes (entry start end v) []) → Planned kind m (rank start) (kind .past end) (asked comes v) p
-  planned-alone e b = planned b (kept-fit comes _ [] (record { start-fits = fs; end-fits = fe }) tt) (map-comes kind comes start end v [])
-      (replaced-none (ranges kind m) (rank start) (kind .past end) (asked comes v) from to _ real (good sound .tidy) t e refl)
+  pub planned-alone : from ≡ to → Brings p from to 3 (kept (change .comes) (entry (change .start) (change .end) (change .value)) []) → Planned kind m change p
+  planned-alone e b = planned b (kept-fit (change .comes) _ [] (record { start-fits = fs; end-fits = fe }) tt)
+      (map-comes kind (change .comes) (change .start) (change .end) (change .value) [])
+      (replaced-none (ranges kind m) lo hi (asked change) from to _ real (good sound .tidy) (t .touching) e refl)
 
   -- something is: the new range comes, or nothing, between what is kept
-  pub planned-over : {j k : Bool} {c s d e : ℤ} → from < to → LeftSide kind first start below (asked comes v) j c s → RightSide kind end last above (asked comes v) k d e
-      → Brings p from to 3 (kept j (entry first c below) (kept comes (entry s e v) (kept k (entry d last above) []))) → Planned kind m (rank start) (kind .past end) (asked comes v) p
-  planned-over {j} {k} {c} {s} {d} {e} met l r b =
-      let lf = left-fits l (sound .starts-fit from) fs in
-      let rf = right-fits r fe (sound .ends-fit (to - 1)) in
-      let x = at-place kind law m sound from (omega (arith, t .within, len kind law m sound)) in
-      let y = at-place kind law m sound (to - 1) (omega (arith, t .within, len kind law m sound)) in
-      let ns : List Span = with j (span (rank first) (rank start) below) (piece (rank s) (kind .past e) (asked comes v) (with k (span (kind .past end) (kind .past last) above) [])) in
-      planned {ns = ns} b
-      (kept-fit j _ _ (record { start-fits = sound .starts-fit from; end-fits = lf .0 }) (kept-fit comes _ _ (record { start-fits = lf .1; end-fits = rf .1 }) (kept-fit k _ [] (record { start-fits = rf .0; end-fits = sound .ends-fit (to - 1) }) tt)))
-      (map-kept kind j _ _ (span (rank first) (rank start) below) _ (λ i. ap (λ (h : ℕ). span (rank first) h below) (left-cut l i))
-      (map-comes kind comes s e v _ ∙ ap (piece (rank s) (kind .past e) (asked comes v)) (map-kept kind k _ [] (span (kind .past end) (kind .past last) above) [] (λ i. ap (λ (h : ℕ). span h (kind .past last) above) (right-cut r i)) refl)))
-      (replaced-some (ranges kind m) (rank start) (kind .past end) (asked comes v) from to ns real (good sound .tidy) t met (rw (x, y) (pieces law (asked comes v) real l r)))
+  pub planned-over : from < to → Overlaid (m .starts) (m .ends) (m .values) met change p → Planned kind m change p
+  planned-over some-met o =
+      let first : ℤ = getD (m .starts) from (pos 0) in
+      let last : ℤ = getD (m .ends) (to - 1) (pos 0) in
+      let below : ℕ = getD (m .values) from 0 in
+      let above : ℕ = getD (m .values) (to - 1) 0 in
+      let first-fits = sound .starts-fit from in
+      let last-fits = sound .ends-fit (to - 1) in
+      let x = at-place kind law m sound from (omega (arith, t .touching .within, len kind law m sound)) in
+      let y = at-place kind law m sound (to - 1) (omega (arith, t .touching .within, len kind law m sound)) in
+      let left-part : Span = span (rank first) lo below in
+      let right-part : Span = span hi (kind .past last) above in
+      let new : List Span → List Span = piece (rank (o .start)) (kind .past (o .end)) (asked change) in
+      let ns : List Span = with (o .left-kept) left-part (new (with (o .right-kept) right-part [])) in
+      let cut-left : o .left-kept ≡ true → entrySpan kind (entry first (met .below) below) ≡ left-part =
+      λ i. let h = beside-beyond (o .left) i in ap (λ (k : ℕ). span (rank first) k below) (t .cuts-below (omega arith)) in
+      let cut-right : o .right-kept ≡ true → entrySpan kind (entry (met .above) last above) ≡ right-part =
+      λ i. ap (λ (k : ℕ). span k (kind .past last) above) (t .cuts-above (cut-right law (change .end) last (beside-beyond (o .right) i))) in
+      planned {ns = ns} (o .brings)
+      (kept-fit (o .left-kept) _ _ (record { start-fits = first-fits; end-fits = t .below-fits })
+      (kept-fit (change .comes) _ _ (record { start-fits = beside-fits (o .left) fs first-fits; end-fits = beside-fits (o .right) fe last-fits })
+      (kept-fit (o .right-kept) _ [] (record { start-fits = t .above-fits; end-fits = last-fits }) tt)))
+      (map-kept kind (o .left-kept) _ _ left-part _ cut-left
+      (map-comes kind (change .comes) (o .start) (o .end) (change .value) _ ∙ ap new (map-kept kind (o .right-kept) _ [] right-part [] cut-right refl)))
+      (replaced-some (ranges kind m) lo hi (asked change) from to ns real (good sound .tidy) (t .touching) some-met
+      (rw (x, y) (pieces law (asked change) real (o .left) (o .right))))

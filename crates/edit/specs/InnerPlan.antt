@@ -1,5 +1,5 @@
--- A plan says which places an edit replaces, and by what. These definitions serve the proofs of insert and remove; what those promise is in `outcomes`.
-use Prim.Native.Nat.{ℕ, _+_, _-_, _≤_, _<_}
+-- A plan says which places a change replaces, and by what. These definitions serve the proofs of insert and remove; what those promise is in `outcomes`.
+use Prim.Native.Nat.{ℕ, _-_, _≤_, _<_}
 use mathlib.Core.Path.{_≡_}
 use mathlib.Core.Bool.{Bool, true, false, cond}
 use mathlib.Core.List.{List, [], _∷_, _++_}
@@ -10,58 +10,39 @@ use lib.IntN.{ℤ, pos}
 use mir.Syntax.{w64}
 use mir.Val.{SFits}
 use Rattle.span.specs.Span.{Span, span, given}
-use Rattle.key.specs.Rank.{rank}
+use Rattle.key.specs.Rank.{rank, keys}
 use Rattle.key.specs.Range.{Kind}
-use Rattle.splice.specs.InnerSplice.{Spare, spliced}
+use Rattle.splice.specs.InnerSplice.{spliced}
+use Rattle.splice.specs.InnerReplace.{newStarts, newEnds, newValues, newCount, Apt, Columns}
+use Rattle.splice.specs.declared.Entry.{Entry}
+use Rattle.splice.specs.declared.Replacement.{Replacement}
 use Rattle.outcomes.specs.Stored.{Stored, stored, spans, ranges, AllFit}
 use Rattle.outcomes.specs.Outcomes.{Edited, leaving}
-use Rattle.splice.specs.declared.Entry.{Entry}
-use Rattle.edit.specs.declared.Replacement.{Replacement}
+use Rattle.edit.specs.declared.Change.{Change}
+use Rattle.edit.specs.declared.Met.{Met}
+use Rattle.edit.specs.declared.plan.Part.{Part}
 
--- the starts, ends and values that come
-abbrev pub newStarts : Replacement → List ℤ
-newStarts p = take (p .n) (p .x .start ∷ p .y .start ∷ p .z .start ∷ [])
+-- A CHANGE
 
-abbrev pub newEnds : Replacement → List ℤ
-newEnds p = take (p .n) (p .x .end ∷ p .y .end ∷ p .z .end ∷ [])
+-- its range has a key: it is neither empty nor reversed
+abbrev pub HasKey : Kind → Change → Type 0
+HasKey kind change = rank (change .start) < kind .past (change .end)
 
-abbrev pub newValues : Replacement → List ℕ
-newValues p = take (p .n) (p .x .value ∷ p .y .value ∷ p .z .value ∷ [])
+-- a value that comes, or none
+abbrev pub valueIf : Bool → ℕ → Option ℕ
+valueIf true v = some v
+valueIf false v = none
 
--- how many ranges there are then
-abbrev pub newCount : Stored → Replacement → ℕ
-newCount m p = p .from + p .n + (m .count - p .to)
+-- what a change gives: a value, or none
+abbrev pub asked : Change → Option ℕ
+asked change = valueIf (change .comes) (change .value)
 
--- the map in which the places are replaced, or 2 where it has too few
-unfoldable pub carried : Stored → Replacement → Edited
-carried m p =
-    cond (ltb (length (m .starts)) (newCount m p)) (leaving 2 m)
-    (leaving 0 (stored (newCount m p)
-    (spliced (m .starts) (p .from) (p .to) (m .count) (newStarts p) (pos 0))
-    (spliced (m .ends) (p .from) (p .to) (m .count) (newEnds p) (pos 0))
-    (spliced (m .values) (p .from) (p .to) (m .count) (newValues p) 0)))
+-- it is the value that a range has
+abbrev pub Same : ℕ → Option ℕ → Type 0
+Same p (some v) = p ≡ v
+Same p none = ⊥
 
--- the plan is of places that the map holds, and brings three ranges at most
-pub record Apt (m : Stored) (p : Replacement) : Type 0 where
-  pub ascending : p .from ≤ p .to
-  pub within : p .to ≤ m .count
-  pub few : p .n ≤ 3
-
--- the columns of a map are of one length, hold the count, and are 0 from there on
-pub record Columns (m : Stored) : Type 0 where
-  pub ends-as : length (m .ends) ≡ length (m .starts)
-  pub values-as : length (m .values) ≡ length (m .starts)
-  pub held : m .count ≤ length (m .starts)
-  pub spare-starts : Spare (m .starts) (m .count) (pos 0)
-  pub spare-ends : Spare (m .ends) (m .count) (pos 0)
-  pub spare-values : Spare (m .values) (m .count) 0
-
--- carried out, the plan is the edit
-pub record Planned (kind : Kind) (m : Stored) (lo hi : ℕ) (new : Option ℕ) (p : Replacement) : Type 0 where
-  pub apt : Apt m p
-  pub starts-fit : AllFit (newStarts p)
-  pub ends-fit : AllFit (newEnds p)
-  pub right : take (p .from) (ranges kind m) ++ (spans kind (newStarts p) (newEnds p) (newValues p) ++ drop (p .to) (ranges kind m)) ≡ given lo hi new (ranges kind m)
+-- THE PLACES
 
 -- what stands at no place
 abbrev pub nowhere : Span
@@ -76,41 +57,48 @@ pub record Touching (xs : List Span) (lo hi from to : ℕ) : Type 0 where
   pub begun : (k : ℕ) → k < to → getD xs k nowhere .lo ≤ hi
   pub after : (k : ℕ) → to ≤ k → k < length xs → hi < getD xs k nowhere .lo
 
--- the least end of a range that touches one from a start on, and the greatest start of a range that touches one up to an end
+-- the least end of a range that touches one from a start on; where a key lies before the start, a range that ends so goes up to the start
 pub record LeastEnd (kind : Kind) (start least : ℤ) : Type 0 where
   pub short : (e : ℤ) → rank e < rank least → kind .past e < rank start
   pub reaches : (e : ℤ) → rank least ≤ rank e → rank start ≤ kind .past e
+  pub cuts : 0 < rank start → kind .past least ≡ rank start
+  pub fits : SFits w64 least
 
+-- the greatest start of a range that touches one up to an end; where a key comes after the end, a range that starts so begins there
 pub record GreatestStart (kind : Kind) (end greatest : ℤ) : Type 0 where
   pub begins : (s : ℤ) → rank s ≤ rank greatest → rank s ≤ kind .past end
   pub off : (s : ℤ) → rank greatest < rank s → kind .past end < rank s
+  pub cuts : kind .past end < keys → rank greatest ≡ kind .past end
+  pub fits : SFits w64 greatest
 
--- what an edit gives: a value, or none
-abbrev pub asked : Bool → ℕ → Option ℕ
-asked true v = some v
-asked false v = none
+-- the places that a change meets or touches, and the keys at which old ranges are cut
+pub record Meets (kind : Kind) (m : Stored) (change : Change) (met : Met) : Type 0 where
+  pub touching : Touching (ranges kind m) (rank (change .start)) (kind .past (change .end)) (met .from) (met .to)
+  pub below-fits : SFits w64 (met .below)
+  pub above-fits : SFits w64 (met .above)
+  pub cuts-below : 0 < rank (change .start) → kind .past (met .below) ≡ rank (change .start)
+  pub cuts-above : kind .past (change .end) < keys → rank (met .above) ≡ kind .past (change .end)
 
--- it is the value that a range has
-abbrev pub Same : ℕ → Option ℕ → Type 0
-Same p (some v) = p ≡ v
-Same p none = ⊥
+-- THE PLAN
 
--- what an edit does to the first range that it meets or touches, which starts at `first` with the value p: is a part of it kept, with which end, and where does the new one start
-pub data LeftSide (kind : Kind) (first start : ℤ) (p : ℕ) (new : Option ℕ) : Bool → ℤ → ℤ → Type 0 where
-  l-clear : rank start ≤ rank first → LeftSide kind first start p new false start start
-  l-joined : rank first < rank start → Same p new → LeftSide kind first start p new false start first
-  l-kept : {cut : ℤ} → rank first < rank start → (Same p new → ⊥) → kind .past cut ≡ rank start → SFits w64 cut → LeftSide kind first start p new true cut start
+-- what becomes of an old range of the value p on a side of a change: is what is beyond it kept, and with which key does the new range start or end
+pub data Beside (Beyond : Type 0) (p : ℕ) (new : Option ℕ) (own far : ℤ) : Bool → ℤ → Type 0 where
+  b-clear : (Beyond → ⊥) → Beside Beyond p new own far false own
+  b-joined : Beyond → Same p new → Beside Beyond p new own far false far
+  b-kept : Beyond → (Same p new → ⊥) → Beside Beyond p new own far true own
 
--- and to the last, which ends with `last` and has the value q: what is kept of it starts at the cut
-pub data RightSide (kind : Kind) (end last : ℤ) (q : ℕ) (new : Option ℕ) : Bool → ℤ → ℤ → Type 0 where
-  r-clear : rank last ≤ rank end → RightSide kind end last q new false end end
-  r-joined : rank end < rank last → Same q new → RightSide kind end last q new false end last
-  r-kept : {cut : ℤ} → rank end < rank last → (Same q new → ⊥) → rank cut ≡ kind .past end → SFits w64 cut → RightSide kind end last q new true cut end
+-- an entry from its parts
+abbrev pub entry : ℤ → ℤ → ℕ → Entry
+entry s e v = record { start = s; end = e; value = v }
 
 -- an entry put in front, if it is kept
 abbrev pub kept : Bool → Entry → List Entry → List Entry
 kept true x xs = x ∷ xs
 kept false x xs = xs
+
+-- a part put in front, if it is kept
+abbrev pub ahead : Part → List Entry → List Entry
+ahead x xs = kept (x .kept) (entry (x .start) (x .end) (x .value)) xs
 
 -- the entries that come
 abbrev pub coming : Replacement → List Entry
@@ -122,3 +110,41 @@ pub record Brings (p : Replacement) (i j n : ℕ) (xs : List Entry) : Type 0 whe
   pub to-is : p .to ≡ j
   pub few : p .n ≤ n
   pub are : coming p ≡ xs
+
+-- a plan over places that are met: the new range comes, or none, between what is kept of the first and of the last
+pub record Overlaid (starts ends : List ℤ) (values : List ℕ) (met : Met) (change : Change) (p : Replacement) : Type 0 where
+  pub left-kept : Bool
+  pub right-kept : Bool
+  pub start : ℤ
+  pub end : ℤ
+  pub left : Beside (rank (getD starts (met .from) (pos 0)) < rank (change .start)) (getD values (met .from) 0) (asked change)
+      (change .start) (getD starts (met .from) (pos 0)) left-kept start
+  pub right : Beside (rank (change .end) < rank (getD ends (met .to - 1) (pos 0))) (getD values (met .to - 1) 0) (asked change)
+      (change .end) (getD ends (met .to - 1) (pos 0)) right-kept end
+  pub brings : Brings p (met .from) (met .to) 3
+      (kept left-kept (entry (getD starts (met .from) (pos 0)) (met .below) (getD values (met .from) 0))
+      (kept (change .comes) (entry start end (change .value))
+      (kept right-kept (entry (met .above) (getD ends (met .to - 1) (pos 0)) (getD values (met .to - 1) 0)) [])))
+
+-- carried out, the plan is the change
+pub record Planned (kind : Kind) (m : Stored) (change : Change) (p : Replacement) : Type 0 where
+  pub apt : Apt (m .count) p
+  pub starts-fit : AllFit (newStarts p)
+  pub ends-fit : AllFit (newEnds p)
+  pub right : take (p .from) (ranges kind m) ++ (spans kind (newStarts p) (newEnds p) (newValues p) ++ drop (p .to) (ranges kind m))
+      ≡ given (rank (change .start)) (kind .past (change .end)) (asked change) (ranges kind m)
+
+-- CARRIED OUT
+
+-- the columns of a map
+abbrev pub ColumnsOf : Stored → Type 0
+ColumnsOf m = Columns (m .count) (m .starts) (m .ends) (m .values)
+
+-- the map in which the places are replaced, or 2 where it has too few
+unfoldable pub carried : Stored → Replacement → Edited
+carried m p =
+    cond (ltb (length (m .starts)) (newCount (m .count) p)) (leaving 2 m)
+    (leaving 0 (stored (newCount (m .count) p)
+    (spliced (m .starts) (p .from) (p .to) (m .count) (newStarts p) (pos 0))
+    (spliced (m .ends) (p .from) (p .to) (m .count) (newEnds p) (pos 0))
+    (spliced (m .values) (p .from) (p .to) (m .count) (newValues p) 0)))

@@ -1,41 +1,42 @@
 // Insert and remove in a map of either kind that is well formed: the unchecked doors. A plan says which places go and which ranges come, and one
-// function carries it out; nothing is written before the answer is known. An insert and a remove are one edit: a value comes, or none does.
+// function carries it out; nothing is written before the answer is known. An insert and a remove are one change: a value comes, or none does.
 // The kinds differ in three places, all of the keys: `full`, `after`, `end_before`.
 mod plan;
 mod sides;
 
 use key::RangeKind;
 use key::full;
-use splice::Entry;
+use plan::Part;
+use splice::Replacement;
 use store::search::reaching;
 use store::walk::first_past;
 ghost use mathlib.Core.Path.{_≡_};
 ghost use mathlib.Core.Option.{some, none};
-ghost use Prim.Native.Nat.{_<_};
+ghost use Prim.Native.Nat.{_<_, _≤_};
 ghost use lib.ListN.{length};
-ghost use Rattle.key.specs.Rank.{rank};
 ghost use Rattle.key.specs.Range.{kindOf};
-ghost use Rattle.outcomes.specs.Stored.{stored, lent, ranges, Sound};
+ghost use Rattle.outcomes.specs.Stored.{stored, lent, Sound};
 ghost use Rattle.outcomes.specs.Outcomes.{leaving, editing};
-ghost use Rattle.edit.specs.InnerPlan.{Touching, Planned, asked};
+ghost use Rattle.edit.specs.InnerPlan.{HasKey, Meets, Overlaid, Planned, asked};
 
-// The places from `from` up to `to` go; the first `n` of x, y and z come.
-pub struct Replacement {
+// What is asked: the instants of a range get the value, or where none comes they get none.
+pub struct Change {
+    pub start: i64,
+    pub end: i64,
+    pub comes: bool,
+    pub value: u8,
+}
+
+// The places from `from` up to `to` are those that a change meets or touches. A range that ends with `below` just touches it, and so does one that
+// starts at `above`: there old ranges are cut.
+pub struct Met {
     pub from: usize,
     pub to: usize,
-    pub n: usize,
-    pub x: Entry,
-    pub y: Entry,
-    pub z: Entry,
+    pub below: i64,
+    pub above: i64,
 }
 
-// Places, from one up to another.
-struct Met {
-    from: usize,
-    to: usize,
-}
-
-// The places that the range meets or touches: from the first that ends no earlier than the least end that touches it, up to the first that
+// The places that a change meets or touches: from the first that ends no earlier than the least end that touches it, up to the first that
 // starts later than the greatest start that does.
 fn touched(
     kind: RangeKind,
@@ -43,112 +44,101 @@ fn touched(
     starts: &[i64],
     ends: &[i64],
     values: &[u8],
-    start: i64,
-    end: i64,
+    change: Change,
 ) -> Met
-    requires { ⌜ Sound (kindOf kind) (stored count (now starts) (now ends) (now values)) × (rank start < kindOf kind .past end) ⌝ }
-    ensures { λ r. ⌜ Touching (ranges (kindOf kind) (stored count (now (starts .entry)) (now (ends .entry)) (now (values .entry)))) (rank start) (kindOf kind .past end) (r .from) (r .to) ⌝ }
+    requires { ⌜ Sound (kindOf kind) (stored count (now starts) (now ends) (now values)) × HasKey (kindOf kind) change ⌝ }
+    ensures { λ r. ⌜ Meets (kindOf kind) (stored count (now (starts .entry)) (now (ends .entry)) (now (values .entry))) change r ⌝ }
 {
-    let least = crate::sides::least_end(kind, start);
-    let greatest = crate::sides::greatest_start(kind, end);
-    let from = reaching(RangeKind::Inclusive, ends, count, least);
+    let start = change.start;
+    let end = change.end;
+    let below = crate::sides::least_end(kind, start);
+    let above = crate::sides::greatest_start(kind, end);
+    let from = reaching(RangeKind::Inclusive, ends, count, below);
+    let to = first_past(RangeKind::Inclusive, starts, from, count, above);
     Met {
         from: from,
-        to: first_past(RangeKind::Inclusive, starts, from, count, greatest),
+        to: to,
+        below: below,
+        above: above,
     }
 }
 
-// The plan of an edit, by which a value comes or none does, over the places that it meets or touches, of which there is one at least.
-fn over(
-    kind: RangeKind,
-    count: usize,
-    starts: &[i64],
-    ends: &[i64],
-    values: &[u8],
-    met: Met,
-    start: i64,
-    end: i64,
-    comes: bool,
-    value: u8,
-) -> Replacement
-    requires { ⌜ Sound (kindOf kind) (stored count (now starts) (now ends) (now values)) × (rank start < kindOf kind .past end) ⌝ }
-    requires { ⌜ (met .from < met .to) × Touching (ranges (kindOf kind) (stored count (now starts) (now ends) (now values))) (rank start) (kindOf kind .past end) (met .from) (met .to) ⌝ }
-    ensures { λ r. ⌜ Planned (kindOf kind) (stored count (now (starts .entry)) (now (ends .entry)) (now (values .entry))) (rank start) (kindOf kind .past end) (asked comes value) r ⌝ }
+// The plan of a change that meets or touches some place: what goes beyond it on either side is joined or kept.
+fn plan_over(starts: &[i64], ends: &[i64], values: &[u8], met: Met, change: Change) -> Replacement
+    requires { ⌜ (met .from < met .to) × (met .to ≤ length (now starts)) × (met .to ≤ length (now ends)) × (met .to ≤ length (now values)) ⌝ }
+    ensures { λ r. ⌜ Overlaid (now (starts .entry)) (now (ends .entry)) (now (values .entry)) met change r ⌝ }
 {
     let from = met.from;
     let to = met.to;
+    let below = met.below;
+    let above = met.above;
+    let start = change.start;
+    let end = change.end;
     let first = starts[from];
-    let below = values[from];
+    let first_value = values[from];
     let last = ends[to - 1];
-    let above = values[to - 1];
-    let left = crate::sides::left_of(kind, first, below, start, comes, value);
-    let right = crate::sides::right_of(kind, last, above, end, comes, value);
+    let last_value = values[to - 1];
+    let left = crate::sides::join_or_keep(first < start, first_value, change, start, first);
+    let right = crate::sides::join_or_keep(end < last, last_value, change, end, last);
     let low = left.key;
     let high = right.key;
-    let before = left.cut;
-    let after = right.cut;
-    crate::plan::around(
-        from,
-        to,
-        left.kept,
-        Entry {
+    crate::plan::bring(
+        met,
+        Part {
+            kept: left.kept,
             start: first,
-            end: before,
-            value: below,
+            end: below,
+            value: first_value,
         },
-        comes,
-        Entry {
+        Part {
+            kept: change.comes,
             start: low,
             end: high,
-            value: value,
+            value: change.value,
         },
-        right.kept,
-        Entry {
-            start: after,
+        Part {
+            kept: right.kept,
+            start: above,
             end: last,
-            value: above,
+            value: last_value,
         },
     )
 }
 
-// The plan of an edit.
+// The plan of a change.
 fn plan_of(
     kind: RangeKind,
     count: usize,
     starts: &[i64],
     ends: &[i64],
     values: &[u8],
-    start: i64,
-    end: i64,
-    comes: bool,
-    value: u8,
+    change: Change,
 ) -> Replacement
-    requires { ⌜ Sound (kindOf kind) (stored count (now starts) (now ends) (now values)) × (rank start < kindOf kind .past end) ⌝ }
-    ensures { λ r. ⌜ Planned (kindOf kind) (stored count (now (starts .entry)) (now (ends .entry)) (now (values .entry))) (rank start) (kindOf kind .past end) (asked comes value) r ⌝ }
+    requires { ⌜ Sound (kindOf kind) (stored count (now starts) (now ends) (now values)) × HasKey (kindOf kind) change ⌝ }
+    ensures { λ r. ⌜ Planned (kindOf kind) (stored count (now (starts .entry)) (now (ends .entry)) (now (values .entry))) change r ⌝ }
 {
-    let met = touched(kind, count, starts, ends, values, start, end);
+    let start = change.start;
+    let end = change.end;
+    let met = touched(kind, count, starts, ends, values, change);
     let from = met.from;
     let to = met.to;
     if from < to {
-        return over(
-            kind,
-            count,
-            starts,
-            ends,
-            values,
-            met,
-            start,
-            end,
-            comes,
-            value,
-        );
+        return plan_over(starts, ends, values, met, change);
     }
-    let new = Entry {
+    let value = change.value;
+    let nothing = Part {
+        kept: false,
         start: start,
         end: end,
         value: value,
     };
-    crate::plan::around(from, to, false, new, comes, new, false, new)
+    let new = Part {
+        kept: change.comes,
+        start: start,
+        end: end,
+        value: value,
+    };
+    crate::plan::bring(met, nothing, new, nothing)
 }
 
 // Gives the value to each instant of the range and to no other; where none comes, uncovers exactly these.
@@ -158,19 +148,19 @@ fn edit(
     starts: &mut [i64],
     ends: &mut [i64],
     values: &mut [u8],
-    start: i64,
-    end: i64,
-    comes: bool,
-    value: u8,
+    change: Change,
 ) -> u8
     requires { ⌜ Sound (kindOf kind) (lent count starts ends values) ⌝ }
     ensures { λ r. ⌜ leaving r (lent (count .exit) (starts .exit) (ends .exit) (values .exit))
-        ≡ editing (kindOf kind) (length (now (starts .entry))) (lent (count .entry) (starts .entry) (ends .entry) (values .entry)) start end (asked comes value) ⌝ }
+        ≡ editing (kindOf kind) (length (now (starts .entry))) (lent (count .entry) (starts .entry) (ends .entry) (values .entry))
+        (change .start) (change .end) (asked change) ⌝ }
 {
+    let start = change.start;
+    let end = change.end;
     if !full(kind, start, end) {
         return outcomes::EMPTY_RANGE;
     }
-    let plan = plan_of(kind, *count, starts, ends, values, start, end, comes, value);
+    let plan = plan_of(kind, *count, starts, ends, values, change);
     crate::plan::carry_out(count, starts, ends, values, plan)
 }
 
@@ -187,9 +177,16 @@ pub fn insert(
 ) -> u8
     requires { ⌜ Sound (kindOf kind) (lent count starts ends values) ⌝ }
     ensures { λ r. ⌜ leaving r (lent (count .exit) (starts .exit) (ends .exit) (values .exit))
-        ≡ editing (kindOf kind) (length (now (starts .entry))) (lent (count .entry) (starts .entry) (ends .entry) (values .entry)) start end (some value) ⌝ }
+        ≡ editing (kindOf kind) (length (now (starts .entry))) (lent (count .entry) (starts .entry) (ends .entry) (values .entry))
+        start end (some value) ⌝ }
 {
-    edit(kind, count, starts, ends, values, start, end, true, value)
+    let change = Change {
+        start: start,
+        end: end,
+        comes: true,
+        value: value,
+    };
+    edit(kind, count, starts, ends, values, change)
 }
 
 // Uncovers exactly the instants of the range.
@@ -204,7 +201,14 @@ pub fn remove(
 ) -> u8
     requires { ⌜ Sound (kindOf kind) (lent count starts ends values) ⌝ }
     ensures { λ r. ⌜ leaving r (lent (count .exit) (starts .exit) (ends .exit) (values .exit))
-        ≡ editing (kindOf kind) (length (now (starts .entry))) (lent (count .entry) (starts .entry) (ends .entry) (values .entry)) start end none ⌝ }
+        ≡ editing (kindOf kind) (length (now (starts .entry))) (lent (count .entry) (starts .entry) (ends .entry) (values .entry))
+        start end none ⌝ }
 {
-    edit(kind, count, starts, ends, values, start, end, false, 0)
+    let nothing = Change {
+        start: start,
+        end: end,
+        comes: false,
+        value: 0,
+    };
+    edit(kind, count, starts, ends, values, nothing)
 }

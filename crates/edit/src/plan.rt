@@ -1,21 +1,37 @@
 // A plan is made from what comes, and carried out.
-use crate::Replacement;
+use crate::Met;
 use splice::Entry;
+use splice::Replacement;
 ghost use mathlib.Core.Path.{_≡_};
 ghost use mathlib.Core.List.{[]};
 ghost use Prim.Native.Nat.{suc, _≤_};
 ghost use Rattle.outcomes.specs.Stored.{lent};
 ghost use Rattle.outcomes.specs.Outcomes.{leaving};
-ghost use Rattle.edit.specs.InnerPlan.{Brings, coming, kept, carried, Apt, Columns};
+ghost use Rattle.splice.specs.InnerReplace.{Apt};
+ghost use Rattle.edit.specs.InnerPlan.{Brings, coming, ahead, carried, ColumnsOf};
+
+// A range, and whether the plan keeps it.
+pub struct Part {
+    pub kept: bool,
+    pub start: i64,
+    pub end: i64,
+    pub value: u8,
+}
 
 // A plan by which one more range comes, before the others, if it is kept.
-fn in_front(keeps: bool, new: Entry, p: Replacement) -> Replacement
+fn in_front(part: Part, p: Replacement) -> Replacement
     requires { ⌜ p .n ≤ 2 ⌝ }
-    ensures { λ r. ⌜ Brings r (p .from) (p .to) (suc (p .n)) (kept keeps new (coming p)) ⌝ }
+    ensures { λ r. ⌜ Brings r (p .from) (p .to) (suc (p .n)) (ahead part (coming p)) ⌝ }
 {
-    if !keeps {
+    let kept = part.kept;
+    if !kept {
         return p;
     }
+    let new = Entry {
+        start: part.start,
+        end: part.end,
+        value: part.value,
+    };
     let x = p.x;
     let y = p.y;
     Replacement {
@@ -28,30 +44,26 @@ fn in_front(keeps: bool, new: Entry, p: Replacement) -> Replacement
     }
 }
 
-// The plan by which the new range comes, or none, between what is kept on the two sides.
-pub fn around(
-    from: usize,
-    to: usize,
-    keeps_left: bool,
-    left: Entry,
-    comes: bool,
-    new: Entry,
-    keeps_right: bool,
-    right: Entry,
-) -> Replacement
-    ensures { λ r. ⌜ Brings r from to 3 (kept «keeps_left» left (kept comes new (kept «keeps_right» right []))) ⌝ }
+// The plan by which the new range comes between what is left on the two sides; each of the three only if it is kept.
+pub fn bring(met: Met, left: Part, new: Part, right: Part) -> Replacement
+    ensures { λ r. ⌜ Brings r (met .from) (met .to) 3 (ahead left (ahead new (ahead right []))) ⌝ }
 {
-    let nothing = Replacement {
-        from: from,
-        to: to,
-        n: 0,
-        x: new,
-        y: new,
-        z: new,
+    let unused = Entry {
+        start: 0,
+        end: 0,
+        value: 0,
     };
-    let one = in_front(keeps_right, right, nothing);
-    let two = in_front(comes, new, one);
-    in_front(keeps_left, left, two)
+    let none = Replacement {
+        from: met.from,
+        to: met.to,
+        n: 0,
+        x: unused,
+        y: unused,
+        z: unused,
+    };
+    let one = in_front(right, none);
+    let two = in_front(new, one);
+    in_front(left, two)
 }
 
 // Carries a plan out, unless the map would need more places than it has: answer 2.
@@ -62,8 +74,9 @@ pub fn carry_out(
     values: &mut [u8],
     p: Replacement,
 ) -> u8
-    requires { ⌜ Columns (lent count starts ends values) × Apt (lent count starts ends values) p ⌝ }
-    ensures { λ r. ⌜ leaving r (lent (count .exit) (starts .exit) (ends .exit) (values .exit)) ≡ carried (lent (count .entry) (starts .entry) (ends .entry) (values .entry)) p ⌝ }
+    requires { ⌜ ColumnsOf (lent count starts ends values) × Apt (now count) p ⌝ }
+    ensures { λ r. ⌜ leaving r (lent (count .exit) (starts .exit) (ends .exit) (values .exit))
+        ≡ carried (lent (count .entry) (starts .entry) (ends .entry) (values .entry)) p ⌝ }
 {
     let held = *count;
     let from = p.from;
@@ -73,10 +86,7 @@ pub fn carry_out(
     if starts.len() < next {
         return outcomes::TOO_MANY;
     }
-    let x = p.x;
-    let y = p.y;
-    let z = p.z;
-    splice::splice(starts, ends, values, from, to, held, n, x, y, z);
+    splice::splice(held, starts, ends, values, p);
     *count = next;
     0
 }

@@ -1,8 +1,11 @@
-// What an edit touches, and what it leaves of the first and the last range that it meets or touches.
+// What a change touches, and what it leaves of the first and the last range that it meets or touches.
+use crate::Change;
 use key::RangeKind;
+ghost use mathlib.Core.Path.{_≡_};
+ghost use mathlib.Core.Bool.{true};
 ghost use Rattle.key.specs.InnerDecides.{Decides};
 ghost use Rattle.key.specs.Range.{kindOf};
-ghost use Rattle.edit.specs.InnerPlan.{LeftSide, RightSide, LeastEnd, GreatestStart, Same, asked};
+ghost use Rattle.edit.specs.InnerPlan.{Beside, LeastEnd, GreatestStart, Same, asked};
 
 // The least end of a range that touches one from `start` on. No key lies before the least.
 pub fn least_end(kind: RangeKind, start: i64) -> i64
@@ -24,17 +27,12 @@ pub fn greatest_start(kind: RangeKind, end: i64) -> i64
     key::after(kind, end)
 }
 
-// Whether a part of a range is kept, where it is cut off, and where the new range starts or ends.
-pub struct Side {
-    pub kept: bool,
-    pub cut: i64,
-    pub key: i64,
-}
-
 // Whether a value comes, and is this one.
-fn same(old: u8, comes: bool, value: u8) -> bool
-    ensures { λ r. ⌜ Decides r (Same old (asked comes value)) ⌝ }
+fn same(old: u8, change: Change) -> bool
+    ensures { λ r. ⌜ Decides r (Same old (asked change)) ⌝ }
 {
+    let comes = change.comes;
+    let value = change.value;
     if !comes {
         return false;
     }
@@ -44,52 +42,31 @@ fn same(old: u8, comes: bool, value: u8) -> bool
     false
 }
 
-// On the left: a range that starts before the new one is joined where the values are equal, and kept up to it where they are not.
-pub fn left_of(kind: RangeKind, first: i64, below: u8, start: i64, comes: bool, value: u8) -> Side
-    ensures { λ r. ⌜ LeftSide (kindOf kind) first start below (asked comes value) (r .kept) (r .cut) (r .key) ⌝ }
-{
-    if start <= first {
-        return Side {
-            kept: false,
-            cut: start,
-            key: start,
-        };
-    }
-    if same(below, comes, value) {
-        return Side {
-            kept: false,
-            cut: start,
-            key: first,
-        };
-    }
-    Side {
-        kept: true,
-        cut: key::end_before(kind, start),
-        key: start,
-    }
+// One side of a change: whether a part of the old range there is kept, and the key with which the new range starts or ends there.
+pub struct Side {
+    pub kept: bool,
+    pub key: i64,
 }
 
-// On the right: a range that ends after the new one is joined where the values are equal, and kept after it where they are not.
-pub fn right_of(kind: RangeKind, last: i64, above: u8, end: i64, comes: bool, value: u8) -> Side
-    ensures { λ r. ⌜ RightSide (kindOf kind) end last above (asked comes value) (r .kept) (r .cut) (r .key) ⌝ }
+// An old range that goes beyond the change on a side is joined where the values are equal, and what is beyond is kept where they are not.
+// `own` is the change's key on that side, `far` the old range's. Both sides ask this: they differ in the test and the keys alone.
+pub fn join_or_keep(beyond: bool, old: u8, change: Change, own: i64, far: i64) -> Side
+    ensures { λ r. ⌜ Beside (beyond ≡ true) old (asked change) own far (r .kept) (r .key) ⌝ }
 {
-    if last <= end {
+    if !beyond {
         return Side {
             kept: false,
-            cut: end,
-            key: end,
+            key: own,
         };
     }
-    if same(above, comes, value) {
+    if same(old, change) {
         return Side {
             kept: false,
-            cut: end,
-            key: last,
+            key: far,
         };
     }
     Side {
         kept: true,
-        cut: key::after(kind, end),
-        key: end,
+        key: own,
     }
 }

@@ -100,7 +100,8 @@ fn write_before(
 ) -> usize
     requires { ⌜ Room n (gap (rank cursor) (rank next)) (now «out_starts») (now «out_ends») ⌝ }
     ensures { λ r. ⌜ (r ≡ n + length (gap (rank cursor) (rank next)))
-        × Puts (kindOf kind) n (gap (rank cursor) (rank next)) (now («out_starts» .entry)) (now («out_ends» .entry)) (now («out_starts» .exit)) (now («out_ends» .exit)) ⌝ }
+        × Puts (kindOf kind) n (gap (rank cursor) (rank next))
+        (now («out_starts» .entry)) (now («out_ends» .entry)) (now («out_starts» .exit)) (now («out_ends» .exit)) ⌝ }
 {
     if cursor < next {
         put(out_starts, out_ends, n, cursor, end_before(kind, next));
@@ -162,7 +163,8 @@ pub fn gaps(
 ) -> Counted
     requires { ⌜ Sound (kindOf kind) (stored count (now starts) (now ends) (now values)) ⌝ }
     ensures { λ r. ⌜ wrote r (now («out_starts» .exit)) (now («out_ends» .exit))
-        ≡ uncovered (kindOf kind) (stored count (now (starts .entry)) (now (ends .entry)) (now (values .entry))) start end (now («out_starts» .entry)) (now («out_ends» .entry)) ⌝ }
+        ≡ uncovered (kindOf kind) (stored count (now (starts .entry)) (now (ends .entry)) (now (values .entry))) start end
+        (now («out_starts» .entry)) (now («out_ends» .entry)) ⌝ }
 {
     if !full(kind, start, end) {
         return Counted::Refused(EMPTY_RANGE);

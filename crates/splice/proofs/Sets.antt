@@ -5,9 +5,11 @@ use mathlib.Core.List.{List, [], _∷_, _++_, append-assoc, append-nil}
 use native.Mathlib.Omega.{arith}
 use native.Mathlib.Numerals.{add-one, sub-one}
 use native.Mathlib.Nat.{add-zero, add-suc, lt-irrefl}
-use lib.ListN.{length, getD, set, take, drop, replicate, replicate-append-replicate, length-replicate, length-drop, length-append, length-take, drop-of-length-le}
+use lib.ListN.{length, getD, set, take, drop, replicate, length-replicate, length-drop, length-append, length-take}
+use lib.ListN.{replicate-append-replicate, drop-of-length-le}
 use Rattle.splice.specs.InnerSplice.{moved, cleared, Spare, spliced}
-use lib.Seq.{sets, getD-set-other, set-comm, take-suc, drop-cons, getD-drop, getD-take, length-take-le, sets-eq, take-append-le, take-take, take-at, drop-at, drop-append-add, drop-drop}
+use lib.Seq.{sets, getD-set-other, set-comm, take-suc, drop-cons, getD-drop, getD-take, length-take-le, sets-eq}
+use lib.Seq.{take-append-le, take-take, take-at, drop-at, drop-append-add, drop-drop}
 
 module _ {A : Type 0} where
   pub get-before : (l : List A) (i : ℕ) (vs : List A) (q : ℕ) (d : A) → q < i → getD (sets l i vs) q d ≡ getD l q d
@@ -52,7 +54,8 @@ module _ {A : Type 0} where
       get-before l (to + suc q) (drop (suc q) t) (from + q) d (omega arith) ∙ sym (getD-drop from l q d) ∙ sym (getD-take n (drop from l) q d b) in
       rw (g, drop-cons t q d (omega arith), add-suc to q) (sets-front l (to + q) (drop (suc q) t) (getD t q d))
 
-  pub right-more : {a : List A} {v : A} (l : List A) (from to n p : ℕ) (d : A) → a ≡ sets l (to + p) (drop p (take n (drop from l))) → v ≡ getD a (from + (p - 1)) d
+  pub right-more : {a : List A} {v : A} (l : List A) (from to n p : ℕ) (d : A)
+      → a ≡ sets l (to + p) (drop p (take n (drop from l))) → v ≡ getD a (from + (p - 1)) d
       → from ≤ to → 0 < p → p ≤ n → from + n ≤ length l → set a (to + (p - 1)) v ≡ sets l (to + (p - 1)) (drop (p - 1) (take n (drop from l)))
   right-more l from to n zero d e r h b c f = absurd (lt-irrefl 0 b)
   right-more l from to n (suc q) d e r h b c f = rw (r, e, sub-one) (right-step l from to n q d h c f)
@@ -61,7 +64,8 @@ module _ {A : Type 0} where
   none-moved l from to n = rw (drop-of-length-le (take n (drop from l)) {i = n} (omega (arith, length-take n (drop from l))))
 
   -- one more place cleared
-  pub clear-more : {a : List A} (l : List A) (from p : ℕ) (z : A) → a ≡ sets l from (replicate (p - from) z) → from ≤ p → set a p z ≡ sets l from (replicate (p + 1 - from) z)
+  pub clear-more : {a : List A} (l : List A) (from p : ℕ) (z : A) → a ≡ sets l from (replicate (p - from) z) → from ≤ p
+      → set a p z ≡ sets l from (replicate (p + 1 - from) z)
   clear-more l from p z e h =
       let n : from + length (replicate (p - from) z) ≡ p = omega (arith, length-replicate (p - from) z) in
       let m : p + 1 - from ≡ p - from + 1 = omega arith in
@@ -111,7 +115,9 @@ module _ {A : Type 0} (a : List A) (i j count : ℕ) (vs : List A) (z : A) (ij :
       let w : end + length (replicate (count - end) z) ≤ length (p ++ drop end a) = omega (arith, length-append p (drop end a), length-drop end a) in
       let e : end + (count - end) ≡ count + (end - count) = omega arith in
       let d : drop (end + length (replicate (count - end) z)) (p ++ drop end a) ≡ replicate (length a - count - (end - count)) z =
-      ap (λ (k : ℕ). drop (end + k) (p ++ drop end a)) c ∙ ap (λ (k : ℕ). drop (k + (count - end)) (p ++ drop end a)) (sym n) ∙ drop-append-add p (drop end a) (count - end) ∙ drop-drop (count - end) end a ∙ rw (e, ← drop-drop (end - count) count a, sp) (drop-replicate (end - count) (length a - count) z) in
+      ap (λ (k : ℕ). drop (end + k) (p ++ drop end a)) c ∙ ap (λ (k : ℕ). drop (k + (count - end)) (p ++ drop end a)) (sym n)
+      ∙ drop-append-add p (drop end a) (count - end) ∙ drop-drop (count - end) end a
+      ∙ rw (e, ← drop-drop (end - count) count a, sp) (drop-replicate (end - count) (length a - count) z) in
       let s : count - end + (length a - count - (end - count)) ≡ length a - end = omega arith in
       rw (sets-eq (replicate (count - end) z) (p ++ drop end a) end w, take-at p (drop end a) end n, d, append-assoc p, replicate-append-replicate, s)
 
@@ -120,7 +126,8 @@ module _ {A : Type 0} (a : List A) (i j count : ℕ) (vs : List A) (z : A) (ij :
   splice-eq = ap (λ (m : List A). cleared (sets m i vs) end count z) after-move ∙ ap (λ (m : List A). cleared m end count z) after-put ∙ after-clear
 
   -- the three calls, by what each ensures
-  pub splice-done : {m p c : List A} (k : ℕ) → length vs ≡ k → m ≡ moved a j (i + k) (count - j) → p ≡ sets m i vs → c ≡ cleared p (i + k + (count - j)) count z → c ≡ spliced a i j count vs z
+  pub splice-done : {m p c : List A} (k : ℕ) → length vs ≡ k → m ≡ moved a j (i + k) (count - j) → p ≡ sets m i vs
+      → c ≡ cleared p (i + k + (count - j)) count z → c ≡ spliced a i j count vs z
   splice-done k ek em ep ec = rw (ec, ep, em, ← ek) splice-eq
 
 -- a list that is cleared whole holds nothing

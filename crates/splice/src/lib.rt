@@ -1,10 +1,30 @@
+// Columns of a map: moves, stores, and the replacement of places. Each column has loops of its own, so that they vectorise.
 ghost use mathlib.Core.Path.{_≡_};
 ghost use mathlib.Core.List.{[], _∷_};
-ghost use Prim.Native.Nat.{_+_, _-_, _<_, _≤_};
+ghost use Prim.Native.Nat.{_+_, _≤_};
 ghost use lib.ListN.{length, take};
 ghost use lib.IntN.{pos};
 ghost use Rattle.splice.specs.InnerSplice.{moved, cleared, put, Spare, spliced};
+ghost use Rattle.splice.specs.InnerReplace.{Columns, Apt, Room, newStarts, newEnds, newValues};
 
+// A range and its value.
+pub struct Entry {
+    pub start: i64,
+    pub end: i64,
+    pub value: u8,
+}
+
+// The places from `from` up to `to` go; the first `n` of x, y and z come in their stead.
+pub struct Replacement {
+    pub from: usize,
+    pub to: usize,
+    pub n: usize,
+    pub x: Entry,
+    pub y: Entry,
+    pub z: Entry,
+}
+
+// Moves n places to the left, the first one first: none is written before it is read.
 fn move_left_i64(a: &mut [i64], from: usize, to: usize, n: usize)
     requires { ⌜ (to ≤ from) × (from + n ≤ length (now a)) ⌝ }
     ensures { λ _. ⌜ now (a .exit) ≡ moved (now (a .entry)) from to n ⌝ }
@@ -16,6 +36,7 @@ fn move_left_i64(a: &mut [i64], from: usize, to: usize, n: usize)
     }
 }
 
+// Moves n places to the right, the last one first, for the same reason.
 fn move_right_i64(a: &mut [i64], from: usize, to: usize, n: usize)
     requires { ⌜ (from ≤ to) × (to + n ≤ length (now a)) ⌝ }
     ensures { λ _. ⌜ now (a .exit) ≡ moved (now (a .entry)) from to n ⌝ }
@@ -27,6 +48,7 @@ fn move_right_i64(a: &mut [i64], from: usize, to: usize, n: usize)
     }
 }
 
+// Moves n places, to either side.
 fn move_i64(a: &mut [i64], from: usize, to: usize, n: usize)
     requires { ⌜ (from + n ≤ length (now a)) × (to + n ≤ length (now a)) ⌝ }
     ensures { λ _. ⌜ now (a .exit) ≡ moved (now (a .entry)) from to n ⌝ }
@@ -38,6 +60,7 @@ fn move_i64(a: &mut [i64], from: usize, to: usize, n: usize)
     }
 }
 
+// Writes 0 into the places from `from` up to `to`.
 pub fn clear_i64(a: &mut [i64], from: usize, to: usize)
     requires { ⌜ to ≤ length (now a) ⌝ }
     ensures { λ _. ⌜ now (a .exit) ≡ cleared (now (a .entry)) from to (pos 0) ⌝ }
@@ -49,6 +72,7 @@ pub fn clear_i64(a: &mut [i64], from: usize, to: usize)
     }
 }
 
+// Writes the first k of x, y and z from the place i on.
 fn put_i64(a: &mut [i64], i: usize, k: usize, x: i64, y: i64, z: i64)
     requires { ⌜ (k ≤ 3) × (i + k ≤ length (now a)) ⌝ }
     ensures { λ _. ⌜ now (a .exit) ≡ put (now (a .entry)) i k x y z ⌝ }
@@ -67,17 +91,22 @@ fn put_i64(a: &mut [i64], i: usize, k: usize, x: i64, y: i64, z: i64)
     a[i + 2] = z;
 }
 
-pub fn splice_i64(a: &mut [i64], i: usize, j: usize, count: usize, k: usize, x: i64, y: i64, z: i64)
-    requires { ⌜ (i ≤ j) × (j ≤ count) × (count ≤ length (now a)) × (k ≤ 3) × (i + k + (count - j) ≤ length (now a)) × Spare (now a) count (pos 0) ⌝ }
-    ensures { λ _. ⌜ now (a .exit) ≡ spliced (now (a .entry)) i j count (take k (x ∷ y ∷ z ∷ [])) (pos 0) ⌝ }
+// Carries a replacement out in one column, in which x, y and z come; the places after those that go move up or down.
+fn splice_i64(a: &mut [i64], count: usize, p: Replacement, x: i64, y: i64, z: i64)
+    requires { ⌜ Apt count p × Room count p (length (now a)) × Spare (now a) count (pos 0) ⌝ }
+    ensures { λ _. ⌜ now (a .exit) ≡ spliced (now (a .entry)) (p .from) (p .to) count (take (p .n) (x ∷ y ∷ z ∷ [])) (pos 0) ⌝ }
 {
-    let to = i + k;
-    let n = count - j;
-    move_i64(a, j, to, n);
-    put_i64(a, i, k, x, y, z);
-    clear_i64(a, to + n, count);
+    let from = p.from;
+    let to = p.to;
+    let n = p.n;
+    let next = from + n;
+    let rest = count - to;
+    move_i64(a, to, next, rest);
+    put_i64(a, from, n, x, y, z);
+    clear_i64(a, next + rest, count);
 }
 
+// Moves n places to the left, the first one first: none is written before it is read.
 fn move_left_u8(a: &mut [u8], from: usize, to: usize, n: usize)
     requires { ⌜ (to ≤ from) × (from + n ≤ length (now a)) ⌝ }
     ensures { λ _. ⌜ now (a .exit) ≡ moved (now (a .entry)) from to n ⌝ }
@@ -89,6 +118,7 @@ fn move_left_u8(a: &mut [u8], from: usize, to: usize, n: usize)
     }
 }
 
+// Moves n places to the right, the last one first, for the same reason.
 fn move_right_u8(a: &mut [u8], from: usize, to: usize, n: usize)
     requires { ⌜ (from ≤ to) × (to + n ≤ length (now a)) ⌝ }
     ensures { λ _. ⌜ now (a .exit) ≡ moved (now (a .entry)) from to n ⌝ }
@@ -100,6 +130,7 @@ fn move_right_u8(a: &mut [u8], from: usize, to: usize, n: usize)
     }
 }
 
+// Moves n places, to either side.
 fn move_u8(a: &mut [u8], from: usize, to: usize, n: usize)
     requires { ⌜ (from + n ≤ length (now a)) × (to + n ≤ length (now a)) ⌝ }
     ensures { λ _. ⌜ now (a .exit) ≡ moved (now (a .entry)) from to n ⌝ }
@@ -111,6 +142,7 @@ fn move_u8(a: &mut [u8], from: usize, to: usize, n: usize)
     }
 }
 
+// Writes 0 into the places from `from` up to `to`.
 pub fn clear_u8(a: &mut [u8], from: usize, to: usize)
     requires { ⌜ to ≤ length (now a) ⌝ }
     ensures { λ _. ⌜ now (a .exit) ≡ cleared (now (a .entry)) from to 0 ⌝ }
@@ -122,6 +154,7 @@ pub fn clear_u8(a: &mut [u8], from: usize, to: usize)
     }
 }
 
+// Writes the first k of x, y and z from the place i on.
 fn put_u8(a: &mut [u8], i: usize, k: usize, x: u8, y: u8, z: u8)
     requires { ⌜ (k ≤ 3) × (i + k ≤ length (now a)) ⌝ }
     ensures { λ _. ⌜ now (a .exit) ≡ put (now (a .entry)) i k x y z ⌝ }
@@ -140,42 +173,32 @@ fn put_u8(a: &mut [u8], i: usize, k: usize, x: u8, y: u8, z: u8)
     a[i + 2] = z;
 }
 
-pub fn splice_u8(a: &mut [u8], i: usize, j: usize, count: usize, k: usize, x: u8, y: u8, z: u8)
-    requires { ⌜ (i ≤ j) × (j ≤ count) × (count ≤ length (now a)) × (k ≤ 3) × (i + k + (count - j) ≤ length (now a)) × Spare (now a) count 0 ⌝ }
-    ensures { λ _. ⌜ now (a .exit) ≡ spliced (now (a .entry)) i j count (take k (x ∷ y ∷ z ∷ [])) 0 ⌝ }
+// Carries a replacement out in one column, in which x, y and z come; the places after those that go move up or down.
+fn splice_u8(a: &mut [u8], count: usize, p: Replacement, x: u8, y: u8, z: u8)
+    requires { ⌜ Apt count p × Room count p (length (now a)) × Spare (now a) count 0 ⌝ }
+    ensures { λ _. ⌜ now (a .exit) ≡ spliced (now (a .entry)) (p .from) (p .to) count (take (p .n) (x ∷ y ∷ z ∷ [])) 0 ⌝ }
 {
-    let to = i + k;
-    let n = count - j;
-    move_u8(a, j, to, n);
-    put_u8(a, i, k, x, y, z);
-    clear_u8(a, to + n, count);
+    let from = p.from;
+    let to = p.to;
+    let n = p.n;
+    let next = from + n;
+    let rest = count - to;
+    move_u8(a, to, next, rest);
+    put_u8(a, from, n, x, y, z);
+    clear_u8(a, next + rest, count);
 }
 
-pub struct Entry {
-    pub start: i64,
-    pub end: i64,
-    pub value: u8,
-}
-
-pub fn splice(
-    starts: &mut [i64],
-    ends: &mut [i64],
-    values: &mut [u8],
-    i: usize,
-    j: usize,
-    count: usize,
-    k: usize,
-    x: Entry,
-    y: Entry,
-    z: Entry,
-)
-    requires { ⌜ (i ≤ j) × (j ≤ count) × (count ≤ length (now starts)) × (k ≤ 3) × (i + k + (count - j) ≤ length (now starts)) × (length (now ends) ≡ length (now starts)) × (length (now values) ≡ length (now starts)) ⌝ }
-    requires { ⌜ Spare (now starts) count (pos 0) × Spare (now ends) count (pos 0) × Spare (now values) count 0 ⌝ }
-    ensures { λ _. ⌜ now (starts .exit) ≡ spliced (now (starts .entry)) i j count (take k (x .start ∷ y .start ∷ z .start ∷ [])) (pos 0) ⌝ }
-    ensures { λ _. ⌜ now (ends .exit) ≡ spliced (now (ends .entry)) i j count (take k (x .end ∷ y .end ∷ z .end ∷ [])) (pos 0) ⌝ }
-    ensures { λ _. ⌜ now (values .exit) ≡ spliced (now (values .entry)) i j count (take k (x .value ∷ y .value ∷ z .value ∷ [])) 0 ⌝ }
+// Replaces places in all three columns.
+pub fn splice(count: usize, starts: &mut [i64], ends: &mut [i64], values: &mut [u8], p: Replacement)
+    requires { ⌜ Columns count (now starts) (now ends) (now values) × Apt count p × Room count p (length (now starts)) ⌝ }
+    ensures { λ _. ⌜ now (starts .exit) ≡ spliced (now (starts .entry)) (p .from) (p .to) count (newStarts p) (pos 0) ⌝ }
+    ensures { λ _. ⌜ now (ends .exit) ≡ spliced (now (ends .entry)) (p .from) (p .to) count (newEnds p) (pos 0) ⌝ }
+    ensures { λ _. ⌜ now (values .exit) ≡ spliced (now (values .entry)) (p .from) (p .to) count (newValues p) 0 ⌝ }
 {
-    splice_i64(starts, i, j, count, k, x.start, y.start, z.start);
-    splice_i64(ends, i, j, count, k, x.end, y.end, z.end);
-    splice_u8(values, i, j, count, k, x.value, y.value, z.value);
+    let x = p.x;
+    let y = p.y;
+    let z = p.z;
+    splice_i64(starts, count, p, x.start, y.start, z.start);
+    splice_i64(ends, count, p, x.end, y.end, z.end);
+    splice_u8(values, count, p, x.value, y.value, z.value);
 }

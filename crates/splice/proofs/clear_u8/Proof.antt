@@ -1,3 +1,4 @@
+-- `splice::clear_u8` meets its contract.
 use Prim.Native.Nat.{_-_, _≤_, max}
 use mathlib.Core.Path.{_≡_, refl}
 use native.Mathlib.Omega.{arith}
@@ -6,8 +7,6 @@ use lib.Seq.{sets}
 use Rattle.splice.proofs.Sets.{clear-more, none-cleared}
 use Rattle.splice.proofs.clear_u8.Statement.{statement}
 use Rattle.splice.proofs.clear_u8.Tie as tie
-use Rattle.splice.proofs.clear_u8.Reads as reads
-use Rattle.splice.proofs.clear_u8.Lts as lts
 
 abbrev Inv-loop : tie.InvT-loop
 Inv-loop a₀ from to p₀ a p = (from ≤ p) × (p ≤ max from to) × (length a ≡ length a₀) × (a ≡ sets a₀ from (replicate (p - from) 0))
@@ -29,8 +28,9 @@ loop-less c = omega arith
 
 loop-again : tie.Need-loop-again Inv-loop μ-loop
 loop-again c =
-    let l = c .before .loop in
-    let s = c .before .before .args in
+    let turn = c .before in
+    let l = turn .loop in
+    let s = turn .before .args in
     (omega arith, omega arith, simp length-set (omega arith), clear-more (s .a .now) (s .from) (l .p) 0 (l .inv .3) (omega arith))
 
 same-length : tie.Need-same-length Inv-loop μ-loop
@@ -38,9 +38,10 @@ same-length c = omega arith
 
 returns : tie.Need-returns Inv-loop μ-loop
 returns c =
-    let s = c .before .before .args in
-    let e : s .to - s .from ≡ c .before .loop .p - s .from = omega arith in
-    rw e (c .before .loop .inv .3)
+    let turn = c .before in
+    let s = turn .before .args in
+    let e : s .to - s .from ≡ turn .loop .p - s .from = omega arith in
+    rw e (turn .loop .inv .3)
 
 pub clear-u8-spec : {M : Type 1} → statement M
 clear-u8-spec =

@@ -1,3 +1,4 @@
+-- `splice::move_left_u8` meets its contract.
 use Prim.Native.Nat.{_-_, _≤_}
 use mathlib.Core.Path.{_≡_, refl}
 use native.Mathlib.Omega.{arith}
@@ -6,8 +7,6 @@ use lib.Seq.{sets}
 use Rattle.splice.proofs.Sets.{left-more}
 use Rattle.splice.proofs.move_left_u8.Statement.{statement}
 use Rattle.splice.proofs.move_left_u8.Tie as tie
-use Rattle.splice.proofs.move_left_u8.Reads as reads
-use Rattle.splice.proofs.move_left_u8.Lts as lts
 
 abbrev Inv-loop : tie.InvT-loop
 Inv-loop a₀ from to n p₀ a p = (p ≤ n) × (length a ≡ length a₀) × (a ≡ sets a₀ to (take p (drop from a₀)))
@@ -38,17 +37,22 @@ loop-less c = omega arith
 
 loop-again : tie.Need-loop-again Inv-loop μ-loop
 loop-again c =
-    let l = c .before .before .loop in
-    let s = c .before .before .before .args in
-    (omega arith, simp length-set (omega arith), left-more (s .a .now) (s .from) (s .to) (l .p) 0 (l .inv .2) refl (omega arith) (omega arith))
+    let turn = c .before .before in
+    let l = turn .loop in
+    let s = turn .before .args in (
+      omega arith,
+      simp length-set (omega arith),
+      left-more (s .a .now) (s .from) (s .to) (l .p) 0 (l .inv .2) refl (omega arith) (omega arith),
+    )
 
 same-length : tie.Need-same-length Inv-loop μ-loop
 same-length c = omega arith
 
 returns : tie.Need-returns Inv-loop μ-loop
 returns c =
-    let e : c .before .before .args .n ≡ c .before .loop .p = omega arith in
-    rw e (c .before .loop .inv .2)
+    let turn = c .before in
+    let e : turn .before .args .n ≡ turn .loop .p = omega arith in
+    rw e (turn .loop .inv .2)
 
 pub move-left-u8-spec : {M : Type 1} → statement M
 move-left-u8-spec =

@@ -1,3 +1,4 @@
+-- `splice::put_i64` meets its contract.
 use native.Mathlib.Omega.{arith}
 use lib.ListN.{length-set}
 use mathlib.Core.Path.{_≡_}
@@ -6,8 +7,6 @@ use mir.Facts.{toZ-ofZ}
 use borrow.Author.Needs.{needs}
 use Rattle.splice.proofs.put_i64.Statement.{statement}
 use Rattle.splice.proofs.put_i64.Tie as tie
-use Rattle.splice.proofs.put_i64.Reads as reads
-use Rattle.splice.proofs.put_i64.Lts as lts
 
 returns : tie.Need-returns
 returns c = search needs
@@ -22,7 +21,7 @@ same-length : tie.Need-same-length
 same-length c = search needs
 
 returns-2 : tie.Need-returns-2
-returns-2 c = rw (c .if2 .taken, toZ-ofZ (c .before .before .fits .x))
+returns-2 c = let entry = c .before .before in rw (c .if2 .taken, toZ-ofZ (entry .fits .x))
 
 add-y : tie.Need-add-y
 add-y c = search needs
@@ -38,8 +37,8 @@ same-length-2 c = search needs
 
 returns-3 : tie.Need-returns-3
 returns-3 c =
-    let f = c .before .before .before .fits in
-    rw (c .if3 .taken, toZ-ofZ (f .x), toZ-ofZ (f .y), add-one)
+    let entry = c .before .before .before in
+    rw (c .if3 .taken, toZ-ofZ (entry .fits .x), toZ-ofZ (entry .fits .y), add-one)
 
 add-z : tie.Need-add-z
 add-z c = search needs
@@ -55,9 +54,10 @@ same-length-3 c = search needs
 
 returns-4 : tie.Need-returns-4
 returns-4 c =
-    let s = c .before .before .before in
-    let e : s .args .k ≡ 3 = omega arith in
-    rw (e, toZ-ofZ (s .fits .x), toZ-ofZ (s .fits .y), toZ-ofZ (s .fits .z), add-one, add-two)
+    let entry = c .before .before .before in
+    let f = entry .fits in
+    let e : entry .args .k ≡ 3 = omega arith in
+    rw (e, toZ-ofZ (f .x), toZ-ofZ (f .y), toZ-ofZ (f .z), add-one, add-two)
 
 pub put-i64-spec : {M : Type 1} → statement M
 put-i64-spec =

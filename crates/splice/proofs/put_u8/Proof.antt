@@ -1,3 +1,4 @@
+-- `splice::put_u8` meets its contract.
 use mathlib.Core.Path.{_≡_}
 use native.Mathlib.Omega.{arith}
 use native.Mathlib.Numerals.{add-one, add-two}
@@ -5,8 +6,6 @@ use lib.ListN.{length-set}
 use borrow.Author.Needs.{needs}
 use Rattle.splice.proofs.put_u8.Statement.{statement}
 use Rattle.splice.proofs.put_u8.Tie as tie
-use Rattle.splice.proofs.put_u8.Reads as reads
-use Rattle.splice.proofs.put_u8.Lts as lts
 
 returns : tie.Need-returns
 returns c = search needs
@@ -43,7 +42,8 @@ same-length-3 c = search needs
 
 returns-4 : tie.Need-returns-4
 returns-4 c =
-    let e : c .before .before .before .args .k ≡ 3 = omega arith in
+    let entry = c .before .before .before in
+    let e : entry .args .k ≡ 3 = omega arith in
     rw (e, add-one, add-two)
 
 pub put-u8-spec : {M : Type 1} → statement M

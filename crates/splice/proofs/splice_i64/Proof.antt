@@ -1,3 +1,4 @@
+-- `splice::splice_i64` meets its contract.
 use mathlib.Core.List.{List, [], _∷_}
 use native.Mathlib.Omega.{arith}
 use lib.IntN.{ℤ, pos}
@@ -8,17 +9,25 @@ use Rattle.splice.proofs.Sets.{splice-done}
 use borrow.Author.Needs.{needs}
 use Rattle.splice.proofs.splice_i64.Statement.{statement}
 use Rattle.splice.proofs.splice_i64.Tie as tie
-use Rattle.splice.proofs.splice_i64.Reads as reads
-use Rattle.splice.proofs.splice_i64.Lts as lts
-use Rattle.splice.proofs.clear_i64.Reads as clear-i64-reads
-use Rattle.splice.proofs.move_i64.Reads as move-i64-reads
-use Rattle.splice.proofs.put_i64.Reads as put-i64-reads
 
-add-to : tie.Need-add-to
-add-to c = search needs
+-- the ladder, from the end down: after the clear, after the put, after the move, at the entry
+abbrev cleared : tie.After-a3 → tie.After-clear-i64
+cleared c = c .before
 
-sub-n : tie.Need-sub-n
-sub-n c = search needs
+abbrev stored : tie.After-clear-i64 → tie.After-put-i64
+stored c = c .before .before .before
+
+abbrev moved : tie.After-put-i64 → tie.After-move-i64
+moved c = c .before .before .before
+
+abbrev entry : tie.After-move-i64 → tie.Start
+entry c = c .before .before
+
+add-next : tie.Need-add-next
+add-next c = search needs
+
+sub-rest : tie.Need-sub-rest
+sub-rest c = search needs
 
 move-i64-requires : tie.Need-move-i64-requires
 move-i64-requires c κs = search needs
@@ -37,24 +46,27 @@ same-length c = search needs
 
 returns : tie.Need-returns
 returns c =
-    let u = c .before .before .before .before in
-    let m = u .before .before .before in
-    let s = m .before .before in
+    let e = cleared c in
+    let p = stored e in
+    let m = moved p in
+    let s = entry m in
     let g = s .args in
+    let q = g .p in
+    let apt = s .pre .0 in
     let vs : List ℤ = g .x ∷ g .y ∷ g .z ∷ [] in
-    let n = length-take-le (g .k) vs (omega arith) in
-    splice-done (g .a .now) (g .i) (g .j) (g .count) (take (g .k) vs) (pos 0) (omega arith) (omega arith) (omega arith) (omega arith) (s .pre .5) (g .k)
-    n
+    let k = length-take-le (q .n) vs (apt .few) in
+    splice-done (g .a .now) (q .from) (q .to) (g .count) (take (q .n) vs) (pos 0) (apt .ascending) (apt .within)
+    (s .pre .1 .held) (omega (arith, s .pre .1 .room)) (s .pre .2) (q .n) k
     (m .move-i64 .ensures)
-    (rw (toZ-ofZ (s .fits .x), toZ-ofZ (s .fits .y), toZ-ofZ (s .fits .z)) at (u .put-i64 .ensures))
-    (c .before .clear-i64 .ensures)
+    (rw (toZ-ofZ (s .fits .x), toZ-ofZ (s .fits .y), toZ-ofZ (s .fits .z)) at (p .put-i64 .ensures))
+    (e .clear-i64 .ensures)
 
 pub splice-i64-spec : {M : Type 1} → statement M
 splice-i64-spec =
     tie.close
     (tie.spec
-    add-to
-    sub-n
+    add-next
+    sub-rest
     move-i64-requires
     put-i64-requires
     add-clear-i64

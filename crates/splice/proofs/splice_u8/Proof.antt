@@ -1,3 +1,4 @@
+-- `splice::splice_u8` meets its contract.
 use Prim.Native.Nat.{ℕ}
 use mathlib.Core.List.{List, [], _∷_}
 use native.Mathlib.Omega.{arith}
@@ -7,17 +8,25 @@ use Rattle.splice.proofs.Sets.{splice-done}
 use borrow.Author.Needs.{needs}
 use Rattle.splice.proofs.splice_u8.Statement.{statement}
 use Rattle.splice.proofs.splice_u8.Tie as tie
-use Rattle.splice.proofs.splice_u8.Reads as reads
-use Rattle.splice.proofs.splice_u8.Lts as lts
-use Rattle.splice.proofs.clear_u8.Reads as clear-u8-reads
-use Rattle.splice.proofs.move_u8.Reads as move-u8-reads
-use Rattle.splice.proofs.put_u8.Reads as put-u8-reads
 
-add-to : tie.Need-add-to
-add-to c = search needs
+-- the ladder, from the end down: after the clear, after the put, after the move, at the entry
+abbrev cleared : tie.After-slice-known4 → tie.After-clear-u8
+cleared c = c .before .before
 
-sub-n : tie.Need-sub-n
-sub-n c = search needs
+abbrev stored : tie.After-clear-u8 → tie.After-put-u8
+stored c = c .before .before .before .before
+
+abbrev moved : tie.After-put-u8 → tie.After-move-u8
+moved c = c .before .before .before .before
+
+abbrev entry : tie.After-move-u8 → tie.Start
+entry c = c .before .before .before
+
+add-next : tie.Need-add-next
+add-next c = search needs
+
+sub-rest : tie.Need-sub-rest
+sub-rest c = search needs
 
 move-u8-requires : tie.Need-move-u8-requires
 move-u8-requires c κs = search needs
@@ -36,24 +45,27 @@ same-length c = search needs
 
 returns : tie.Need-returns
 returns c =
-    let e = c .before .before in
-    let u = e .before .before .before .before in
-    let m = u .before .before .before .before in
-    let s = m .before .before .before in
+    let e = cleared c in
+    let p = stored e in
+    let m = moved p in
+    let s = entry m in
     let g = s .args in
+    let q = g .p in
+    let apt = s .pre .0 in
     let vs : List ℕ = g .x ∷ g .y ∷ g .z ∷ [] in
-    let n = length-take-le (g .k) vs (omega arith) in
-    splice-done (g .a .now) (g .i) (g .j) (g .count) (take (g .k) vs) 0 (omega arith) (omega arith) (omega arith) (omega arith) (s .pre .5) (g .k) n
+    let k = length-take-le (q .n) vs (apt .few) in
+    splice-done (g .a .now) (q .from) (q .to) (g .count) (take (q .n) vs) 0 (apt .ascending) (apt .within)
+    (s .pre .1 .held) (omega (arith, s .pre .1 .room)) (s .pre .2) (q .n) k
     (m .move-u8 .ensures)
-    (u .put-u8 .ensures)
+    (p .put-u8 .ensures)
     (e .clear-u8 .ensures)
 
 pub splice-u8-spec : {M : Type 1} → statement M
 splice-u8-spec =
     tie.close
     (tie.spec
-    add-to
-    sub-n
+    add-next
+    sub-rest
     move-u8-requires
     put-u8-requires
     add-clear-u8

@@ -1,9 +1,9 @@
--- `edit::plan::around` meets its contract.
+-- `edit::plan::bring` meets its contract.
 use native.Mathlib.Omega.{arith}
 use mathlib.Core.Path.{ap, _∙_}
-use Rattle.edit.specs.InnerPlan.{kept}
-use Rattle.edit.proofs.plan.around.Statement.{statement}
-use Rattle.edit.proofs.plan.around.Tie as tie
+use Rattle.edit.specs.InnerPlan.{ahead}
+use Rattle.edit.proofs.plan.bring.Statement.{statement}
+use Rattle.edit.proofs.plan.bring.Tie as tie
 
 in-front-requires : tie.Need-in-front-requires
 in-front-requires c κs = omega arith
@@ -16,17 +16,19 @@ in-front-requires-3 c κs = omega (arith, c .in-front2 .ensures .few, c .before 
 
 returns : tie.Need-returns
 returns c =
-    let g = c .before .before .before .args in
-    let x = c .before .before .in-front .ensures in
-    let y = c .before .in-front2 .ensures in
+    let two = c .before in
+    let one = two .before in
+    let g = one .before .args in
+    let x = one .in-front .ensures in
+    let y = two .in-front2 .ensures in
     let z = c .in-front3 .ensures in
     record {
       from-is = z .from-is ∙ y .from-is ∙ x .from-is;
       to-is = z .to-is ∙ y .to-is ∙ x .to-is;
       few = omega (arith, x .few, y .few, z .few);
-      are = z .are ∙ ap (kept (g .keeps-left) (g .left)) (y .are ∙ ap (kept (g .comes) (g .new)) (x .are));
+      are = z .are ∙ ap (ahead (g .left)) (y .are ∙ ap (ahead (g .new)) (x .are));
     }
 
-pub around-spec : {M : Type 1} → statement M
-around-spec =
+pub bring-spec : {M : Type 1} → statement M
+bring-spec =
     tie.close (tie.spec in-front-requires in-front-requires-2 in-front-requires-3 returns)
