@@ -65,11 +65,11 @@ fn write_formed(
 }
 
 // The form of any map.
-pub fn write<'a>(
-    count: &'a usize,
-    starts: &'a [i64; PLACES],
-    ends: &'a [i64; PLACES],
-    values: &'a [u8; PLACES],
+pub fn write(
+    count: &usize,
+    starts: &[i64; PLACES],
+    ends: &[i64; PLACES],
+    values: &[u8; PLACES],
     out: &mut [u8],
 ) -> Counted
     ensures { λ r. ⌜ output r (now (out .exit)) ≡ writing (lent (count .entry) (starts .entry) (ends .entry) (values .entry)) (now (out .entry)) ⌝ }
@@ -81,11 +81,11 @@ pub fn write<'a>(
 }
 
 // The same answer as a struct of numbers: what C and Rust see.
-pub fn write_number<'a>(
-    count: &'a usize,
-    starts: &'a [i64; PLACES],
-    ends: &'a [i64; PLACES],
-    values: &'a [u8; PLACES],
+pub fn write_number(
+    count: &usize,
+    starts: &[i64; PLACES],
+    ends: &[i64; PLACES],
+    values: &[u8; PLACES],
     out: &mut [u8],
 ) -> Count
     ensures { λ r. ⌜ Wrote r (now (out .exit)) (writing (lent (count .entry) (starts .entry) (ends .entry) (values .entry)) (now (out .entry))) ⌝ }

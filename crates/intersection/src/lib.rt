@@ -162,16 +162,16 @@ pub fn intersection_unchecked(
 }
 
 // Any two sets are taken.
-pub fn intersection<'a, 'b>(
+pub fn intersection(
     kind: RangeKind,
-    count_a: &'a usize,
-    starts_a: &'a [i64; PLACES],
-    ends_a: &'a [i64; PLACES],
-    values_a: &'a [u8; PLACES],
-    count_b: &'b usize,
-    starts_b: &'b [i64; PLACES],
-    ends_b: &'b [i64; PLACES],
-    values_b: &'b [u8; PLACES],
+    count_a: &usize,
+    starts_a: &[i64; PLACES],
+    ends_a: &[i64; PLACES],
+    values_a: &[u8; PLACES],
+    count_b: &usize,
+    starts_b: &[i64; PLACES],
+    ends_b: &[i64; PLACES],
+    values_b: &[u8; PLACES],
     out_starts: &mut [i64],
     out_ends: &mut [i64],
 ) -> Counted

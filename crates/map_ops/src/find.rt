@@ -18,12 +18,12 @@ ghost use Rattle.outcomes.specs.Outcomes.{containing, gapsIn, lookup, meeting, 
 ghost use Rattle.range_list.specs.InnerLists.{wrote};
 
 // The range that holds the key, and its value.
-pub fn get_key_value<'a>(
+pub fn get_key_value(
     kind: RangeKind,
-    count: &'a usize,
-    starts: &'a [i64; PLACES],
-    ends: &'a [i64; PLACES],
-    values: &'a [u8; PLACES],
+    count: &usize,
+    starts: &[i64; PLACES],
+    ends: &[i64; PLACES],
+    values: &[u8; PLACES],
     key: i64,
 ) -> Found
     ensures { λ r. ⌜ r ≡ lookup (kindOf kind) (lent (count .entry) (starts .entry) (ends .entry) (values .entry)) key ⌝ }
@@ -35,12 +35,12 @@ pub fn get_key_value<'a>(
 }
 
 // Whether some range holds the key.
-pub fn contains_key<'a>(
+pub fn contains_key(
     kind: RangeKind,
-    count: &'a usize,
-    starts: &'a [i64; PLACES],
-    ends: &'a [i64; PLACES],
-    values: &'a [u8; PLACES],
+    count: &usize,
+    starts: &[i64; PLACES],
+    ends: &[i64; PLACES],
+    values: &[u8; PLACES],
     key: i64,
 ) -> Asked
     ensures { λ r. ⌜ r ≡ containing (kindOf kind) (lent (count .entry) (starts .entry) (ends .entry) (values .entry)) key ⌝ }
@@ -52,12 +52,12 @@ pub fn contains_key<'a>(
 }
 
 // Whether some range has a key of the query.
-pub fn overlaps<'a>(
+pub fn overlaps(
     kind: RangeKind,
-    count: &'a usize,
-    starts: &'a [i64; PLACES],
-    ends: &'a [i64; PLACES],
-    values: &'a [u8; PLACES],
+    count: &usize,
+    starts: &[i64; PLACES],
+    ends: &[i64; PLACES],
+    values: &[u8; PLACES],
     start: i64,
     end: i64,
 ) -> Asked
@@ -70,12 +70,12 @@ pub fn overlaps<'a>(
 }
 
 // Which consecutive stored part meets the query.
-pub fn overlapping<'a>(
+pub fn overlapping(
     kind: RangeKind,
-    count: &'a usize,
-    starts: &'a [i64; PLACES],
-    ends: &'a [i64; PLACES],
-    values: &'a [u8; PLACES],
+    count: &usize,
+    starts: &[i64; PLACES],
+    ends: &[i64; PLACES],
+    values: &[u8; PLACES],
     start: i64,
     end: i64,
 ) -> Part
@@ -88,12 +88,12 @@ pub fn overlapping<'a>(
 }
 
 // The maximal uncovered ranges inside the outer range, into the first places of two lent lists.
-pub fn gaps<'a>(
+pub fn gaps(
     kind: RangeKind,
-    count: &'a usize,
-    starts: &'a [i64; PLACES],
-    ends: &'a [i64; PLACES],
-    values: &'a [u8; PLACES],
+    count: &usize,
+    starts: &[i64; PLACES],
+    ends: &[i64; PLACES],
+    values: &[u8; PLACES],
     start: i64,
     end: i64,
     out_starts: &mut [i64],

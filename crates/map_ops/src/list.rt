@@ -24,12 +24,12 @@ fn last_place(count: usize) -> usize
 }
 
 // Whether nothing is held.
-pub fn is_empty<'a>(
+pub fn is_empty(
     kind: RangeKind,
-    count: &'a usize,
-    starts: &'a [i64; PLACES],
-    ends: &'a [i64; PLACES],
-    values: &'a [u8; PLACES],
+    count: &usize,
+    starts: &[i64; PLACES],
+    ends: &[i64; PLACES],
+    values: &[u8; PLACES],
 ) -> Asked
     ensures { λ r. ⌜ r ≡ isEmpty (kindOf kind) (lent (count .entry) (starts .entry) (ends .entry) (values .entry)) ⌝ }
 {
@@ -43,12 +43,12 @@ pub fn is_empty<'a>(
 }
 
 // How many ranges are held.
-pub fn len<'a>(
+pub fn len(
     kind: RangeKind,
-    count: &'a usize,
-    starts: &'a [i64; PLACES],
-    ends: &'a [i64; PLACES],
-    values: &'a [u8; PLACES],
+    count: &usize,
+    starts: &[i64; PLACES],
+    ends: &[i64; PLACES],
+    values: &[u8; PLACES],
 ) -> Counted
     ensures { λ r. ⌜ r ≡ counting (kindOf kind) (lent (count .entry) (starts .entry) (ends .entry) (values .entry)) ⌝ }
 {
@@ -59,12 +59,12 @@ pub fn len<'a>(
 }
 
 // The range and the value at a place.
-pub fn range_at<'a>(
+pub fn range_at(
     kind: RangeKind,
-    count: &'a usize,
-    starts: &'a [i64; PLACES],
-    ends: &'a [i64; PLACES],
-    values: &'a [u8; PLACES],
+    count: &usize,
+    starts: &[i64; PLACES],
+    ends: &[i64; PLACES],
+    values: &[u8; PLACES],
     place: usize,
 ) -> Found
     ensures { λ r. ⌜ r ≡ rangeAt (kindOf kind) (lent (count .entry) (starts .entry) (ends .entry) (values .entry)) place ⌝ }
@@ -76,12 +76,12 @@ pub fn range_at<'a>(
 }
 
 // The first range and its value.
-pub fn first_range_value<'a>(
+pub fn first_range_value(
     kind: RangeKind,
-    count: &'a usize,
-    starts: &'a [i64; PLACES],
-    ends: &'a [i64; PLACES],
-    values: &'a [u8; PLACES],
+    count: &usize,
+    starts: &[i64; PLACES],
+    ends: &[i64; PLACES],
+    values: &[u8; PLACES],
 ) -> Found
     ensures { λ r. ⌜ r ≡ firstOf (kindOf kind) (lent (count .entry) (starts .entry) (ends .entry) (values .entry)) ⌝ }
 {
@@ -92,12 +92,12 @@ pub fn first_range_value<'a>(
 }
 
 // The last range and its value.
-pub fn last_range_value<'a>(
+pub fn last_range_value(
     kind: RangeKind,
-    count: &'a usize,
-    starts: &'a [i64; PLACES],
-    ends: &'a [i64; PLACES],
-    values: &'a [u8; PLACES],
+    count: &usize,
+    starts: &[i64; PLACES],
+    ends: &[i64; PLACES],
+    values: &[u8; PLACES],
 ) -> Found
     ensures { λ r. ⌜ r ≡ lastOf (kindOf kind) (lent (count .entry) (starts .entry) (ends .entry) (values .entry)) ⌝ }
 {
@@ -108,16 +108,16 @@ pub fn last_range_value<'a>(
 }
 
 // Which of two maps comes first.
-pub fn cmp<'a, 'b>(
+pub fn cmp(
     kind: RangeKind,
-    count: &'a usize,
-    starts: &'a [i64; PLACES],
-    ends: &'a [i64; PLACES],
-    values: &'a [u8; PLACES],
-    count2: &'b usize,
-    starts2: &'b [i64; PLACES],
-    ends2: &'b [i64; PLACES],
-    values2: &'b [u8; PLACES],
+    count: &usize,
+    starts: &[i64; PLACES],
+    ends: &[i64; PLACES],
+    values: &[u8; PLACES],
+    count2: &usize,
+    starts2: &[i64; PLACES],
+    ends2: &[i64; PLACES],
+    values2: &[u8; PLACES],
 ) -> Compared
     ensures { λ r. ⌜ r ≡ ordering (kindOf kind) (lent (count .entry) (starts .entry) (ends .entry) (values .entry)) (lent (count2 .entry) (starts2 .entry) (ends2 .entry) (values2 .entry)) ⌝ }
 {
@@ -140,16 +140,16 @@ pub fn cmp<'a, 'b>(
 }
 
 // Whether two maps hold the same ranges with the same values.
-pub fn eq<'a, 'b>(
+pub fn eq(
     kind: RangeKind,
-    count: &'a usize,
-    starts: &'a [i64; PLACES],
-    ends: &'a [i64; PLACES],
-    values: &'a [u8; PLACES],
-    count2: &'b usize,
-    starts2: &'b [i64; PLACES],
-    ends2: &'b [i64; PLACES],
-    values2: &'b [u8; PLACES],
+    count: &usize,
+    starts: &[i64; PLACES],
+    ends: &[i64; PLACES],
+    values: &[u8; PLACES],
+    count2: &usize,
+    starts2: &[i64; PLACES],
+    ends2: &[i64; PLACES],
+    values2: &[u8; PLACES],
 ) -> Asked
     ensures { λ r. ⌜ r ≡ equality (kindOf kind) (lent (count .entry) (starts .entry) (ends .entry) (values .entry)) (lent (count2 .entry) (starts2 .entry) (ends2 .entry) (values2 .entry)) ⌝ }
 {

@@ -126,11 +126,11 @@ pub fn unchecked(
 }
 
 // The report of any map, over all its fields.
-pub fn checked<'a>(
-    count: &'a usize,
-    starts: &'a [i64; PLACES],
-    ends: &'a [i64; PLACES],
-    values: &'a [u8; PLACES],
+pub fn checked(
+    count: &usize,
+    starts: &[i64; PLACES],
+    ends: &[i64; PLACES],
+    values: &[u8; PLACES],
     zone: u8,
     year: u16,
     month: u8,
@@ -145,11 +145,11 @@ pub fn checked<'a>(
 }
 
 // The same as C and Rust see it.
-pub fn day_report<'a>(
-    count: &'a usize,
-    starts: &'a [i64; PLACES],
-    ends: &'a [i64; PLACES],
-    values: &'a [u8; PLACES],
+pub fn day_report(
+    count: &usize,
+    starts: &[i64; PLACES],
+    ends: &[i64; PLACES],
+    values: &[u8; PLACES],
     zone: u8,
     year: u16,
     month: u8,
@@ -161,11 +161,11 @@ pub fn day_report<'a>(
 }
 
 // The same of a well-formed map. The caller answers for the check.
-pub fn day_report_unchecked<'a>(
-    count: &'a usize,
-    starts: &'a [i64; PLACES],
-    ends: &'a [i64; PLACES],
-    values: &'a [u8; PLACES],
+pub fn day_report_unchecked(
+    count: &usize,
+    starts: &[i64; PLACES],
+    ends: &[i64; PLACES],
+    values: &[u8; PLACES],
     zone: u8,
     year: u16,
     month: u8,

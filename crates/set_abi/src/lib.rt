@@ -23,36 +23,36 @@ ghost use Rattle.outcomes.specs.Outcomes.{Listed, cleared, extended, leaving};
 ghost use Rattle.outcomes.specs.Sets.{formedSet, intersecting, uniting, totalling};
 ghost use Rattle.set_ops.specs.Answers.{pairs, setContaining, setCounting, setEquality, setExtending, setFirst, setGaps, setInserting, setIsEmpty, setLast, setLookup, setMeeting, setOrdering, setOverlapping, setRangeAt, setRemoving};
 
-pub fn is_empty<'a>(
+pub fn is_empty(
     kind: RangeKind,
-    count: &'a usize,
-    starts: &'a [i64; PLACES],
-    ends: &'a [i64; PLACES],
-    values: &'a [u8; PLACES],
+    count: &usize,
+    starts: &[i64; PLACES],
+    ends: &[i64; PLACES],
+    values: &[u8; PLACES],
 ) -> Told
     ensures { λ r. ⌜ r ≡ toldOf (setIsEmpty (kindOf kind) (lent (count .entry) (starts .entry) (ends .entry) (values .entry))) ⌝ }
 {
     told_of(set_ops::stored::is_empty(kind, count, starts, ends, values))
 }
 
-pub fn len<'a>(
+pub fn len(
     kind: RangeKind,
-    count: &'a usize,
-    starts: &'a [i64; PLACES],
-    ends: &'a [i64; PLACES],
-    values: &'a [u8; PLACES],
+    count: &usize,
+    starts: &[i64; PLACES],
+    ends: &[i64; PLACES],
+    values: &[u8; PLACES],
 ) -> Count
     ensures { λ r. ⌜ r ≡ countOf (setCounting (kindOf kind) (lent (count .entry) (starts .entry) (ends .entry) (values .entry))) ⌝ }
 {
     count_of(set_ops::stored::len(kind, count, starts, ends, values))
 }
 
-pub fn range_at<'a>(
+pub fn range_at(
     kind: RangeKind,
-    count: &'a usize,
-    starts: &'a [i64; PLACES],
-    ends: &'a [i64; PLACES],
-    values: &'a [u8; PLACES],
+    count: &usize,
+    starts: &[i64; PLACES],
+    ends: &[i64; PLACES],
+    values: &[u8; PLACES],
     place: usize,
 ) -> Range
     ensures { λ r. ⌜ r ≡ rangeOf (setRangeAt (kindOf kind) (lent (count .entry) (starts .entry) (ends .entry) (values .entry)) place) ⌝ }
@@ -60,36 +60,36 @@ pub fn range_at<'a>(
     range_of(set_ops::stored::range_at(kind, count, starts, ends, values, place))
 }
 
-pub fn first<'a>(
+pub fn first(
     kind: RangeKind,
-    count: &'a usize,
-    starts: &'a [i64; PLACES],
-    ends: &'a [i64; PLACES],
-    values: &'a [u8; PLACES],
+    count: &usize,
+    starts: &[i64; PLACES],
+    ends: &[i64; PLACES],
+    values: &[u8; PLACES],
 ) -> Range
     ensures { λ r. ⌜ r ≡ rangeOf (setFirst (kindOf kind) (lent (count .entry) (starts .entry) (ends .entry) (values .entry))) ⌝ }
 {
     range_of(set_ops::stored::first(kind, count, starts, ends, values))
 }
 
-pub fn last<'a>(
+pub fn last(
     kind: RangeKind,
-    count: &'a usize,
-    starts: &'a [i64; PLACES],
-    ends: &'a [i64; PLACES],
-    values: &'a [u8; PLACES],
+    count: &usize,
+    starts: &[i64; PLACES],
+    ends: &[i64; PLACES],
+    values: &[u8; PLACES],
 ) -> Range
     ensures { λ r. ⌜ r ≡ rangeOf (setLast (kindOf kind) (lent (count .entry) (starts .entry) (ends .entry) (values .entry))) ⌝ }
 {
     range_of(set_ops::stored::last(kind, count, starts, ends, values))
 }
 
-pub fn get<'a>(
+pub fn get(
     kind: RangeKind,
-    count: &'a usize,
-    starts: &'a [i64; PLACES],
-    ends: &'a [i64; PLACES],
-    values: &'a [u8; PLACES],
+    count: &usize,
+    starts: &[i64; PLACES],
+    ends: &[i64; PLACES],
+    values: &[u8; PLACES],
     key: i64,
 ) -> Range
     ensures { λ r. ⌜ r ≡ rangeOf (setLookup (kindOf kind) (lent (count .entry) (starts .entry) (ends .entry) (values .entry)) key) ⌝ }
@@ -97,12 +97,12 @@ pub fn get<'a>(
     range_of(set_ops::found::get(kind, count, starts, ends, values, key))
 }
 
-pub fn contains<'a>(
+pub fn contains(
     kind: RangeKind,
-    count: &'a usize,
-    starts: &'a [i64; PLACES],
-    ends: &'a [i64; PLACES],
-    values: &'a [u8; PLACES],
+    count: &usize,
+    starts: &[i64; PLACES],
+    ends: &[i64; PLACES],
+    values: &[u8; PLACES],
     key: i64,
 ) -> Told
     ensures { λ r. ⌜ r ≡ toldOf (setContaining (kindOf kind) (lent (count .entry) (starts .entry) (ends .entry) (values .entry)) key) ⌝ }
@@ -110,12 +110,12 @@ pub fn contains<'a>(
     told_of(set_ops::found::contains(kind, count, starts, ends, values, key))
 }
 
-pub fn overlaps<'a>(
+pub fn overlaps(
     kind: RangeKind,
-    count: &'a usize,
-    starts: &'a [i64; PLACES],
-    ends: &'a [i64; PLACES],
-    values: &'a [u8; PLACES],
+    count: &usize,
+    starts: &[i64; PLACES],
+    ends: &[i64; PLACES],
+    values: &[u8; PLACES],
     start: i64,
     end: i64,
 ) -> Told
@@ -124,12 +124,12 @@ pub fn overlaps<'a>(
     told_of(set_ops::found::overlaps(kind, count, starts, ends, values, start, end))
 }
 
-pub fn overlapping<'a>(
+pub fn overlapping(
     kind: RangeKind,
-    count: &'a usize,
-    starts: &'a [i64; PLACES],
-    ends: &'a [i64; PLACES],
-    values: &'a [u8; PLACES],
+    count: &usize,
+    starts: &[i64; PLACES],
+    ends: &[i64; PLACES],
+    values: &[u8; PLACES],
     start: i64,
     end: i64,
 ) -> Stretch
@@ -138,12 +138,12 @@ pub fn overlapping<'a>(
     stretch_of(set_ops::found::overlapping(kind, count, starts, ends, values, start, end))
 }
 
-pub fn gaps<'a>(
+pub fn gaps(
     kind: RangeKind,
-    count: &'a usize,
-    starts: &'a [i64; PLACES],
-    ends: &'a [i64; PLACES],
-    values: &'a [u8; PLACES],
+    count: &usize,
+    starts: &[i64; PLACES],
+    ends: &[i64; PLACES],
+    values: &[u8; PLACES],
     start: i64,
     end: i64,
     out_starts: &mut [i64],
@@ -164,16 +164,16 @@ pub fn gaps<'a>(
     ))
 }
 
-pub fn eq<'a, 'b>(
+pub fn eq(
     kind: RangeKind,
-    count: &'a usize,
-    starts: &'a [i64; PLACES],
-    ends: &'a [i64; PLACES],
-    values: &'a [u8; PLACES],
-    count2: &'b usize,
-    starts2: &'b [i64; PLACES],
-    ends2: &'b [i64; PLACES],
-    values2: &'b [u8; PLACES],
+    count: &usize,
+    starts: &[i64; PLACES],
+    ends: &[i64; PLACES],
+    values: &[u8; PLACES],
+    count2: &usize,
+    starts2: &[i64; PLACES],
+    ends2: &[i64; PLACES],
+    values2: &[u8; PLACES],
 ) -> Told
     ensures { λ r. ⌜ r ≡ toldOf (setEquality (kindOf kind) (lent (count .entry) (starts .entry) (ends .entry) (values .entry)) (lent (count2 .entry) (starts2 .entry) (ends2 .entry) (values2 .entry))) ⌝ }
 {
@@ -190,16 +190,16 @@ pub fn eq<'a, 'b>(
     ))
 }
 
-pub fn cmp<'a, 'b>(
+pub fn cmp(
     kind: RangeKind,
-    count: &'a usize,
-    starts: &'a [i64; PLACES],
-    ends: &'a [i64; PLACES],
-    values: &'a [u8; PLACES],
-    count2: &'b usize,
-    starts2: &'b [i64; PLACES],
-    ends2: &'b [i64; PLACES],
-    values2: &'b [u8; PLACES],
+    count: &usize,
+    starts: &[i64; PLACES],
+    ends: &[i64; PLACES],
+    values: &[u8; PLACES],
+    count2: &usize,
+    starts2: &[i64; PLACES],
+    ends2: &[i64; PLACES],
+    values2: &[u8; PLACES],
 ) -> Order
     ensures { λ r. ⌜ r ≡ orderOf (setOrdering (kindOf kind) (lent (count .entry) (starts .entry) (ends .entry) (values .entry)) (lent (count2 .entry) (starts2 .entry) (ends2 .entry) (values2 .entry))) ⌝ }
 {
@@ -216,12 +216,12 @@ pub fn cmp<'a, 'b>(
     ))
 }
 
-pub fn insert<'a>(
+pub fn insert(
     kind: RangeKind,
-    count: &'a mut usize,
-    starts: &'a mut [i64; PLACES],
-    ends: &'a mut [i64; PLACES],
-    values: &'a mut [u8; PLACES],
+    count: &mut usize,
+    starts: &mut [i64; PLACES],
+    ends: &mut [i64; PLACES],
+    values: &mut [u8; PLACES],
     start: i64,
     end: i64,
 ) -> u8
@@ -230,12 +230,12 @@ pub fn insert<'a>(
     set_ops::changed::insert(kind, count, starts, ends, values, start, end)
 }
 
-pub fn remove<'a>(
+pub fn remove(
     kind: RangeKind,
-    count: &'a mut usize,
-    starts: &'a mut [i64; PLACES],
-    ends: &'a mut [i64; PLACES],
-    values: &'a mut [u8; PLACES],
+    count: &mut usize,
+    starts: &mut [i64; PLACES],
+    ends: &mut [i64; PLACES],
+    values: &mut [u8; PLACES],
     start: i64,
     end: i64,
 ) -> u8
@@ -244,12 +244,12 @@ pub fn remove<'a>(
     set_ops::changed::remove(kind, count, starts, ends, values, start, end)
 }
 
-pub fn extend<'a>(
+pub fn extend(
     kind: RangeKind,
-    count: &'a mut usize,
-    starts: &'a mut [i64; PLACES],
-    ends: &'a mut [i64; PLACES],
-    values: &'a mut [u8; PLACES],
+    count: &mut usize,
+    starts: &mut [i64; PLACES],
+    ends: &mut [i64; PLACES],
+    values: &mut [u8; PLACES],
     new_starts: &[i64],
     new_ends: &[i64],
 ) -> Applied
@@ -259,40 +259,40 @@ pub fn extend<'a>(
 }
 
 // The kind is for the promise alone: a set that holds nothing is the same for both.
-pub fn clear<'a>(
+pub fn clear(
     kind: RangeKind,
-    count: &'a mut usize,
-    starts: &'a mut [i64; PLACES],
-    ends: &'a mut [i64; PLACES],
-    values: &'a mut [u8; PLACES],
+    count: &mut usize,
+    starts: &mut [i64; PLACES],
+    ends: &mut [i64; PLACES],
+    values: &mut [u8; PLACES],
 )
     ensures { λ _. ⌜ (lent (count .exit) (starts .exit) (ends .exit) (values .exit)) ≡ cleared (kindOf kind) ⌝ }
 {
     map_ops::change::clear(count, starts, ends, values)
 }
 
-pub fn is_formed<'a>(
+pub fn is_formed(
     kind: RangeKind,
-    count: &'a usize,
-    starts: &'a [i64; PLACES],
-    ends: &'a [i64; PLACES],
-    values: &'a [u8; PLACES],
+    count: &usize,
+    starts: &[i64; PLACES],
+    ends: &[i64; PLACES],
+    values: &[u8; PLACES],
 ) -> bool
     ensures { λ r. ⌜ r ≡ formedSet (kindOf kind) (lent (count .entry) (starts .entry) (ends .entry) (values .entry)) ⌝ }
 {
     store::plain::is_set(kind, *count, starts, ends, values)
 }
 
-pub fn intersection<'a, 'b>(
+pub fn intersection(
     kind: RangeKind,
-    count: &'a usize,
-    starts: &'a [i64; PLACES],
-    ends: &'a [i64; PLACES],
-    values: &'a [u8; PLACES],
-    count2: &'b usize,
-    starts2: &'b [i64; PLACES],
-    ends2: &'b [i64; PLACES],
-    values2: &'b [u8; PLACES],
+    count: &usize,
+    starts: &[i64; PLACES],
+    ends: &[i64; PLACES],
+    values: &[u8; PLACES],
+    count2: &usize,
+    starts2: &[i64; PLACES],
+    ends2: &[i64; PLACES],
+    values2: &[u8; PLACES],
     out_starts: &mut [i64],
     out_ends: &mut [i64],
 ) -> Count
@@ -313,16 +313,16 @@ pub fn intersection<'a, 'b>(
     ))
 }
 
-pub fn union<'a, 'b>(
+pub fn union(
     kind: RangeKind,
-    count: &'a usize,
-    starts: &'a [i64; PLACES],
-    ends: &'a [i64; PLACES],
-    values: &'a [u8; PLACES],
-    count2: &'b usize,
-    starts2: &'b [i64; PLACES],
-    ends2: &'b [i64; PLACES],
-    values2: &'b [u8; PLACES],
+    count: &usize,
+    starts: &[i64; PLACES],
+    ends: &[i64; PLACES],
+    values: &[u8; PLACES],
+    count2: &usize,
+    starts2: &[i64; PLACES],
+    ends2: &[i64; PLACES],
+    values2: &[u8; PLACES],
     out_starts: &mut [i64],
     out_ends: &mut [i64],
 ) -> Count
@@ -343,12 +343,12 @@ pub fn union<'a, 'b>(
     ))
 }
 
-pub fn total<'a>(
+pub fn total(
     kind: RangeKind,
-    count: &'a usize,
-    starts: &'a [i64; PLACES],
-    ends: &'a [i64; PLACES],
-    values: &'a [u8; PLACES],
+    count: &usize,
+    starts: &[i64; PLACES],
+    ends: &[i64; PLACES],
+    values: &[u8; PLACES],
 ) -> Total
     ensures { λ r. ⌜ r ≡ totalOf (totalling (kindOf kind) (lent (count .entry) (starts .entry) (ends .entry) (values .entry))) ⌝ }
 {

@@ -164,16 +164,16 @@ pub fn union_unchecked(
 }
 
 // Any two sets are taken.
-pub fn union<'a, 'b>(
+pub fn union(
     kind: RangeKind,
-    count_a: &'a usize,
-    starts_a: &'a [i64; PLACES],
-    ends_a: &'a [i64; PLACES],
-    values_a: &'a [u8; PLACES],
-    count_b: &'b usize,
-    starts_b: &'b [i64; PLACES],
-    ends_b: &'b [i64; PLACES],
-    values_b: &'b [u8; PLACES],
+    count_a: &usize,
+    starts_a: &[i64; PLACES],
+    ends_a: &[i64; PLACES],
+    values_a: &[u8; PLACES],
+    count_b: &usize,
+    starts_b: &[i64; PLACES],
+    ends_b: &[i64; PLACES],
+    values_b: &[u8; PLACES],
     out_starts: &mut [i64],
     out_ends: &mut [i64],
 ) -> Counted

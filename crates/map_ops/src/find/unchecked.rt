@@ -10,12 +10,12 @@ ghost use Rattle.outcomes.specs.Outcomes.{found, uncovered};
 ghost use Rattle.range_list.specs.InnerLists.{wrote};
 
 // The range that holds the key, and its value.
-pub fn get_key_value<'a>(
+pub fn get_key_value(
     kind: RangeKind,
-    count: &'a usize,
-    starts: &'a [i64; PLACES],
-    ends: &'a [i64; PLACES],
-    values: &'a [u8; PLACES],
+    count: &usize,
+    starts: &[i64; PLACES],
+    ends: &[i64; PLACES],
+    values: &[u8; PLACES],
     key: i64,
 ) -> Found
     requires { ⌜ Sound (kindOf kind) (lent count starts ends values) ⌝ }
@@ -25,12 +25,12 @@ pub fn get_key_value<'a>(
 }
 
 // The maximal uncovered ranges inside the outer range, into the first places of two lent lists.
-pub fn gaps<'a>(
+pub fn gaps(
     kind: RangeKind,
-    count: &'a usize,
-    starts: &'a [i64; PLACES],
-    ends: &'a [i64; PLACES],
-    values: &'a [u8; PLACES],
+    count: &usize,
+    starts: &[i64; PLACES],
+    ends: &[i64; PLACES],
+    values: &[u8; PLACES],
     start: i64,
     end: i64,
     out_starts: &mut [i64],
