@@ -6,7 +6,7 @@ use outcomes::NOT_FORMED;
 use outcomes::PLACES;
 use outcomes::TOO_SHORT;
 use outcomes::count_of;
-use store::formed::is_formed;
+use store::check::well_formed;
 ghost use mathlib.Core.Path.{_≡_};
 ghost use mathlib.Core.List.{_++_};
 ghost use Prim.Native.Nat.{_≤_};
@@ -74,7 +74,7 @@ pub fn write(
 ) -> Counted
     ensures { λ r. ⌜ output r (now (out .exit)) ≡ writing (lent (count .entry) (starts .entry) (ends .entry) (values .entry)) (now (out .entry)) ⌝ }
 {
-    if !is_formed(RangeKind::HalfOpen, *count, starts, ends, values) {
+    if !well_formed(RangeKind::HalfOpen, *count, starts, ends, values) {
         return Counted::Refused(NOT_FORMED);
     }
     write_formed(*count, starts, ends, values, out)

@@ -6,6 +6,9 @@ mod sides;
 
 use key::RangeKind;
 use key::full;
+use outcomes::Outcome;
+use outcomes::PLACES;
+use outcomes::outcome_of;
 use splice::Entry;
 use store::search::reaching;
 use store::walk::begun;
@@ -15,8 +18,9 @@ ghost use Prim.Native.Nat.{_<_};
 ghost use lib.ListN.{length};
 ghost use Rattle.key.specs.Rank.{rank};
 ghost use Rattle.key.specs.Range.{kindOf};
-ghost use Rattle.outcomes.specs.Stored.{stored, lent, ranges, Sound};
+ghost use Rattle.outcomes.specs.Stored.{places, stored, lent, ranges, Sound};
 ghost use Rattle.outcomes.specs.Outcomes.{leaving, editing};
+ghost use Rattle.outcomes.specs.InnerOutcome.{Leaves};
 ghost use Rattle.edit.specs.InnerPlan.{Touching, Planned, asked};
 
 // The places from `from` up to `to` go; the first `n` of x, y and z come.
@@ -178,33 +182,33 @@ fn edit(
 pub fn insert(
     kind: RangeKind,
     count: &mut usize,
-    starts: &mut [i64],
-    ends: &mut [i64],
-    values: &mut [u8],
+    starts: &mut [i64; PLACES],
+    ends: &mut [i64; PLACES],
+    values: &mut [u8; PLACES],
     start: i64,
     end: i64,
     value: u8,
-) -> u8
+) -> Outcome
     requires { ⌜ Sound (kindOf kind) (lent count starts ends values) ⌝ }
-    ensures { λ r. ⌜ leaving r (lent (count .exit) (starts .exit) (ends .exit) (values .exit))
-        ≡ editing (kindOf kind) (length (now (starts .entry))) (lent (count .entry) (starts .entry) (ends .entry) (values .entry)) start end (some value) ⌝ }
+    ensures { λ r. ⌜ Leaves r (lent (count .exit) (starts .exit) (ends .exit) (values .exit))
+        (editing (kindOf kind) places (lent (count .entry) (starts .entry) (ends .entry) (values .entry)) start end (some value)) ⌝ }
 {
-    edit(kind, count, starts, ends, values, start, end, true, value)
+    outcome_of(edit(kind, count, starts, ends, values, start, end, true, value))
 }
 
 // Uncovers exactly the instants of the range.
 pub fn remove(
     kind: RangeKind,
     count: &mut usize,
-    starts: &mut [i64],
-    ends: &mut [i64],
-    values: &mut [u8],
+    starts: &mut [i64; PLACES],
+    ends: &mut [i64; PLACES],
+    values: &mut [u8; PLACES],
     start: i64,
     end: i64,
-) -> u8
+) -> Outcome
     requires { ⌜ Sound (kindOf kind) (lent count starts ends values) ⌝ }
-    ensures { λ r. ⌜ leaving r (lent (count .exit) (starts .exit) (ends .exit) (values .exit))
-        ≡ editing (kindOf kind) (length (now (starts .entry))) (lent (count .entry) (starts .entry) (ends .entry) (values .entry)) start end none ⌝ }
+    ensures { λ r. ⌜ Leaves r (lent (count .exit) (starts .exit) (ends .exit) (values .exit))
+        (editing (kindOf kind) places (lent (count .entry) (starts .entry) (ends .entry) (values .entry)) start end none) ⌝ }
 {
-    edit(kind, count, starts, ends, values, start, end, false, 0)
+    outcome_of(edit(kind, count, starts, ends, values, start, end, false, 0))
 }

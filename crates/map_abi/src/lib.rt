@@ -1,7 +1,6 @@
 // The functions of a map of either kind, over its fields, with their answers as structs of numbers: what C and Rust see. The exported functions of
 // `map` and `inclusive_map` name their kind and lend all the fields of their map to these.
 use key::RangeKind;
-use outcomes::Applied;
 use outcomes::Count;
 use outcomes::Order;
 use outcomes::PLACES;
@@ -9,6 +8,7 @@ use outcomes::Range;
 use outcomes::Stretch;
 use outcomes::Told;
 use outcomes::count_of;
+use outcomes::number_of;
 use outcomes::order_of;
 use outcomes::range_of;
 use outcomes::stretch_of;
@@ -18,7 +18,7 @@ ghost use Rattle.key.specs.Range.{kindOf};
 ghost use mathlib.Core.Option.{some, none};
 ghost use Rattle.outcomes.specs.Stored.{places, lent, Sound};
 ghost use Rattle.outcomes.specs.Numbers.{toldOf, countOf, rangeOf, stretchOf, orderOf};
-ghost use Rattle.outcomes.specs.Outcomes.{Listed, cleared, containing, counting, editing, entries, equality, extended, extending, firstOf, formed, found, gapsIn, inserting, isEmpty, lastOf, leaving, lookup, meeting, ordering, overlapping, rangeAt, removing, uncovered};
+ghost use Rattle.outcomes.specs.Outcomes.{Listed, containing, counting, editing, equality, firstOf, formed, found, gapsIn, inserting, isEmpty, lastOf, leaving, lookup, meeting, ordering, overlapping, rangeAt, removing, uncovered};
 
 pub fn is_empty(
     kind: RangeKind,
@@ -225,7 +225,7 @@ pub fn insert(
 ) -> u8
     ensures { λ r. ⌜ leaving r (lent (count .exit) (starts .exit) (ends .exit) (values .exit)) ≡ inserting (kindOf kind) (lent (count .entry) (starts .entry) (ends .entry) (values .entry)) start end value ⌝ }
 {
-    map_ops::change::insert(kind, count, starts, ends, values, start, end, value)
+    number_of(map_ops::change::insert(kind, count, starts, ends, values, start, end, value))
 }
 
 pub fn remove(
@@ -239,47 +239,10 @@ pub fn remove(
 ) -> u8
     ensures { λ r. ⌜ leaving r (lent (count .exit) (starts .exit) (ends .exit) (values .exit)) ≡ removing (kindOf kind) (lent (count .entry) (starts .entry) (ends .entry) (values .entry)) start end ⌝ }
 {
-    map_ops::change::remove(kind, count, starts, ends, values, start, end)
+    number_of(map_ops::change::remove(kind, count, starts, ends, values, start, end))
 }
 
-// The kind is for the promise alone: a map that holds nothing is the same for both.
-pub fn clear(
-    kind: RangeKind,
-    count: &mut usize,
-    starts: &mut [i64; PLACES],
-    ends: &mut [i64; PLACES],
-    values: &mut [u8; PLACES],
-)
-    ensures { λ _. ⌜ (lent (count .exit) (starts .exit) (ends .exit) (values .exit)) ≡ cleared (kindOf kind) ⌝ }
-{
-    map_ops::change::clear(count, starts, ends, values)
-}
-
-pub fn extend(
-    kind: RangeKind,
-    count: &mut usize,
-    starts: &mut [i64; PLACES],
-    ends: &mut [i64; PLACES],
-    values: &mut [u8; PLACES],
-    new_starts: &[i64],
-    new_ends: &[i64],
-    new_values: &[u8],
-) -> Applied
-    ensures { λ r. ⌜ extended r (lent (count .exit) (starts .exit) (ends .exit) (values .exit)) ≡ extending (kindOf kind) (lent (count .entry) (starts .entry) (ends .entry) (values .entry)) (entries (now («new_starts» .entry)) (now («new_ends» .entry)) (now («new_values» .entry))) ⌝ }
-{
-    map_ops::change::bulk::extend(
-        kind,
-        count,
-        starts,
-        ends,
-        values,
-        new_starts,
-        new_ends,
-        new_values,
-    )
-}
-
-pub fn is_formed(
+pub fn well_formed(
     kind: RangeKind,
     count: &usize,
     starts: &[i64; PLACES],
@@ -288,7 +251,7 @@ pub fn is_formed(
 ) -> bool
     ensures { λ r. ⌜ r ≡ formed (kindOf kind) (lent (count .entry) (starts .entry) (ends .entry) (values .entry)) ⌝ }
 {
-    store::formed::is_formed(kind, *count, starts, ends, values)
+    store::check::well_formed(kind, *count, starts, ends, values)
 }
 
 // The unchecked doors: the map must be well formed.
@@ -303,7 +266,7 @@ pub fn get_key_value_unchecked(
     requires { ⌜ Sound (kindOf kind) (lent count starts ends values) ⌝ }
     ensures { λ r. ⌜ r ≡ rangeOf (found (kindOf kind) (lent (count .entry) (starts .entry) (ends .entry) (values .entry)) key) ⌝ }
 {
-    range_of(map_ops::find::unchecked::get_key_value(kind, count, starts, ends, values, key))
+    range_of(lookup::get_key_value(kind, *count, starts, ends, values, key))
 }
 
 pub fn gaps_unchecked(
@@ -320,9 +283,9 @@ pub fn gaps_unchecked(
     requires { ⌜ Sound (kindOf kind) (lent count starts ends values) ⌝ }
     ensures { λ r. ⌜ Listed r (now («out_starts» .exit)) (now («out_ends» .exit)) (uncovered (kindOf kind) (lent (count .entry) (starts .entry) (ends .entry) (values .entry)) start end (now («out_starts» .entry)) (now («out_ends» .entry))) ⌝ }
 {
-    count_of(map_ops::find::unchecked::gaps(
+    count_of(gaps::gaps(
         kind,
-        count,
+        *count,
         starts,
         ends,
         values,
@@ -346,7 +309,7 @@ pub fn insert_unchecked(
     requires { ⌜ Sound (kindOf kind) (lent count starts ends values) ⌝ }
     ensures { λ r. ⌜ leaving r (lent (count .exit) (starts .exit) (ends .exit) (values .exit)) ≡ editing (kindOf kind) places (lent (count .entry) (starts .entry) (ends .entry) (values .entry)) start end (some value) ⌝ }
 {
-    map_ops::change::unchecked::insert(kind, count, starts, ends, values, start, end, value)
+    number_of(edit::insert(kind, count, starts, ends, values, start, end, value))
 }
 
 pub fn remove_unchecked(
@@ -361,5 +324,5 @@ pub fn remove_unchecked(
     requires { ⌜ Sound (kindOf kind) (lent count starts ends values) ⌝ }
     ensures { λ r. ⌜ leaving r (lent (count .exit) (starts .exit) (ends .exit) (values .exit)) ≡ editing (kindOf kind) places (lent (count .entry) (starts .entry) (ends .entry) (values .entry)) start end none ⌝ }
 {
-    map_ops::change::unchecked::remove(kind, count, starts, ends, values, start, end)
+    number_of(edit::remove(kind, count, starts, ends, values, start, end))
 }

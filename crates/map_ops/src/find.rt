@@ -7,10 +7,7 @@ use outcomes::Found;
 use outcomes::NOT_FORMED;
 use outcomes::PLACES;
 use outcomes::Part;
-use store::formed::is_formed;
-
-pub mod unchecked;
-
+use store::check::well_formed;
 ghost use mathlib.Core.Path.{_≡_};
 ghost use Rattle.key.specs.Range.{kindOf};
 ghost use Rattle.outcomes.specs.Stored.{lent};
@@ -28,10 +25,10 @@ pub fn get_key_value(
 ) -> Found
     ensures { λ r. ⌜ r ≡ lookup (kindOf kind) (lent (count .entry) (starts .entry) (ends .entry) (values .entry)) key ⌝ }
 {
-    if !is_formed(kind, *count, starts, ends, values) {
+    if !well_formed(kind, *count, starts, ends, values) {
         return Found::Refused(NOT_FORMED);
     }
-    unchecked::get_key_value(kind, count, starts, ends, values, key)
+    lookup::get_key_value(kind, *count, starts, ends, values, key)
 }
 
 // Whether some range holds the key.
@@ -45,7 +42,7 @@ pub fn contains_key(
 ) -> Asked
     ensures { λ r. ⌜ r ≡ containing (kindOf kind) (lent (count .entry) (starts .entry) (ends .entry) (values .entry)) key ⌝ }
 {
-    if !is_formed(kind, *count, starts, ends, values) {
+    if !well_formed(kind, *count, starts, ends, values) {
         return Asked::Refused(NOT_FORMED);
     }
     lookup::contains_key(kind, *count, starts, ends, values, key)
@@ -63,7 +60,7 @@ pub fn overlaps(
 ) -> Asked
     ensures { λ r. ⌜ r ≡ meeting (kindOf kind) (lent (count .entry) (starts .entry) (ends .entry) (values .entry)) start end ⌝ }
 {
-    if !is_formed(kind, *count, starts, ends, values) {
+    if !well_formed(kind, *count, starts, ends, values) {
         return Asked::Refused(NOT_FORMED);
     }
     lookup::overlaps(kind, *count, starts, ends, values, start, end)
@@ -81,7 +78,7 @@ pub fn overlapping(
 ) -> Part
     ensures { λ r. ⌜ r ≡ overlapping (kindOf kind) (lent (count .entry) (starts .entry) (ends .entry) (values .entry)) start end ⌝ }
 {
-    if !is_formed(kind, *count, starts, ends, values) {
+    if !well_formed(kind, *count, starts, ends, values) {
         return Part::Refused(NOT_FORMED);
     }
     lookup::overlapping(kind, *count, starts, ends, values, start, end)
@@ -101,12 +98,12 @@ pub fn gaps(
 ) -> Counted
     ensures { λ r. ⌜ wrote r (now («out_starts» .exit)) (now («out_ends» .exit)) ≡ gapsIn (kindOf kind) (lent (count .entry) (starts .entry) (ends .entry) (values .entry)) start end (now («out_starts» .entry)) (now («out_ends» .entry)) ⌝ }
 {
-    if !is_formed(kind, *count, starts, ends, values) {
+    if !well_formed(kind, *count, starts, ends, values) {
         return Counted::Refused(NOT_FORMED);
     }
-    unchecked::gaps(
+    gaps::gaps(
         kind,
-        count,
+        *count,
         starts,
         ends,
         values,

@@ -6,7 +6,7 @@ use outcomes::Counted;
 use outcomes::Found;
 use outcomes::NOT_FORMED;
 use outcomes::PLACES;
-use store::formed::is_formed;
+use store::check::well_formed;
 ghost use mathlib.Core.Path.{_≡_};
 ghost use Prim.Native.Nat.{_-_};
 ghost use Rattle.key.specs.Range.{kindOf};
@@ -33,7 +33,7 @@ pub fn is_empty(
 ) -> Asked
     ensures { λ r. ⌜ r ≡ isEmpty (kindOf kind) (lent (count .entry) (starts .entry) (ends .entry) (values .entry)) ⌝ }
 {
-    if !is_formed(kind, *count, starts, ends, values) {
+    if !well_formed(kind, *count, starts, ends, values) {
         return Asked::Refused(NOT_FORMED);
     }
     if *count == 0 {
@@ -52,7 +52,7 @@ pub fn len(
 ) -> Counted
     ensures { λ r. ⌜ r ≡ counting (kindOf kind) (lent (count .entry) (starts .entry) (ends .entry) (values .entry)) ⌝ }
 {
-    if !is_formed(kind, *count, starts, ends, values) {
+    if !well_formed(kind, *count, starts, ends, values) {
         return Counted::Refused(NOT_FORMED);
     }
     Counted::Count(*count)
@@ -69,7 +69,7 @@ pub fn range_at(
 ) -> Found
     ensures { λ r. ⌜ r ≡ rangeAt (kindOf kind) (lent (count .entry) (starts .entry) (ends .entry) (values .entry)) place ⌝ }
 {
-    if !is_formed(kind, *count, starts, ends, values) {
+    if !well_formed(kind, *count, starts, ends, values) {
         return Found::Refused(NOT_FORMED);
     }
     lookup::range_at(*count, starts, ends, values, place)
@@ -85,7 +85,7 @@ pub fn first_range_value(
 ) -> Found
     ensures { λ r. ⌜ r ≡ firstOf (kindOf kind) (lent (count .entry) (starts .entry) (ends .entry) (values .entry)) ⌝ }
 {
-    if !is_formed(kind, *count, starts, ends, values) {
+    if !well_formed(kind, *count, starts, ends, values) {
         return Found::Refused(NOT_FORMED);
     }
     lookup::range_at(*count, starts, ends, values, 0)
@@ -101,7 +101,7 @@ pub fn last_range_value(
 ) -> Found
     ensures { λ r. ⌜ r ≡ lastOf (kindOf kind) (lent (count .entry) (starts .entry) (ends .entry) (values .entry)) ⌝ }
 {
-    if !is_formed(kind, *count, starts, ends, values) {
+    if !well_formed(kind, *count, starts, ends, values) {
         return Found::Refused(NOT_FORMED);
     }
     lookup::range_at(*count, starts, ends, values, last_place(*count))
@@ -121,10 +121,10 @@ pub fn cmp(
 ) -> Compared
     ensures { λ r. ⌜ r ≡ ordering (kindOf kind) (lent (count .entry) (starts .entry) (ends .entry) (values .entry)) (lent (count2 .entry) (starts2 .entry) (ends2 .entry) (values2 .entry)) ⌝ }
 {
-    if !is_formed(kind, *count, starts, ends, values) {
+    if !well_formed(kind, *count, starts, ends, values) {
         return Compared::Refused(NOT_FORMED);
     }
-    if !is_formed(kind, *count2, starts2, ends2, values2) {
+    if !well_formed(kind, *count2, starts2, ends2, values2) {
         return Compared::Refused(NOT_FORMED);
     }
     compare::compare(

@@ -6,7 +6,7 @@ use key::RangeKind;
 use log_day::Day;
 use outcomes::NOT_FORMED;
 use outcomes::PLACES;
-use store::formed::is_formed;
+use store::check::well_formed;
 ghost use mathlib.Core.Path.{_≡_};
 ghost use Rattle.key.specs.Range.{halfOpen};
 ghost use Rattle.outcomes.specs.Stored.{stored, lent, Sound};
@@ -138,7 +138,7 @@ pub fn checked(
 ) -> Reported
     ensures { λ r. ⌜ r ≡ reporting (lent (count .entry) (starts .entry) (ends .entry) (values .entry)) zone year month day ⌝ }
 {
-    if !is_formed(RangeKind::HalfOpen, *count, starts, ends, values) {
+    if !well_formed(RangeKind::HalfOpen, *count, starts, ends, values) {
         return Reported::Refused(NOT_FORMED);
     }
     unchecked(*count, starts, ends, values, zone, year, month, day)

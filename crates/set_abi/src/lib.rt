@@ -1,7 +1,6 @@
 // The functions of a set of either kind, over its fields, with their answers as structs of numbers: what C and Rust see. The exported functions of
 // `set` and `inclusive_set` name their kind and lend all the fields of their set to these.
 use key::RangeKind;
-use outcomes::Applied;
 use outcomes::Count;
 use outcomes::Order;
 use outcomes::PLACES;
@@ -10,6 +9,7 @@ use outcomes::Stretch;
 use outcomes::Told;
 use outcomes::Total;
 use outcomes::count_of;
+use outcomes::number_of;
 use outcomes::order_of;
 use outcomes::range_of;
 use outcomes::stretch_of;
@@ -19,9 +19,9 @@ ghost use mathlib.Core.Path.{_≡_};
 ghost use Rattle.key.specs.Range.{kindOf};
 ghost use Rattle.outcomes.specs.Stored.{lent};
 ghost use Rattle.outcomes.specs.Numbers.{toldOf, countOf, rangeOf, stretchOf, orderOf, totalOf};
-ghost use Rattle.outcomes.specs.Outcomes.{Listed, cleared, extended, leaving};
+ghost use Rattle.outcomes.specs.Outcomes.{Listed, leaving};
 ghost use Rattle.outcomes.specs.Sets.{formedSet, intersecting, uniting, totalling};
-ghost use Rattle.set_ops.specs.Answers.{pairs, setContaining, setCounting, setEquality, setExtending, setFirst, setGaps, setInserting, setIsEmpty, setLast, setLookup, setMeeting, setOrdering, setOverlapping, setRangeAt, setRemoving};
+ghost use Rattle.set_ops.specs.Answers.{setContaining, setCounting, setEquality, setFirst, setGaps, setInserting, setIsEmpty, setLast, setLookup, setMeeting, setOrdering, setOverlapping, setRangeAt, setRemoving};
 
 pub fn is_empty(
     kind: RangeKind,
@@ -227,7 +227,7 @@ pub fn insert(
 ) -> u8
     ensures { λ r. ⌜ leaving r (lent (count .exit) (starts .exit) (ends .exit) (values .exit)) ≡ setInserting (kindOf kind) (lent (count .entry) (starts .entry) (ends .entry) (values .entry)) start end ⌝ }
 {
-    set_ops::changed::insert(kind, count, starts, ends, values, start, end)
+    number_of(set_ops::changed::insert(kind, count, starts, ends, values, start, end))
 }
 
 pub fn remove(
@@ -241,37 +241,10 @@ pub fn remove(
 ) -> u8
     ensures { λ r. ⌜ leaving r (lent (count .exit) (starts .exit) (ends .exit) (values .exit)) ≡ setRemoving (kindOf kind) (lent (count .entry) (starts .entry) (ends .entry) (values .entry)) start end ⌝ }
 {
-    set_ops::changed::remove(kind, count, starts, ends, values, start, end)
+    number_of(set_ops::changed::remove(kind, count, starts, ends, values, start, end))
 }
 
-pub fn extend(
-    kind: RangeKind,
-    count: &mut usize,
-    starts: &mut [i64; PLACES],
-    ends: &mut [i64; PLACES],
-    values: &mut [u8; PLACES],
-    new_starts: &[i64],
-    new_ends: &[i64],
-) -> Applied
-    ensures { λ r. ⌜ extended r (lent (count .exit) (starts .exit) (ends .exit) (values .exit)) ≡ setExtending (kindOf kind) (lent (count .entry) (starts .entry) (ends .entry) (values .entry)) (pairs (now («new_starts» .entry)) (now («new_ends» .entry))) ⌝ }
-{
-    set_ops::bulk::extend(kind, count, starts, ends, values, new_starts, new_ends)
-}
-
-// The kind is for the promise alone: a set that holds nothing is the same for both.
-pub fn clear(
-    kind: RangeKind,
-    count: &mut usize,
-    starts: &mut [i64; PLACES],
-    ends: &mut [i64; PLACES],
-    values: &mut [u8; PLACES],
-)
-    ensures { λ _. ⌜ (lent (count .exit) (starts .exit) (ends .exit) (values .exit)) ≡ cleared (kindOf kind) ⌝ }
-{
-    map_ops::change::clear(count, starts, ends, values)
-}
-
-pub fn is_formed(
+pub fn well_formed(
     kind: RangeKind,
     count: &usize,
     starts: &[i64; PLACES],

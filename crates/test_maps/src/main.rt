@@ -382,7 +382,7 @@ fn clear(m: Map) -> Map {
     let mut starts = m.starts;
     let mut ends = m.ends;
     let mut values = m.values;
-    map_abi::clear(kind, &mut count, &mut starts, &mut ends, &mut values);
+    map_ops::change::clear(&mut count, &mut starts, &mut ends, &mut values);
     io::write_all(1, b"clear\n");
     Map {
         kind: kind,
@@ -690,7 +690,7 @@ fn extend(m: Map, new_starts: &[i64], new_ends: &[i64], new_values: &[u8]) -> Ma
     let mut starts = m.starts;
     let mut ends = m.ends;
     let mut values = m.values;
-    print_applied(map_abi::extend(
+    print_applied(map_ops::change::bulk::extend(
         kind,
         &mut count,
         &mut starts,
