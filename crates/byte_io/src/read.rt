@@ -127,7 +127,7 @@ fn clear_rest(
 }
 
 // The map whose form the bytes are.
-fn read_fields(
+pub fn read(
     count: &mut usize,
     starts: &mut [i64; PLACES],
     ends: &mut [i64; PLACES],
@@ -144,17 +144,4 @@ fn read_fields(
     clear_rest(starts, ends, values, n);
     *count = n;
     DONE
-}
-
-// The same at one lifetime, as a struct lends its fields.
-pub fn read<'a>(
-    count: &'a mut usize,
-    starts: &'a mut [i64; PLACES],
-    ends: &'a mut [i64; PLACES],
-    values: &'a mut [u8; PLACES],
-    bytes: &[u8],
-) -> u8
-    ensures { λ r. ⌜ leaving r (lent (count .exit) (starts .exit) (ends .exit) (values .exit)) ≡ reading (lent (count .entry) (starts .entry) (ends .entry) (values .entry)) (now (bytes .entry)) ⌝ }
-{
-    read_fields(count, starts, ends, values, bytes)
 }

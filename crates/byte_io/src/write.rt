@@ -6,7 +6,7 @@ use outcomes::NOT_FORMED;
 use outcomes::PLACES;
 use outcomes::TOO_SHORT;
 use outcomes::count_of;
-use store::formed::is_formed;
+use store::check::well_formed;
 ghost use mathlib.Core.Path.{_≡_};
 ghost use mathlib.Core.List.{_++_};
 ghost use Prim.Native.Nat.{_≤_};
@@ -65,27 +65,27 @@ fn write_formed(
 }
 
 // The form of any map.
-pub fn write<'a>(
-    count: &'a usize,
-    starts: &'a [i64; PLACES],
-    ends: &'a [i64; PLACES],
-    values: &'a [u8; PLACES],
+pub fn write(
+    count: &usize,
+    starts: &[i64; PLACES],
+    ends: &[i64; PLACES],
+    values: &[u8; PLACES],
     out: &mut [u8],
 ) -> Counted
     ensures { λ r. ⌜ output r (now (out .exit)) ≡ writing (lent (count .entry) (starts .entry) (ends .entry) (values .entry)) (now (out .entry)) ⌝ }
 {
-    if !is_formed(RangeKind::HalfOpen, *count, starts, ends, values) {
+    if !well_formed(RangeKind::HalfOpen, *count, starts, ends, values) {
         return Counted::Refused(NOT_FORMED);
     }
     write_formed(*count, starts, ends, values, out)
 }
 
 // The same answer as a struct of numbers: what C and Rust see.
-pub fn write_number<'a>(
-    count: &'a usize,
-    starts: &'a [i64; PLACES],
-    ends: &'a [i64; PLACES],
-    values: &'a [u8; PLACES],
+pub fn write_number(
+    count: &usize,
+    starts: &[i64; PLACES],
+    ends: &[i64; PLACES],
+    values: &[u8; PLACES],
     out: &mut [u8],
 ) -> Count
     ensures { λ r. ⌜ Wrote r (now (out .exit)) (writing (lent (count .entry) (starts .entry) (ends .entry) (values .entry)) (now (out .entry))) ⌝ }

@@ -6,6 +6,9 @@ mod sides;
 
 use key::RangeKind;
 use key::full;
+use outcomes::Outcome;
+use outcomes::PLACES;
+use outcomes::outcome_of;
 use plan::Part;
 use splice::Replacement;
 use store::search::reaching;
@@ -15,8 +18,9 @@ ghost use mathlib.Core.Option.{some, none};
 ghost use Prim.Native.Nat.{_<_, _≤_};
 ghost use lib.ListN.{length};
 ghost use Rattle.key.specs.Range.{kindOf};
-ghost use Rattle.outcomes.specs.Stored.{stored, lent, Sound};
+ghost use Rattle.outcomes.specs.Stored.{places, stored, lent, Sound};
 ghost use Rattle.outcomes.specs.Outcomes.{leaving, editing};
+ghost use Rattle.outcomes.specs.InnerOutcome.{Leaves};
 ghost use Rattle.edit.specs.InnerPlan.{HasKey, Meets, Overlaid, Planned, asked};
 
 // What is asked: the instants of a range get the value, or where none comes they get none.
@@ -168,17 +172,16 @@ fn edit(
 pub fn insert(
     kind: RangeKind,
     count: &mut usize,
-    starts: &mut [i64],
-    ends: &mut [i64],
-    values: &mut [u8],
+    starts: &mut [i64; PLACES],
+    ends: &mut [i64; PLACES],
+    values: &mut [u8; PLACES],
     start: i64,
     end: i64,
     value: u8,
-) -> u8
+) -> Outcome
     requires { ⌜ Sound (kindOf kind) (lent count starts ends values) ⌝ }
-    ensures { λ r. ⌜ leaving r (lent (count .exit) (starts .exit) (ends .exit) (values .exit))
-        ≡ editing (kindOf kind) (length (now (starts .entry))) (lent (count .entry) (starts .entry) (ends .entry) (values .entry))
-        start end (some value) ⌝ }
+    ensures { λ r. ⌜ Leaves r (lent (count .exit) (starts .exit) (ends .exit) (values .exit))
+        (editing (kindOf kind) places (lent (count .entry) (starts .entry) (ends .entry) (values .entry)) start end (some value)) ⌝ }
 {
     let change = Change {
         start: start,
@@ -186,23 +189,22 @@ pub fn insert(
         comes: true,
         value: value,
     };
-    edit(kind, count, starts, ends, values, change)
+    outcome_of(edit(kind, count, starts, ends, values, change))
 }
 
 // Uncovers exactly the instants of the range.
 pub fn remove(
     kind: RangeKind,
     count: &mut usize,
-    starts: &mut [i64],
-    ends: &mut [i64],
-    values: &mut [u8],
+    starts: &mut [i64; PLACES],
+    ends: &mut [i64; PLACES],
+    values: &mut [u8; PLACES],
     start: i64,
     end: i64,
-) -> u8
+) -> Outcome
     requires { ⌜ Sound (kindOf kind) (lent count starts ends values) ⌝ }
-    ensures { λ r. ⌜ leaving r (lent (count .exit) (starts .exit) (ends .exit) (values .exit))
-        ≡ editing (kindOf kind) (length (now (starts .entry))) (lent (count .entry) (starts .entry) (ends .entry) (values .entry))
-        start end none ⌝ }
+    ensures { λ r. ⌜ Leaves r (lent (count .exit) (starts .exit) (ends .exit) (values .exit))
+        (editing (kindOf kind) places (lent (count .entry) (starts .entry) (ends .entry) (values .entry)) start end none) ⌝ }
 {
     let nothing = Change {
         start: start,
@@ -210,5 +212,5 @@ pub fn remove(
         comes: false,
         value: 0,
     };
-    edit(kind, count, starts, ends, values, nothing)
+    outcome_of(edit(kind, count, starts, ends, values, nothing))
 }

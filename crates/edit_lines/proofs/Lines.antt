@@ -1,5 +1,5 @@
 -- One line done on a map, and the lines behind it, as a loop does them.
-use Prim.Native.Nat.{ℕ, _+_, _-_, _≤_, _<_, min}
+use Prim.Native.Nat.{ℕ, zero, suc, _+_, _-_, _≤_, _<_, min}
 use native.Mathlib.Omega.{arith}
 use native.Mathlib.Numerals.{add-one}
 use native.Mathlib.Decide.{decLt}
@@ -7,12 +7,15 @@ use mathlib.Core.Path.{_≡_, refl, sym, ap, _∙_}
 use mathlib.Core.Bool.{Bool, true, false, cond}
 use mathlib.Core.List.{List, [], _∷_}
 use mathlib.Core.Option.{Option, some, none}
+use borrow.Author.Tests.{ne-eqb}
 use lib.Dec.{eqb}
 use lib.ListN.{length, take, drop, drop-of-length-le}
 use Rattle.bytes.specs.Bytes.{slice, indexOf}
 use Rattle.key.specs.Range.{halfOpen}
 use Rattle.outcomes.specs.Stored.{Stored}
-use Rattle.outcomes.specs.Outcomes.{Change, leaving, edited}
+use Rattle.outcomes.specs.Outcomes.{Change, edited}
+use Rattle.outcomes.specs.InnerOutcome.{outcomeOf, Leaves}
+use Rattle.outcomes.specs.declared.Outcome.{Outcome}
 use Rattle.edit_lines.specs.Parts.{parts, linesOf}
 use Rattle.edit_lines.specs.Making.{lineOf, changeOf, Making, making, lineDone, makes}
 use Rattle.edit_lines.specs.InnerStep.{toldOf}
@@ -20,14 +23,14 @@ use Rattle.edit_lines.specs.declared.Made.{Made}
 use Rattle.edit_lines.specs.declared.Made.the-variants as Made
 use Rattle.edit_lines.proofs.Cutting.{line-more}
 
--- a line that is an edit, by what the edit answers and leaves
-pub edit-done : (n : ℕ) (m : Stored) (c : Change) {a : ℕ} {r : Made} {left : Stored} → leaving a left ≡ edited halfOpen m (c .start) (c .end) (c .new)
-    → r ≡ toldOf n a → making r left ≡ lineDone n m (some c) (making Made.Done)
-edit-done n m c {a} {r} {left} is told = rw (told, sym is) (go (eqb a 0))
+-- a line that is an edit, by how the edit went and what it leaves
+pub edit-done : (n : ℕ) (m : Stored) (c : Change) {went : Outcome} {r : Made} {left : Stored} → Leaves went left (edited halfOpen m (c .start) (c .end) (c .new))
+    → r ≡ toldOf n went → making r left ≡ lineDone n m (some c) (making Made.Done)
+edit-done n m c is told = let one = edited halfOpen m (c .start) (c .end) (c .new) in rw (told, is .outcome, is .map-is) (go (one .answer) (one .left))
   where
-    go : (t : Bool) → making (cond t Made.Done (Made.Refused n a)) left ≡ cond t (making Made.Done left) (making (Made.Refused n a) left)
-    go true = refl
-    go false = refl
+    go : (a : ℕ) (left : Stored) → making (toldOf n (outcomeOf a)) left ≡ cond (eqb a 0) (making Made.Done left) (making (Made.Refused n a) left)
+    go zero left = refl
+    go (suc a) left = rw (ne-eqb (suc a) 0 (λ e. omega arith))
 
 -- has it stopped
 abbrev stopped : Made → Bool

@@ -1,17 +1,18 @@
 -- What the functions of this crate say to each other.
 use Prim.Native.Nat.{ℕ, _≤_}
 use mathlib.Core.Path.{_≡_}
-use mathlib.Core.Bool.{cond}
 use mathlib.Core.List.{List}
-use lib.Dec.{eqb}
 use lib.ListN.{length}
 use Rattle.bytes.specs.Bytes.{indexOf}
+use Rattle.outcomes.specs.declared.Outcome.{Outcome}
+use Rattle.outcomes.specs.declared.Outcome.the-variants as Outcome
 use Rattle.edit_lines.specs.declared.Made.{Made}
 use Rattle.edit_lines.specs.declared.Made.the-variants as Made
 
--- what the answer of line n says
-abbrev pub toldOf : ℕ → ℕ → Made
-toldOf n a = cond (eqb a 0) Made.Done (Made.Refused n a)
+-- how line n went, by its edit
+abbrev pub toldOf : ℕ → Outcome → Made
+toldOf n Outcome.Done = Made.Done
+toldOf n (Outcome.Refused a) = Made.Refused n a
 
 -- where the first space of a text is, or the text's length
 pub record SpaceAt (text : List ℕ) (r : ℕ) : Type 0 where

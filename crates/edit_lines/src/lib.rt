@@ -4,6 +4,7 @@ mod words;
 
 use bytes::scan::find;
 use key::RangeKind;
+use outcomes::Outcome;
 use outcomes::PLACES;
 ghost use mathlib.Core.Path.{_≡_};
 ghost use Prim.Native.Nat.{_+_, _≤_, min};
@@ -28,14 +29,14 @@ pub enum Made {
 
 const NEWLINE: u8 = 10;
 
-// What the answer of line `n` says.
-fn told(n: usize, answer: u8) -> Made
-    ensures { λ r. ⌜ r ≡ toldOf n answer ⌝ }
+// How line `n` went, by its edit.
+fn told(n: usize, went: Outcome) -> Made
+    ensures { λ r. ⌜ r ≡ toldOf n went ⌝ }
 {
-    if answer == 0 {
-        return Made::Done;
+    match went {
+        Outcome::Done => Made::Done,
+        Outcome::Refused(answer) => Made::Refused(n, answer),
     }
-    Made::Refused(n, answer)
 }
 
 // Line `n`, done on a map.

@@ -1,5 +1,5 @@
 // Module 5: the inclusive set, from inclusive_set.rs of rangemap. The exported functions, for C and Rust, are here: each lends all the fields of its set
-// to a function of the crate `set_abi`, which answers in numbers. Rattle callers use the crate `set_ops`.
+// to a function of `set_abi`, which answers in numbers, or of `set_ops` or `map_ops` where these do. Rattle callers use `set_ops`.
 use key::RangeKind;
 use operations::Operation;
 use outcomes::Applied;
@@ -220,7 +220,7 @@ pub extern "C" fn range_inclusive_set_extend(
 ) -> Applied
     ensures { λ r. ⌜ extended r (held (now (m .exit))) ≡ setExtending inclusive (held (now (m .entry))) (pairs (now (starts .entry)) (now (ends .entry))) ⌝ }
 {
-    set_abi::extend(
+    set_ops::bulk::extend(
         KIND,
         &mut m.count,
         &mut m.starts,
@@ -236,13 +236,7 @@ pub extern "C" fn range_inclusive_set_extend(
 pub extern "C" fn range_inclusive_set_clear(m: &mut RangeInclusiveSet)
     ensures { λ _. ⌜ (held (now (m .exit))) ≡ cleared inclusive ⌝ }
 {
-    set_abi::clear(
-        KIND,
-        &mut m.count,
-        &mut m.starts,
-        &mut m.ends,
-        &mut m.values,
-    )
+    map_ops::change::clear(&mut m.count, &mut m.starts, &mut m.ends, &mut m.values)
 }
 
 // Whether a map is well formed.
@@ -250,7 +244,7 @@ pub extern "C" fn range_inclusive_set_clear(m: &mut RangeInclusiveSet)
 pub extern "C" fn range_inclusive_set_well_formed(m: &RangeInclusiveSet) -> bool
     ensures { λ r. ⌜ r ≡ formedSet inclusive (held (now (m .entry))) ⌝ }
 {
-    set_abi::is_formed(KIND, &m.count, &m.starts, &m.ends, &m.values)
+    set_abi::well_formed(KIND, &m.count, &m.starts, &m.ends, &m.values)
 }
 
 // The common points of two sets as maximal ranges, into the first places of two lent lists.

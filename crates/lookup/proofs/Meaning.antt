@@ -56,7 +56,7 @@ at-none k (x ∷ xs) h = rw (h 0 (omega arith)) (at-none k xs (λ j i. h (suc j)
 pub data Meant (kind : Kind) (m : Stored) (k : ℤ) : Found → Type 0 where
   held : (p : ℕ) → p < m .count → Within (place kind m p .lo) (place kind m p .hi) (rank k) → at (ranges kind m) (rank k) ≡ some (getD (m .values) p 0)
       → Meant kind m k (Found.Range (getD (m .starts) p (pos 0)) (getD (m .ends) p (pos 0)) (getD (m .values) p 0))
-  free : at (ranges kind m) (rank k) ≡ none → Meant kind m k (Found.Refused 5)
+  free : at (ranges kind m) (rank k) ≡ none → Meant kind m k Found.Nothing
 
 -- an instant from lo up to hi at which a list holds something
 pub record Shared (lo hi : ℕ) (xs : List Span) : Type 0 where
@@ -106,17 +106,17 @@ module _ {kind : Kind} {m : Stored} (sound : Sound kind m) where
         go _ (free n) a = let z : _≡_ {A = ℕ} 0 1 = cc in absurd (omega arith)
 
     -- the answer is 5 exactly where the map holds nothing
-    pub refused-free : found kind m k ≡ Found.Refused 5 → at (ranges kind m) (rank k) ≡ none
+    pub refused-free : found kind m k ≡ Found.Nothing → at (ranges kind m) (rank k) ≡ none
     refused-free e = go (found kind m k) found-means e
       where
-        go : (a : Found) → Meant kind m k a → a ≡ Found.Refused 5 → at (ranges kind m) (rank k) ≡ none
+        go : (a : Found) → Meant kind m k a → a ≡ Found.Nothing → at (ranges kind m) (rank k) ≡ none
         go _ (held p h w v) e = let z : _≡_ {A = ℕ} 0 1 = cc in absurd (omega arith)
         go _ (free n) e = n
 
-    pub free-refused : at (ranges kind m) (rank k) ≡ none → found kind m k ≡ Found.Refused 5
+    pub free-refused : at (ranges kind m) (rank k) ≡ none → found kind m k ≡ Found.Nothing
     free-refused n = go (found kind m k) found-means
       where
-        go : (a : Found) → Meant kind m k a → a ≡ Found.Refused 5
+        go : (a : Found) → Meant kind m k a → a ≡ Found.Nothing
         go _ (held p h w v) = let z : _≡_ {A = ℕ} 0 1 = cc in absurd (omega arith)
         go _ (free n) = refl
 

@@ -29,7 +29,7 @@ module _ (m : Stored) (i : ℕ) where
   unfolding placed
   placed-at h = rw (lt-ltb i (m .count) h)
 
-  pub placed-none : m .count ≤ i → Found.Refused 5 ≡ placed m i
+  pub placed-none : m .count ≤ i → Found.Nothing ≡ placed m i
   unfolding placed
   placed-none h = rw (le-ltb i (m .count) h)
 

@@ -23,7 +23,7 @@ pub fn range_at(count: usize, starts: &[i64], ends: &[i64], values: &[u8], place
     ensures { λ r. ⌜ r ≡ placed (stored count (now (starts .entry)) (now (ends .entry)) (now (values .entry))) place ⌝ }
 {
     if place >= count {
-        return Found::Refused(outcomes::NONE_THERE);
+        return Found::Nothing;
     }
     Found::Range(starts[place], ends[place], values[place])
 }

@@ -1,5 +1,5 @@
 // Module 2: the half-open map, from map.rs of rangemap. The exported functions, for C and Rust, are here: each lends all the fields of
-// its map to a function of the crate `map_abi`, which answers in numbers. Rattle callers use the crates `map_ops`.
+// its map to a function of `map_abi`, which answers in numbers, or of `map_ops` where that does. Rattle callers use `map_ops`.
 use key::RangeKind;
 use outcomes::Applied;
 use outcomes::Count;
@@ -211,13 +211,7 @@ pub extern "C" fn range_map_remove(m: &mut RangeMap, start: i64, end: i64) -> u8
 pub extern "C" fn range_map_clear(m: &mut RangeMap)
     ensures { λ _. ⌜ (held (now (m .exit))) ≡ cleared halfOpen ⌝ }
 {
-    map_abi::clear(
-        KIND,
-        &mut m.count,
-        &mut m.starts,
-        &mut m.ends,
-        &mut m.values,
-    )
+    map_ops::change::clear(&mut m.count, &mut m.starts, &mut m.ends, &mut m.values)
 }
 
 // Inserts the entries of three lent lists in order, up to the first refusal.
@@ -230,7 +224,7 @@ pub extern "C" fn range_map_extend(
 ) -> Applied
     ensures { λ r. ⌜ extended r (held (now (m .exit))) ≡ extending halfOpen (held (now (m .entry))) (entries (now (starts .entry)) (now (ends .entry)) (now (values .entry))) ⌝ }
 {
-    map_abi::extend(
+    map_ops::change::bulk::extend(
         KIND,
         &mut m.count,
         &mut m.starts,
@@ -247,7 +241,7 @@ pub extern "C" fn range_map_extend(
 pub extern "C" fn range_map_well_formed(m: &RangeMap) -> bool
     ensures { λ r. ⌜ r ≡ formed halfOpen (held (now (m .entry))) ⌝ }
 {
-    map_abi::is_formed(KIND, &m.count, &m.starts, &m.ends, &m.values)
+    map_abi::well_formed(KIND, &m.count, &m.starts, &m.ends, &m.values)
 }
 
 // Lookup through the unchecked door: the map must be well formed.

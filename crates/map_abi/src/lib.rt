@@ -1,7 +1,6 @@
 // The functions of a map of either kind, over its fields, with their answers as structs of numbers: what C and Rust see. The exported functions of
 // `map` and `inclusive_map` name their kind and lend all the fields of their map to these.
 use key::RangeKind;
-use outcomes::Applied;
 use outcomes::Count;
 use outcomes::Order;
 use outcomes::PLACES;
@@ -9,6 +8,7 @@ use outcomes::Range;
 use outcomes::Stretch;
 use outcomes::Told;
 use outcomes::count_of;
+use outcomes::number_of;
 use outcomes::order_of;
 use outcomes::range_of;
 use outcomes::stretch_of;
@@ -18,38 +18,38 @@ ghost use Rattle.key.specs.Range.{kindOf};
 ghost use mathlib.Core.Option.{some, none};
 ghost use Rattle.outcomes.specs.Stored.{places, lent, Sound};
 ghost use Rattle.outcomes.specs.Numbers.{toldOf, countOf, rangeOf, stretchOf, orderOf};
-ghost use Rattle.outcomes.specs.Outcomes.{Listed, cleared, containing, counting, editing, entries, equality, extended, extending, firstOf, formed, found, gapsIn, inserting, isEmpty, lastOf, leaving, lookup, meeting, ordering, overlapping, rangeAt, removing, uncovered};
+ghost use Rattle.outcomes.specs.Outcomes.{Listed, containing, counting, editing, equality, firstOf, formed, found, gapsIn, inserting, isEmpty, lastOf, leaving, lookup, meeting, ordering, overlapping, rangeAt, removing, uncovered};
 
-pub fn is_empty<'a>(
+pub fn is_empty(
     kind: RangeKind,
-    count: &'a usize,
-    starts: &'a [i64; PLACES],
-    ends: &'a [i64; PLACES],
-    values: &'a [u8; PLACES],
+    count: &usize,
+    starts: &[i64; PLACES],
+    ends: &[i64; PLACES],
+    values: &[u8; PLACES],
 ) -> Told
     ensures { λ r. ⌜ r ≡ toldOf (isEmpty (kindOf kind) (lent (count .entry) (starts .entry) (ends .entry) (values .entry))) ⌝ }
 {
     told_of(map_ops::list::is_empty(kind, count, starts, ends, values))
 }
 
-pub fn len<'a>(
+pub fn len(
     kind: RangeKind,
-    count: &'a usize,
-    starts: &'a [i64; PLACES],
-    ends: &'a [i64; PLACES],
-    values: &'a [u8; PLACES],
+    count: &usize,
+    starts: &[i64; PLACES],
+    ends: &[i64; PLACES],
+    values: &[u8; PLACES],
 ) -> Count
     ensures { λ r. ⌜ r ≡ countOf (counting (kindOf kind) (lent (count .entry) (starts .entry) (ends .entry) (values .entry))) ⌝ }
 {
     count_of(map_ops::list::len(kind, count, starts, ends, values))
 }
 
-pub fn range_at<'a>(
+pub fn range_at(
     kind: RangeKind,
-    count: &'a usize,
-    starts: &'a [i64; PLACES],
-    ends: &'a [i64; PLACES],
-    values: &'a [u8; PLACES],
+    count: &usize,
+    starts: &[i64; PLACES],
+    ends: &[i64; PLACES],
+    values: &[u8; PLACES],
     place: usize,
 ) -> Range
     ensures { λ r. ⌜ r ≡ rangeOf (rangeAt (kindOf kind) (lent (count .entry) (starts .entry) (ends .entry) (values .entry)) place) ⌝ }
@@ -57,36 +57,36 @@ pub fn range_at<'a>(
     range_of(map_ops::list::range_at(kind, count, starts, ends, values, place))
 }
 
-pub fn first_range_value<'a>(
+pub fn first_range_value(
     kind: RangeKind,
-    count: &'a usize,
-    starts: &'a [i64; PLACES],
-    ends: &'a [i64; PLACES],
-    values: &'a [u8; PLACES],
+    count: &usize,
+    starts: &[i64; PLACES],
+    ends: &[i64; PLACES],
+    values: &[u8; PLACES],
 ) -> Range
     ensures { λ r. ⌜ r ≡ rangeOf (firstOf (kindOf kind) (lent (count .entry) (starts .entry) (ends .entry) (values .entry))) ⌝ }
 {
     range_of(map_ops::list::first_range_value(kind, count, starts, ends, values))
 }
 
-pub fn last_range_value<'a>(
+pub fn last_range_value(
     kind: RangeKind,
-    count: &'a usize,
-    starts: &'a [i64; PLACES],
-    ends: &'a [i64; PLACES],
-    values: &'a [u8; PLACES],
+    count: &usize,
+    starts: &[i64; PLACES],
+    ends: &[i64; PLACES],
+    values: &[u8; PLACES],
 ) -> Range
     ensures { λ r. ⌜ r ≡ rangeOf (lastOf (kindOf kind) (lent (count .entry) (starts .entry) (ends .entry) (values .entry))) ⌝ }
 {
     range_of(map_ops::list::last_range_value(kind, count, starts, ends, values))
 }
 
-pub fn get_key_value<'a>(
+pub fn get_key_value(
     kind: RangeKind,
-    count: &'a usize,
-    starts: &'a [i64; PLACES],
-    ends: &'a [i64; PLACES],
-    values: &'a [u8; PLACES],
+    count: &usize,
+    starts: &[i64; PLACES],
+    ends: &[i64; PLACES],
+    values: &[u8; PLACES],
     key: i64,
 ) -> Range
     ensures { λ r. ⌜ r ≡ rangeOf (lookup (kindOf kind) (lent (count .entry) (starts .entry) (ends .entry) (values .entry)) key) ⌝ }
@@ -94,12 +94,12 @@ pub fn get_key_value<'a>(
     range_of(map_ops::find::get_key_value(kind, count, starts, ends, values, key))
 }
 
-pub fn contains_key<'a>(
+pub fn contains_key(
     kind: RangeKind,
-    count: &'a usize,
-    starts: &'a [i64; PLACES],
-    ends: &'a [i64; PLACES],
-    values: &'a [u8; PLACES],
+    count: &usize,
+    starts: &[i64; PLACES],
+    ends: &[i64; PLACES],
+    values: &[u8; PLACES],
     key: i64,
 ) -> Told
     ensures { λ r. ⌜ r ≡ toldOf (containing (kindOf kind) (lent (count .entry) (starts .entry) (ends .entry) (values .entry)) key) ⌝ }
@@ -107,12 +107,12 @@ pub fn contains_key<'a>(
     told_of(map_ops::find::contains_key(kind, count, starts, ends, values, key))
 }
 
-pub fn overlaps<'a>(
+pub fn overlaps(
     kind: RangeKind,
-    count: &'a usize,
-    starts: &'a [i64; PLACES],
-    ends: &'a [i64; PLACES],
-    values: &'a [u8; PLACES],
+    count: &usize,
+    starts: &[i64; PLACES],
+    ends: &[i64; PLACES],
+    values: &[u8; PLACES],
     start: i64,
     end: i64,
 ) -> Told
@@ -121,12 +121,12 @@ pub fn overlaps<'a>(
     told_of(map_ops::find::overlaps(kind, count, starts, ends, values, start, end))
 }
 
-pub fn overlapping<'a>(
+pub fn overlapping(
     kind: RangeKind,
-    count: &'a usize,
-    starts: &'a [i64; PLACES],
-    ends: &'a [i64; PLACES],
-    values: &'a [u8; PLACES],
+    count: &usize,
+    starts: &[i64; PLACES],
+    ends: &[i64; PLACES],
+    values: &[u8; PLACES],
     start: i64,
     end: i64,
 ) -> Stretch
@@ -135,12 +135,12 @@ pub fn overlapping<'a>(
     stretch_of(map_ops::find::overlapping(kind, count, starts, ends, values, start, end))
 }
 
-pub fn gaps<'a>(
+pub fn gaps(
     kind: RangeKind,
-    count: &'a usize,
-    starts: &'a [i64; PLACES],
-    ends: &'a [i64; PLACES],
-    values: &'a [u8; PLACES],
+    count: &usize,
+    starts: &[i64; PLACES],
+    ends: &[i64; PLACES],
+    values: &[u8; PLACES],
     start: i64,
     end: i64,
     out_starts: &mut [i64],
@@ -161,16 +161,16 @@ pub fn gaps<'a>(
     ))
 }
 
-pub fn eq<'a, 'b>(
+pub fn eq(
     kind: RangeKind,
-    count: &'a usize,
-    starts: &'a [i64; PLACES],
-    ends: &'a [i64; PLACES],
-    values: &'a [u8; PLACES],
-    count2: &'b usize,
-    starts2: &'b [i64; PLACES],
-    ends2: &'b [i64; PLACES],
-    values2: &'b [u8; PLACES],
+    count: &usize,
+    starts: &[i64; PLACES],
+    ends: &[i64; PLACES],
+    values: &[u8; PLACES],
+    count2: &usize,
+    starts2: &[i64; PLACES],
+    ends2: &[i64; PLACES],
+    values2: &[u8; PLACES],
 ) -> Told
     ensures { λ r. ⌜ r ≡ toldOf (equality (kindOf kind) (lent (count .entry) (starts .entry) (ends .entry) (values .entry)) (lent (count2 .entry) (starts2 .entry) (ends2 .entry) (values2 .entry))) ⌝ }
 {
@@ -187,16 +187,16 @@ pub fn eq<'a, 'b>(
     ))
 }
 
-pub fn cmp<'a, 'b>(
+pub fn cmp(
     kind: RangeKind,
-    count: &'a usize,
-    starts: &'a [i64; PLACES],
-    ends: &'a [i64; PLACES],
-    values: &'a [u8; PLACES],
-    count2: &'b usize,
-    starts2: &'b [i64; PLACES],
-    ends2: &'b [i64; PLACES],
-    values2: &'b [u8; PLACES],
+    count: &usize,
+    starts: &[i64; PLACES],
+    ends: &[i64; PLACES],
+    values: &[u8; PLACES],
+    count2: &usize,
+    starts2: &[i64; PLACES],
+    ends2: &[i64; PLACES],
+    values2: &[u8; PLACES],
 ) -> Order
     ensures { λ r. ⌜ r ≡ orderOf (ordering (kindOf kind) (lent (count .entry) (starts .entry) (ends .entry) (values .entry)) (lent (count2 .entry) (starts2 .entry) (ends2 .entry) (values2 .entry))) ⌝ }
 {
@@ -213,105 +213,68 @@ pub fn cmp<'a, 'b>(
     ))
 }
 
-pub fn insert<'a>(
+pub fn insert(
     kind: RangeKind,
-    count: &'a mut usize,
-    starts: &'a mut [i64; PLACES],
-    ends: &'a mut [i64; PLACES],
-    values: &'a mut [u8; PLACES],
+    count: &mut usize,
+    starts: &mut [i64; PLACES],
+    ends: &mut [i64; PLACES],
+    values: &mut [u8; PLACES],
     start: i64,
     end: i64,
     value: u8,
 ) -> u8
     ensures { λ r. ⌜ leaving r (lent (count .exit) (starts .exit) (ends .exit) (values .exit)) ≡ inserting (kindOf kind) (lent (count .entry) (starts .entry) (ends .entry) (values .entry)) start end value ⌝ }
 {
-    map_ops::change::insert(kind, count, starts, ends, values, start, end, value)
+    number_of(map_ops::change::insert(kind, count, starts, ends, values, start, end, value))
 }
 
-pub fn remove<'a>(
+pub fn remove(
     kind: RangeKind,
-    count: &'a mut usize,
-    starts: &'a mut [i64; PLACES],
-    ends: &'a mut [i64; PLACES],
-    values: &'a mut [u8; PLACES],
+    count: &mut usize,
+    starts: &mut [i64; PLACES],
+    ends: &mut [i64; PLACES],
+    values: &mut [u8; PLACES],
     start: i64,
     end: i64,
 ) -> u8
     ensures { λ r. ⌜ leaving r (lent (count .exit) (starts .exit) (ends .exit) (values .exit)) ≡ removing (kindOf kind) (lent (count .entry) (starts .entry) (ends .entry) (values .entry)) start end ⌝ }
 {
-    map_ops::change::remove(kind, count, starts, ends, values, start, end)
+    number_of(map_ops::change::remove(kind, count, starts, ends, values, start, end))
 }
 
-// The kind is for the promise alone: a map that holds nothing is the same for both.
-pub fn clear<'a>(
+pub fn well_formed(
     kind: RangeKind,
-    count: &'a mut usize,
-    starts: &'a mut [i64; PLACES],
-    ends: &'a mut [i64; PLACES],
-    values: &'a mut [u8; PLACES],
-)
-    ensures { λ _. ⌜ (lent (count .exit) (starts .exit) (ends .exit) (values .exit)) ≡ cleared (kindOf kind) ⌝ }
-{
-    map_ops::change::clear(count, starts, ends, values)
-}
-
-pub fn extend<'a>(
-    kind: RangeKind,
-    count: &'a mut usize,
-    starts: &'a mut [i64; PLACES],
-    ends: &'a mut [i64; PLACES],
-    values: &'a mut [u8; PLACES],
-    new_starts: &[i64],
-    new_ends: &[i64],
-    new_values: &[u8],
-) -> Applied
-    ensures { λ r. ⌜ extended r (lent (count .exit) (starts .exit) (ends .exit) (values .exit)) ≡ extending (kindOf kind) (lent (count .entry) (starts .entry) (ends .entry) (values .entry)) (entries (now («new_starts» .entry)) (now («new_ends» .entry)) (now («new_values» .entry))) ⌝ }
-{
-    map_ops::change::bulk::extend(
-        kind,
-        count,
-        starts,
-        ends,
-        values,
-        new_starts,
-        new_ends,
-        new_values,
-    )
-}
-
-pub fn is_formed<'a>(
-    kind: RangeKind,
-    count: &'a usize,
-    starts: &'a [i64; PLACES],
-    ends: &'a [i64; PLACES],
-    values: &'a [u8; PLACES],
+    count: &usize,
+    starts: &[i64; PLACES],
+    ends: &[i64; PLACES],
+    values: &[u8; PLACES],
 ) -> bool
     ensures { λ r. ⌜ r ≡ formed (kindOf kind) (lent (count .entry) (starts .entry) (ends .entry) (values .entry)) ⌝ }
 {
-    store::formed::is_formed(kind, *count, starts, ends, values)
+    store::check::well_formed(kind, *count, starts, ends, values)
 }
 
 // The unchecked doors: the map must be well formed.
-pub fn get_key_value_unchecked<'a>(
+pub fn get_key_value_unchecked(
     kind: RangeKind,
-    count: &'a usize,
-    starts: &'a [i64; PLACES],
-    ends: &'a [i64; PLACES],
-    values: &'a [u8; PLACES],
+    count: &usize,
+    starts: &[i64; PLACES],
+    ends: &[i64; PLACES],
+    values: &[u8; PLACES],
     key: i64,
 ) -> Range
     requires { ⌜ Sound (kindOf kind) (lent count starts ends values) ⌝ }
     ensures { λ r. ⌜ r ≡ rangeOf (found (kindOf kind) (lent (count .entry) (starts .entry) (ends .entry) (values .entry)) key) ⌝ }
 {
-    range_of(map_ops::find::unchecked::get_key_value(kind, count, starts, ends, values, key))
+    range_of(lookup::get_key_value(kind, *count, starts, ends, values, key))
 }
 
-pub fn gaps_unchecked<'a>(
+pub fn gaps_unchecked(
     kind: RangeKind,
-    count: &'a usize,
-    starts: &'a [i64; PLACES],
-    ends: &'a [i64; PLACES],
-    values: &'a [u8; PLACES],
+    count: &usize,
+    starts: &[i64; PLACES],
+    ends: &[i64; PLACES],
+    values: &[u8; PLACES],
     start: i64,
     end: i64,
     out_starts: &mut [i64],
@@ -320,9 +283,9 @@ pub fn gaps_unchecked<'a>(
     requires { ⌜ Sound (kindOf kind) (lent count starts ends values) ⌝ }
     ensures { λ r. ⌜ Listed r (now («out_starts» .exit)) (now («out_ends» .exit)) (uncovered (kindOf kind) (lent (count .entry) (starts .entry) (ends .entry) (values .entry)) start end (now («out_starts» .entry)) (now («out_ends» .entry))) ⌝ }
 {
-    count_of(map_ops::find::unchecked::gaps(
+    count_of(gaps::gaps(
         kind,
-        count,
+        *count,
         starts,
         ends,
         values,
@@ -333,12 +296,12 @@ pub fn gaps_unchecked<'a>(
     ))
 }
 
-pub fn insert_unchecked<'a>(
+pub fn insert_unchecked(
     kind: RangeKind,
-    count: &'a mut usize,
-    starts: &'a mut [i64; PLACES],
-    ends: &'a mut [i64; PLACES],
-    values: &'a mut [u8; PLACES],
+    count: &mut usize,
+    starts: &mut [i64; PLACES],
+    ends: &mut [i64; PLACES],
+    values: &mut [u8; PLACES],
     start: i64,
     end: i64,
     value: u8,
@@ -346,20 +309,20 @@ pub fn insert_unchecked<'a>(
     requires { ⌜ Sound (kindOf kind) (lent count starts ends values) ⌝ }
     ensures { λ r. ⌜ leaving r (lent (count .exit) (starts .exit) (ends .exit) (values .exit)) ≡ editing (kindOf kind) places (lent (count .entry) (starts .entry) (ends .entry) (values .entry)) start end (some value) ⌝ }
 {
-    map_ops::change::unchecked::insert(kind, count, starts, ends, values, start, end, value)
+    number_of(edit::insert(kind, count, starts, ends, values, start, end, value))
 }
 
-pub fn remove_unchecked<'a>(
+pub fn remove_unchecked(
     kind: RangeKind,
-    count: &'a mut usize,
-    starts: &'a mut [i64; PLACES],
-    ends: &'a mut [i64; PLACES],
-    values: &'a mut [u8; PLACES],
+    count: &mut usize,
+    starts: &mut [i64; PLACES],
+    ends: &mut [i64; PLACES],
+    values: &mut [u8; PLACES],
     start: i64,
     end: i64,
 ) -> u8
     requires { ⌜ Sound (kindOf kind) (lent count starts ends values) ⌝ }
     ensures { λ r. ⌜ leaving r (lent (count .exit) (starts .exit) (ends .exit) (values .exit)) ≡ editing (kindOf kind) places (lent (count .entry) (starts .entry) (ends .entry) (values .entry)) start end none ⌝ }
 {
-    map_ops::change::unchecked::remove(kind, count, starts, ends, values, start, end)
+    number_of(edit::remove(kind, count, starts, ends, values, start, end))
 }

@@ -1,16 +1,17 @@
 // Edits of a map, over all its fields, for either kind: the check of the lent map, and then the unchecked door of its kind. Any map is taken.
 use key::RangeKind;
 use outcomes::NOT_FORMED;
+use outcomes::Outcome;
 use outcomes::PLACES;
-use store::formed::is_formed;
+use store::check::well_formed;
 
 pub mod bulk;
-pub mod unchecked;
 
 ghost use mathlib.Core.Path.{_≡_};
 ghost use Rattle.key.specs.Range.{Kind, kindOf};
 ghost use Rattle.outcomes.specs.Stored.{lent};
-ghost use Rattle.outcomes.specs.Outcomes.{cleared, inserting, leaving, removing};
+ghost use Rattle.outcomes.specs.Outcomes.{cleared, inserting, removing};
+ghost use Rattle.outcomes.specs.InnerOutcome.{Leaves};
 
 // Gives the value to each instant of the range and to no other.
 pub fn insert(
@@ -22,13 +23,14 @@ pub fn insert(
     start: i64,
     end: i64,
     value: u8,
-) -> u8
-    ensures { λ r. ⌜ leaving r (lent (count .exit) (starts .exit) (ends .exit) (values .exit)) ≡ inserting (kindOf kind) (lent (count .entry) (starts .entry) (ends .entry) (values .entry)) start end value ⌝ }
+) -> Outcome
+    ensures { λ r. ⌜ Leaves r (lent (count .exit) (starts .exit) (ends .exit) (values .exit))
+        (inserting (kindOf kind) (lent (count .entry) (starts .entry) (ends .entry) (values .entry)) start end value) ⌝ }
 {
-    if !is_formed(kind, *count, starts, ends, values) {
-        return NOT_FORMED;
+    if !well_formed(kind, *count, starts, ends, values) {
+        return Outcome::Refused(NOT_FORMED);
     }
-    unchecked::insert(kind, count, starts, ends, values, start, end, value)
+    edit::insert(kind, count, starts, ends, values, start, end, value)
 }
 
 // Uncovers exactly the instants of the range.
@@ -40,13 +42,14 @@ pub fn remove(
     values: &mut [u8; PLACES],
     start: i64,
     end: i64,
-) -> u8
-    ensures { λ r. ⌜ leaving r (lent (count .exit) (starts .exit) (ends .exit) (values .exit)) ≡ removing (kindOf kind) (lent (count .entry) (starts .entry) (ends .entry) (values .entry)) start end ⌝ }
+) -> Outcome
+    ensures { λ r. ⌜ Leaves r (lent (count .exit) (starts .exit) (ends .exit) (values .exit))
+        (removing (kindOf kind) (lent (count .entry) (starts .entry) (ends .entry) (values .entry)) start end) ⌝ }
 {
-    if !is_formed(kind, *count, starts, ends, values) {
-        return NOT_FORMED;
+    if !well_formed(kind, *count, starts, ends, values) {
+        return Outcome::Refused(NOT_FORMED);
     }
-    unchecked::remove(kind, count, starts, ends, values, start, end)
+    edit::remove(kind, count, starts, ends, values, start, end)
 }
 
 // Leaves nothing held, whatever the kind. It overwrites the map, so it does not check it.

@@ -7,10 +7,7 @@ use outcomes::Found;
 use outcomes::NOT_FORMED;
 use outcomes::PLACES;
 use outcomes::Part;
-use store::formed::is_formed;
-
-pub mod unchecked;
-
+use store::check::well_formed;
 ghost use mathlib.Core.Path.{_≡_};
 ghost use Rattle.key.specs.Range.{kindOf};
 ghost use Rattle.outcomes.specs.Stored.{lent};
@@ -18,82 +15,82 @@ ghost use Rattle.outcomes.specs.Outcomes.{containing, gapsIn, lookup, meeting, 
 ghost use Rattle.range_list.specs.InnerLists.{wrote};
 
 // The range that holds the key, and its value.
-pub fn get_key_value<'a>(
+pub fn get_key_value(
     kind: RangeKind,
-    count: &'a usize,
-    starts: &'a [i64; PLACES],
-    ends: &'a [i64; PLACES],
-    values: &'a [u8; PLACES],
+    count: &usize,
+    starts: &[i64; PLACES],
+    ends: &[i64; PLACES],
+    values: &[u8; PLACES],
     key: i64,
 ) -> Found
     ensures { λ r. ⌜ r ≡ lookup (kindOf kind) (lent (count .entry) (starts .entry) (ends .entry) (values .entry)) key ⌝ }
 {
-    if !is_formed(kind, *count, starts, ends, values) {
+    if !well_formed(kind, *count, starts, ends, values) {
         return Found::Refused(NOT_FORMED);
     }
-    unchecked::get_key_value(kind, count, starts, ends, values, key)
+    lookup::get_key_value(kind, *count, starts, ends, values, key)
 }
 
 // Whether some range holds the key.
-pub fn contains_key<'a>(
+pub fn contains_key(
     kind: RangeKind,
-    count: &'a usize,
-    starts: &'a [i64; PLACES],
-    ends: &'a [i64; PLACES],
-    values: &'a [u8; PLACES],
+    count: &usize,
+    starts: &[i64; PLACES],
+    ends: &[i64; PLACES],
+    values: &[u8; PLACES],
     key: i64,
 ) -> Asked
     ensures { λ r. ⌜ r ≡ containing (kindOf kind) (lent (count .entry) (starts .entry) (ends .entry) (values .entry)) key ⌝ }
 {
-    if !is_formed(kind, *count, starts, ends, values) {
+    if !well_formed(kind, *count, starts, ends, values) {
         return Asked::Refused(NOT_FORMED);
     }
     lookup::contains_key(kind, *count, starts, ends, values, key)
 }
 
 // Whether some range has a key of the query.
-pub fn overlaps<'a>(
+pub fn overlaps(
     kind: RangeKind,
-    count: &'a usize,
-    starts: &'a [i64; PLACES],
-    ends: &'a [i64; PLACES],
-    values: &'a [u8; PLACES],
+    count: &usize,
+    starts: &[i64; PLACES],
+    ends: &[i64; PLACES],
+    values: &[u8; PLACES],
     start: i64,
     end: i64,
 ) -> Asked
     ensures { λ r. ⌜ r ≡ meeting (kindOf kind) (lent (count .entry) (starts .entry) (ends .entry) (values .entry)) start end ⌝ }
 {
-    if !is_formed(kind, *count, starts, ends, values) {
+    if !well_formed(kind, *count, starts, ends, values) {
         return Asked::Refused(NOT_FORMED);
     }
     lookup::overlaps(kind, *count, starts, ends, values, start, end)
 }
 
 // Which consecutive stored part meets the query.
-pub fn overlapping<'a>(
+pub fn overlapping(
     kind: RangeKind,
-    count: &'a usize,
-    starts: &'a [i64; PLACES],
-    ends: &'a [i64; PLACES],
-    values: &'a [u8; PLACES],
+    count: &usize,
+    starts: &[i64; PLACES],
+    ends: &[i64; PLACES],
+    values: &[u8; PLACES],
     start: i64,
     end: i64,
 ) -> Part
     ensures { λ r. ⌜ r ≡ overlapping (kindOf kind) (lent (count .entry) (starts .entry) (ends .entry) (values .entry)) start end ⌝ }
 {
-    if !is_formed(kind, *count, starts, ends, values) {
+    if !well_formed(kind, *count, starts, ends, values) {
         return Part::Refused(NOT_FORMED);
     }
     lookup::overlapping(kind, *count, starts, ends, values, start, end)
 }
 
 // The maximal uncovered ranges inside the outer range, into the first places of two lent lists.
-pub fn gaps<'a>(
+pub fn gaps(
     kind: RangeKind,
-    count: &'a usize,
-    starts: &'a [i64; PLACES],
-    ends: &'a [i64; PLACES],
-    values: &'a [u8; PLACES],
+    count: &usize,
+    starts: &[i64; PLACES],
+    ends: &[i64; PLACES],
+    values: &[u8; PLACES],
     start: i64,
     end: i64,
     out_starts: &mut [i64],
@@ -101,12 +98,12 @@ pub fn gaps<'a>(
 ) -> Counted
     ensures { λ r. ⌜ wrote r (now («out_starts» .exit)) (now («out_ends» .exit)) ≡ gapsIn (kindOf kind) (lent (count .entry) (starts .entry) (ends .entry) (values .entry)) start end (now («out_starts» .entry)) (now («out_ends» .entry)) ⌝ }
 {
-    if !is_formed(kind, *count, starts, ends, values) {
+    if !well_formed(kind, *count, starts, ends, values) {
         return Counted::Refused(NOT_FORMED);
     }
-    unchecked::gaps(
+    gaps::gaps(
         kind,
-        count,
+        *count,
         starts,
         ends,
         values,

@@ -6,7 +6,7 @@ use outcomes::Counted;
 use outcomes::Found;
 use outcomes::NOT_FORMED;
 use outcomes::PLACES;
-use store::formed::is_formed;
+use store::check::well_formed;
 ghost use mathlib.Core.Path.{_≡_};
 ghost use Prim.Native.Nat.{_-_};
 ghost use Rattle.key.specs.Range.{kindOf};
@@ -24,16 +24,16 @@ fn last_place(count: usize) -> usize
 }
 
 // Whether nothing is held.
-pub fn is_empty<'a>(
+pub fn is_empty(
     kind: RangeKind,
-    count: &'a usize,
-    starts: &'a [i64; PLACES],
-    ends: &'a [i64; PLACES],
-    values: &'a [u8; PLACES],
+    count: &usize,
+    starts: &[i64; PLACES],
+    ends: &[i64; PLACES],
+    values: &[u8; PLACES],
 ) -> Asked
     ensures { λ r. ⌜ r ≡ isEmpty (kindOf kind) (lent (count .entry) (starts .entry) (ends .entry) (values .entry)) ⌝ }
 {
-    if !is_formed(kind, *count, starts, ends, values) {
+    if !well_formed(kind, *count, starts, ends, values) {
         return Asked::Refused(NOT_FORMED);
     }
     if *count == 0 {
@@ -43,88 +43,88 @@ pub fn is_empty<'a>(
 }
 
 // How many ranges are held.
-pub fn len<'a>(
+pub fn len(
     kind: RangeKind,
-    count: &'a usize,
-    starts: &'a [i64; PLACES],
-    ends: &'a [i64; PLACES],
-    values: &'a [u8; PLACES],
+    count: &usize,
+    starts: &[i64; PLACES],
+    ends: &[i64; PLACES],
+    values: &[u8; PLACES],
 ) -> Counted
     ensures { λ r. ⌜ r ≡ counting (kindOf kind) (lent (count .entry) (starts .entry) (ends .entry) (values .entry)) ⌝ }
 {
-    if !is_formed(kind, *count, starts, ends, values) {
+    if !well_formed(kind, *count, starts, ends, values) {
         return Counted::Refused(NOT_FORMED);
     }
     Counted::Count(*count)
 }
 
 // The range and the value at a place.
-pub fn range_at<'a>(
+pub fn range_at(
     kind: RangeKind,
-    count: &'a usize,
-    starts: &'a [i64; PLACES],
-    ends: &'a [i64; PLACES],
-    values: &'a [u8; PLACES],
+    count: &usize,
+    starts: &[i64; PLACES],
+    ends: &[i64; PLACES],
+    values: &[u8; PLACES],
     place: usize,
 ) -> Found
     ensures { λ r. ⌜ r ≡ rangeAt (kindOf kind) (lent (count .entry) (starts .entry) (ends .entry) (values .entry)) place ⌝ }
 {
-    if !is_formed(kind, *count, starts, ends, values) {
+    if !well_formed(kind, *count, starts, ends, values) {
         return Found::Refused(NOT_FORMED);
     }
     lookup::range_at(*count, starts, ends, values, place)
 }
 
 // The first range and its value.
-pub fn first_range_value<'a>(
+pub fn first_range_value(
     kind: RangeKind,
-    count: &'a usize,
-    starts: &'a [i64; PLACES],
-    ends: &'a [i64; PLACES],
-    values: &'a [u8; PLACES],
+    count: &usize,
+    starts: &[i64; PLACES],
+    ends: &[i64; PLACES],
+    values: &[u8; PLACES],
 ) -> Found
     ensures { λ r. ⌜ r ≡ firstOf (kindOf kind) (lent (count .entry) (starts .entry) (ends .entry) (values .entry)) ⌝ }
 {
-    if !is_formed(kind, *count, starts, ends, values) {
+    if !well_formed(kind, *count, starts, ends, values) {
         return Found::Refused(NOT_FORMED);
     }
     lookup::range_at(*count, starts, ends, values, 0)
 }
 
 // The last range and its value.
-pub fn last_range_value<'a>(
+pub fn last_range_value(
     kind: RangeKind,
-    count: &'a usize,
-    starts: &'a [i64; PLACES],
-    ends: &'a [i64; PLACES],
-    values: &'a [u8; PLACES],
+    count: &usize,
+    starts: &[i64; PLACES],
+    ends: &[i64; PLACES],
+    values: &[u8; PLACES],
 ) -> Found
     ensures { λ r. ⌜ r ≡ lastOf (kindOf kind) (lent (count .entry) (starts .entry) (ends .entry) (values .entry)) ⌝ }
 {
-    if !is_formed(kind, *count, starts, ends, values) {
+    if !well_formed(kind, *count, starts, ends, values) {
         return Found::Refused(NOT_FORMED);
     }
     lookup::range_at(*count, starts, ends, values, last_place(*count))
 }
 
 // Which of two maps comes first.
-pub fn cmp<'a, 'b>(
+pub fn cmp(
     kind: RangeKind,
-    count: &'a usize,
-    starts: &'a [i64; PLACES],
-    ends: &'a [i64; PLACES],
-    values: &'a [u8; PLACES],
-    count2: &'b usize,
-    starts2: &'b [i64; PLACES],
-    ends2: &'b [i64; PLACES],
-    values2: &'b [u8; PLACES],
+    count: &usize,
+    starts: &[i64; PLACES],
+    ends: &[i64; PLACES],
+    values: &[u8; PLACES],
+    count2: &usize,
+    starts2: &[i64; PLACES],
+    ends2: &[i64; PLACES],
+    values2: &[u8; PLACES],
 ) -> Compared
     ensures { λ r. ⌜ r ≡ ordering (kindOf kind) (lent (count .entry) (starts .entry) (ends .entry) (values .entry)) (lent (count2 .entry) (starts2 .entry) (ends2 .entry) (values2 .entry)) ⌝ }
 {
-    if !is_formed(kind, *count, starts, ends, values) {
+    if !well_formed(kind, *count, starts, ends, values) {
         return Compared::Refused(NOT_FORMED);
     }
-    if !is_formed(kind, *count2, starts2, ends2, values2) {
+    if !well_formed(kind, *count2, starts2, ends2, values2) {
         return Compared::Refused(NOT_FORMED);
     }
     compare::compare(
@@ -140,16 +140,16 @@ pub fn cmp<'a, 'b>(
 }
 
 // Whether two maps hold the same ranges with the same values.
-pub fn eq<'a, 'b>(
+pub fn eq(
     kind: RangeKind,
-    count: &'a usize,
-    starts: &'a [i64; PLACES],
-    ends: &'a [i64; PLACES],
-    values: &'a [u8; PLACES],
-    count2: &'b usize,
-    starts2: &'b [i64; PLACES],
-    ends2: &'b [i64; PLACES],
-    values2: &'b [u8; PLACES],
+    count: &usize,
+    starts: &[i64; PLACES],
+    ends: &[i64; PLACES],
+    values: &[u8; PLACES],
+    count2: &usize,
+    starts2: &[i64; PLACES],
+    ends2: &[i64; PLACES],
+    values2: &[u8; PLACES],
 ) -> Asked
     ensures { λ r. ⌜ r ≡ equality (kindOf kind) (lent (count .entry) (starts .entry) (ends .entry) (values .entry)) (lent (count2 .entry) (starts2 .entry) (ends2 .entry) (values2 .entry)) ⌝ }
 {

@@ -11,15 +11,15 @@ ghost use Rattle.map.specs.Map.{held};
 ghost use Rattle.query.specs.Answers.{queriedAt};
 
 // The answer in numbers, over the fields of both maps.
-fn in_numbers<'a, 'b>(
-    count_a: &'a usize,
-    starts_a: &'a [i64; PLACES],
-    ends_a: &'a [i64; PLACES],
-    values_a: &'a [u8; PLACES],
-    count_b: &'b usize,
-    starts_b: &'b [i64; PLACES],
-    ends_b: &'b [i64; PLACES],
-    values_b: &'b [u8; PLACES],
+fn in_numbers(
+    count_a: &usize,
+    starts_a: &[i64; PLACES],
+    ends_a: &[i64; PLACES],
+    values_a: &[u8; PLACES],
+    count_b: &usize,
+    starts_b: &[i64; PLACES],
+    ends_b: &[i64; PLACES],
+    values_b: &[u8; PLACES],
     start: i64,
     end: i64,
     bytes: &[u8],

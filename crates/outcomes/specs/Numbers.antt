@@ -31,6 +31,7 @@ countOf (Counted.Refused n) = record { answer = n; count = 0 }
 
 abbrev pub rangeOf : Found → Range
 rangeOf (Found.Range s e v) = record { answer = 0; start = s; end = e; value = v }
+rangeOf Found.Nothing = record { answer = 5; start = pos 0; end = pos 0; value = 0 }
 rangeOf (Found.Refused n) = record { answer = n; start = pos 0; end = pos 0; value = 0 }
 
 abbrev pub stretchOf : Part → Stretch

@@ -113,7 +113,7 @@ pub record Change : Type 0 where
 
 -- the range and the value at a place
 unfoldable pub placed : Stored → ℕ → Found
-placed m i = cond (ltb i (m .count)) (Found.Range (getD (m .starts) i (pos 0)) (getD (m .ends) i (pos 0)) (getD (m .values) i 0)) (Found.Refused 5)
+placed m i = cond (ltb i (m .count)) (Found.Range (getD (m .starts) i (pos 0)) (getD (m .ends) i (pos 0)) (getD (m .values) i 0)) Found.Nothing
 
 module _ (kind : Kind) where
   -- the range that holds a key, and its value

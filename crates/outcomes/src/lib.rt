@@ -3,6 +3,7 @@
 ghost use mathlib.Core.Path.{_≡_};
 ghost use Rattle.outcomes.specs.Stored.{places};
 ghost use Rattle.outcomes.specs.Numbers.{toldOf, countOf, rangeOf, stretchOf, orderOf, equalOf, totalOf};
+ghost use Rattle.outcomes.specs.InnerOutcome.{numberOf, outcomeOf};
 
 // How many places a map has.
 pub const PLACES: usize = 512;
@@ -54,9 +55,10 @@ pub struct Count {
     pub count: usize,
 }
 
-// A stored range and its value.
+// A stored range and its value, or that there is none.
 pub enum Found {
     Range(i64, i64, u8),
+    Nothing,
     Refused(u8),
 }
 
@@ -105,6 +107,12 @@ pub enum Totalled {
 pub struct Total {
     pub answer: u8,
     pub total: u64,
+}
+
+// How an edit went.
+pub enum Outcome {
+    Done,
+    Refused(u8),
 }
 
 // How a list of edits went: the first refusal, or 0, and how many were applied before it.
@@ -157,6 +165,12 @@ pub fn range_of(a: Found) -> Range
             start: s,
             end: e,
             value: v,
+        },
+        Found::Nothing => Range {
+            answer: NONE_THERE,
+            start: 0,
+            end: 0,
+            value: 0,
         },
         Found::Refused(n) => Range {
             answer: n,
@@ -220,6 +234,25 @@ pub fn total_of(a: Totalled) -> Total
             total: 0,
         },
     }
+}
+
+pub fn number_of(a: Outcome) -> u8
+    ensures { λ n. ⌜ n ≡ numberOf a ⌝ }
+{
+    match a {
+        Outcome::Done => DONE,
+        Outcome::Refused(n) => n,
+    }
+}
+
+// How an edit went, by its number.
+pub fn outcome_of(n: u8) -> Outcome
+    ensures { λ a. ⌜ a ≡ outcomeOf n ⌝ }
+{
+    if n == DONE {
+        return Outcome::Done;
+    }
+    Outcome::Refused(n)
 }
 
 // Whether two maps are equal, by how they compare.

@@ -1,7 +1,7 @@
 // The check of two lent maps.
 use key::RangeKind;
 use outcomes::PLACES;
-use store::formed::is_formed;
+use store::check::well_formed;
 ghost use mathlib.Core.Path.{_≡_};
 ghost use mathlib.Core.Bool.{true, _&&_};
 ghost use Rattle.key.specs.Range.{halfOpen};
@@ -25,8 +25,8 @@ pub fn are_formed(
     ensures { λ r. ⌜ (r ≡ true → Sound halfOpen (columns «count_a» («starts_a» .entry) («ends_a» .entry) («values_a» .entry))
         × Sound halfOpen (columns «count_b» («starts_b» .entry) («ends_b» .entry) («values_b» .entry))) ⌝ }
 {
-    if !is_formed(RangeKind::HalfOpen, count_a, starts_a, ends_a, values_a) {
+    if !well_formed(RangeKind::HalfOpen, count_a, starts_a, ends_a, values_a) {
         return false;
     }
-    is_formed(RangeKind::HalfOpen, count_b, starts_b, ends_b, values_b)
+    well_formed(RangeKind::HalfOpen, count_b, starts_b, ends_b, values_b)
 }

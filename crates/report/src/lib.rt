@@ -6,7 +6,7 @@ use key::RangeKind;
 use log_day::Day;
 use outcomes::NOT_FORMED;
 use outcomes::PLACES;
-use store::formed::is_formed;
+use store::check::well_formed;
 ghost use mathlib.Core.Path.{_≡_};
 ghost use Rattle.key.specs.Range.{halfOpen};
 ghost use Rattle.outcomes.specs.Stored.{stored, lent, Sound};
@@ -126,11 +126,11 @@ pub fn unchecked(
 }
 
 // The report of any map, over all its fields.
-pub fn checked<'a>(
-    count: &'a usize,
-    starts: &'a [i64; PLACES],
-    ends: &'a [i64; PLACES],
-    values: &'a [u8; PLACES],
+pub fn checked(
+    count: &usize,
+    starts: &[i64; PLACES],
+    ends: &[i64; PLACES],
+    values: &[u8; PLACES],
     zone: u8,
     year: u16,
     month: u8,
@@ -138,18 +138,18 @@ pub fn checked<'a>(
 ) -> Reported
     ensures { λ r. ⌜ r ≡ reporting (lent (count .entry) (starts .entry) (ends .entry) (values .entry)) zone year month day ⌝ }
 {
-    if !is_formed(RangeKind::HalfOpen, *count, starts, ends, values) {
+    if !well_formed(RangeKind::HalfOpen, *count, starts, ends, values) {
         return Reported::Refused(NOT_FORMED);
     }
     unchecked(*count, starts, ends, values, zone, year, month, day)
 }
 
 // The same as C and Rust see it.
-pub fn day_report<'a>(
-    count: &'a usize,
-    starts: &'a [i64; PLACES],
-    ends: &'a [i64; PLACES],
-    values: &'a [u8; PLACES],
+pub fn day_report(
+    count: &usize,
+    starts: &[i64; PLACES],
+    ends: &[i64; PLACES],
+    values: &[u8; PLACES],
     zone: u8,
     year: u16,
     month: u8,
@@ -161,11 +161,11 @@ pub fn day_report<'a>(
 }
 
 // The same of a well-formed map. The caller answers for the check.
-pub fn day_report_unchecked<'a>(
-    count: &'a usize,
-    starts: &'a [i64; PLACES],
-    ends: &'a [i64; PLACES],
-    values: &'a [u8; PLACES],
+pub fn day_report_unchecked(
+    count: &usize,
+    starts: &[i64; PLACES],
+    ends: &[i64; PLACES],
+    values: &[u8; PLACES],
     zone: u8,
     year: u16,
     month: u8,

@@ -1,5 +1,5 @@
 // Module 5: the half-open set, from set.rs of rangemap. The exported functions, for C and Rust, are here: each lends all the fields of its set
-// to a function of the crate `set_abi`, which answers in numbers. Rattle callers use the crate `set_ops`.
+// to a function of `set_abi`, which answers in numbers, or of `set_ops` or `map_ops` where these do. Rattle callers use `set_ops`.
 use key::RangeKind;
 use operations::Operation;
 use outcomes::Applied;
@@ -212,7 +212,7 @@ pub extern "C" fn range_set_remove(m: &mut RangeSet, start: i64, end: i64) -> u8
 pub extern "C" fn range_set_extend(m: &mut RangeSet, starts: &[i64], ends: &[i64]) -> Applied
     ensures { λ r. ⌜ extended r (held (now (m .exit))) ≡ setExtending halfOpen (held (now (m .entry))) (pairs (now (starts .entry)) (now (ends .entry))) ⌝ }
 {
-    set_abi::extend(
+    set_ops::bulk::extend(
         KIND,
         &mut m.count,
         &mut m.starts,
@@ -228,13 +228,7 @@ pub extern "C" fn range_set_extend(m: &mut RangeSet, starts: &[i64], ends: &[i64
 pub extern "C" fn range_set_clear(m: &mut RangeSet)
     ensures { λ _. ⌜ (held (now (m .exit))) ≡ cleared halfOpen ⌝ }
 {
-    set_abi::clear(
-        KIND,
-        &mut m.count,
-        &mut m.starts,
-        &mut m.ends,
-        &mut m.values,
-    )
+    map_ops::change::clear(&mut m.count, &mut m.starts, &mut m.ends, &mut m.values)
 }
 
 // Whether a map is well formed.
@@ -242,7 +236,7 @@ pub extern "C" fn range_set_clear(m: &mut RangeSet)
 pub extern "C" fn range_set_well_formed(m: &RangeSet) -> bool
     ensures { λ r. ⌜ r ≡ formedSet halfOpen (held (now (m .entry))) ⌝ }
 {
-    set_abi::is_formed(KIND, &m.count, &m.starts, &m.ends, &m.values)
+    set_abi::well_formed(KIND, &m.count, &m.starts, &m.ends, &m.values)
 }
 
 // The common points of two sets as maximal ranges, into the first places of two lent lists.

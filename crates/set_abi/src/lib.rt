@@ -2,7 +2,6 @@
 // `set` and `inclusive_set` name their kind and lend all the fields of their set to these.
 use key::RangeKind;
 use operations::Operation;
-use outcomes::Applied;
 use outcomes::Count;
 use outcomes::Order;
 use outcomes::PLACES;
@@ -11,6 +10,7 @@ use outcomes::Stretch;
 use outcomes::Told;
 use outcomes::Total;
 use outcomes::count_of;
+use outcomes::number_of;
 use outcomes::order_of;
 use outcomes::range_of;
 use outcomes::stretch_of;
@@ -20,41 +20,41 @@ ghost use mathlib.Core.Path.{_≡_};
 ghost use Rattle.key.specs.Range.{kindOf};
 ghost use Rattle.outcomes.specs.Stored.{lent};
 ghost use Rattle.outcomes.specs.Numbers.{toldOf, countOf, rangeOf, stretchOf, orderOf, totalOf};
-ghost use Rattle.outcomes.specs.Outcomes.{Listed, cleared, extended, leaving};
+ghost use Rattle.outcomes.specs.Outcomes.{Listed, leaving};
 ghost use Rattle.outcomes.specs.Sets.{formedSet, totalling};
 ghost use Rattle.operations.specs.InnerOperation.{combinedAny};
-ghost use Rattle.set_ops.specs.Answers.{pairs, setContaining, setCounting, setEquality, setExtending, setFirst, setGaps, setInserting, setIsEmpty, setLast, setLookup, setMeeting, setOrdering, setOverlapping, setRangeAt, setRemoving};
+ghost use Rattle.set_ops.specs.Answers.{setContaining, setCounting, setEquality, setFirst, setGaps, setInserting, setIsEmpty, setLast, setLookup, setMeeting, setOrdering, setOverlapping, setRangeAt, setRemoving};
 
-pub fn is_empty<'a>(
+pub fn is_empty(
     kind: RangeKind,
-    count: &'a usize,
-    starts: &'a [i64; PLACES],
-    ends: &'a [i64; PLACES],
-    values: &'a [u8; PLACES],
+    count: &usize,
+    starts: &[i64; PLACES],
+    ends: &[i64; PLACES],
+    values: &[u8; PLACES],
 ) -> Told
     ensures { λ r. ⌜ r ≡ toldOf (setIsEmpty (kindOf kind) (lent (count .entry) (starts .entry) (ends .entry) (values .entry))) ⌝ }
 {
     told_of(set_ops::stored::is_empty(kind, count, starts, ends, values))
 }
 
-pub fn len<'a>(
+pub fn len(
     kind: RangeKind,
-    count: &'a usize,
-    starts: &'a [i64; PLACES],
-    ends: &'a [i64; PLACES],
-    values: &'a [u8; PLACES],
+    count: &usize,
+    starts: &[i64; PLACES],
+    ends: &[i64; PLACES],
+    values: &[u8; PLACES],
 ) -> Count
     ensures { λ r. ⌜ r ≡ countOf (setCounting (kindOf kind) (lent (count .entry) (starts .entry) (ends .entry) (values .entry))) ⌝ }
 {
     count_of(set_ops::stored::len(kind, count, starts, ends, values))
 }
 
-pub fn range_at<'a>(
+pub fn range_at(
     kind: RangeKind,
-    count: &'a usize,
-    starts: &'a [i64; PLACES],
-    ends: &'a [i64; PLACES],
-    values: &'a [u8; PLACES],
+    count: &usize,
+    starts: &[i64; PLACES],
+    ends: &[i64; PLACES],
+    values: &[u8; PLACES],
     place: usize,
 ) -> Range
     ensures { λ r. ⌜ r ≡ rangeOf (setRangeAt (kindOf kind) (lent (count .entry) (starts .entry) (ends .entry) (values .entry)) place) ⌝ }
@@ -62,36 +62,36 @@ pub fn range_at<'a>(
     range_of(set_ops::stored::range_at(kind, count, starts, ends, values, place))
 }
 
-pub fn first<'a>(
+pub fn first(
     kind: RangeKind,
-    count: &'a usize,
-    starts: &'a [i64; PLACES],
-    ends: &'a [i64; PLACES],
-    values: &'a [u8; PLACES],
+    count: &usize,
+    starts: &[i64; PLACES],
+    ends: &[i64; PLACES],
+    values: &[u8; PLACES],
 ) -> Range
     ensures { λ r. ⌜ r ≡ rangeOf (setFirst (kindOf kind) (lent (count .entry) (starts .entry) (ends .entry) (values .entry))) ⌝ }
 {
     range_of(set_ops::stored::first(kind, count, starts, ends, values))
 }
 
-pub fn last<'a>(
+pub fn last(
     kind: RangeKind,
-    count: &'a usize,
-    starts: &'a [i64; PLACES],
-    ends: &'a [i64; PLACES],
-    values: &'a [u8; PLACES],
+    count: &usize,
+    starts: &[i64; PLACES],
+    ends: &[i64; PLACES],
+    values: &[u8; PLACES],
 ) -> Range
     ensures { λ r. ⌜ r ≡ rangeOf (setLast (kindOf kind) (lent (count .entry) (starts .entry) (ends .entry) (values .entry))) ⌝ }
 {
     range_of(set_ops::stored::last(kind, count, starts, ends, values))
 }
 
-pub fn get<'a>(
+pub fn get(
     kind: RangeKind,
-    count: &'a usize,
-    starts: &'a [i64; PLACES],
-    ends: &'a [i64; PLACES],
-    values: &'a [u8; PLACES],
+    count: &usize,
+    starts: &[i64; PLACES],
+    ends: &[i64; PLACES],
+    values: &[u8; PLACES],
     key: i64,
 ) -> Range
     ensures { λ r. ⌜ r ≡ rangeOf (setLookup (kindOf kind) (lent (count .entry) (starts .entry) (ends .entry) (values .entry)) key) ⌝ }
@@ -99,12 +99,12 @@ pub fn get<'a>(
     range_of(set_ops::found::get(kind, count, starts, ends, values, key))
 }
 
-pub fn contains<'a>(
+pub fn contains(
     kind: RangeKind,
-    count: &'a usize,
-    starts: &'a [i64; PLACES],
-    ends: &'a [i64; PLACES],
-    values: &'a [u8; PLACES],
+    count: &usize,
+    starts: &[i64; PLACES],
+    ends: &[i64; PLACES],
+    values: &[u8; PLACES],
     key: i64,
 ) -> Told
     ensures { λ r. ⌜ r ≡ toldOf (setContaining (kindOf kind) (lent (count .entry) (starts .entry) (ends .entry) (values .entry)) key) ⌝ }
@@ -112,12 +112,12 @@ pub fn contains<'a>(
     told_of(set_ops::found::contains(kind, count, starts, ends, values, key))
 }
 
-pub fn overlaps<'a>(
+pub fn overlaps(
     kind: RangeKind,
-    count: &'a usize,
-    starts: &'a [i64; PLACES],
-    ends: &'a [i64; PLACES],
-    values: &'a [u8; PLACES],
+    count: &usize,
+    starts: &[i64; PLACES],
+    ends: &[i64; PLACES],
+    values: &[u8; PLACES],
     start: i64,
     end: i64,
 ) -> Told
@@ -126,12 +126,12 @@ pub fn overlaps<'a>(
     told_of(set_ops::found::overlaps(kind, count, starts, ends, values, start, end))
 }
 
-pub fn overlapping<'a>(
+pub fn overlapping(
     kind: RangeKind,
-    count: &'a usize,
-    starts: &'a [i64; PLACES],
-    ends: &'a [i64; PLACES],
-    values: &'a [u8; PLACES],
+    count: &usize,
+    starts: &[i64; PLACES],
+    ends: &[i64; PLACES],
+    values: &[u8; PLACES],
     start: i64,
     end: i64,
 ) -> Stretch
@@ -140,12 +140,12 @@ pub fn overlapping<'a>(
     stretch_of(set_ops::found::overlapping(kind, count, starts, ends, values, start, end))
 }
 
-pub fn gaps<'a>(
+pub fn gaps(
     kind: RangeKind,
-    count: &'a usize,
-    starts: &'a [i64; PLACES],
-    ends: &'a [i64; PLACES],
-    values: &'a [u8; PLACES],
+    count: &usize,
+    starts: &[i64; PLACES],
+    ends: &[i64; PLACES],
+    values: &[u8; PLACES],
     start: i64,
     end: i64,
     out_starts: &mut [i64],
@@ -166,16 +166,16 @@ pub fn gaps<'a>(
     ))
 }
 
-pub fn eq<'a, 'b>(
+pub fn eq(
     kind: RangeKind,
-    count: &'a usize,
-    starts: &'a [i64; PLACES],
-    ends: &'a [i64; PLACES],
-    values: &'a [u8; PLACES],
-    count2: &'b usize,
-    starts2: &'b [i64; PLACES],
-    ends2: &'b [i64; PLACES],
-    values2: &'b [u8; PLACES],
+    count: &usize,
+    starts: &[i64; PLACES],
+    ends: &[i64; PLACES],
+    values: &[u8; PLACES],
+    count2: &usize,
+    starts2: &[i64; PLACES],
+    ends2: &[i64; PLACES],
+    values2: &[u8; PLACES],
 ) -> Told
     ensures { λ r. ⌜ r ≡ toldOf (setEquality (kindOf kind) (lent (count .entry) (starts .entry) (ends .entry) (values .entry)) (lent (count2 .entry) (starts2 .entry) (ends2 .entry) (values2 .entry))) ⌝ }
 {
@@ -192,16 +192,16 @@ pub fn eq<'a, 'b>(
     ))
 }
 
-pub fn cmp<'a, 'b>(
+pub fn cmp(
     kind: RangeKind,
-    count: &'a usize,
-    starts: &'a [i64; PLACES],
-    ends: &'a [i64; PLACES],
-    values: &'a [u8; PLACES],
-    count2: &'b usize,
-    starts2: &'b [i64; PLACES],
-    ends2: &'b [i64; PLACES],
-    values2: &'b [u8; PLACES],
+    count: &usize,
+    starts: &[i64; PLACES],
+    ends: &[i64; PLACES],
+    values: &[u8; PLACES],
+    count2: &usize,
+    starts2: &[i64; PLACES],
+    ends2: &[i64; PLACES],
+    values2: &[u8; PLACES],
 ) -> Order
     ensures { λ r. ⌜ r ≡ orderOf (setOrdering (kindOf kind) (lent (count .entry) (starts .entry) (ends .entry) (values .entry)) (lent (count2 .entry) (starts2 .entry) (ends2 .entry) (values2 .entry))) ⌝ }
 {
@@ -218,67 +218,40 @@ pub fn cmp<'a, 'b>(
     ))
 }
 
-pub fn insert<'a>(
+pub fn insert(
     kind: RangeKind,
-    count: &'a mut usize,
-    starts: &'a mut [i64; PLACES],
-    ends: &'a mut [i64; PLACES],
-    values: &'a mut [u8; PLACES],
+    count: &mut usize,
+    starts: &mut [i64; PLACES],
+    ends: &mut [i64; PLACES],
+    values: &mut [u8; PLACES],
     start: i64,
     end: i64,
 ) -> u8
     ensures { λ r. ⌜ leaving r (lent (count .exit) (starts .exit) (ends .exit) (values .exit)) ≡ setInserting (kindOf kind) (lent (count .entry) (starts .entry) (ends .entry) (values .entry)) start end ⌝ }
 {
-    set_ops::changed::insert(kind, count, starts, ends, values, start, end)
+    number_of(set_ops::changed::insert(kind, count, starts, ends, values, start, end))
 }
 
-pub fn remove<'a>(
+pub fn remove(
     kind: RangeKind,
-    count: &'a mut usize,
-    starts: &'a mut [i64; PLACES],
-    ends: &'a mut [i64; PLACES],
-    values: &'a mut [u8; PLACES],
+    count: &mut usize,
+    starts: &mut [i64; PLACES],
+    ends: &mut [i64; PLACES],
+    values: &mut [u8; PLACES],
     start: i64,
     end: i64,
 ) -> u8
     ensures { λ r. ⌜ leaving r (lent (count .exit) (starts .exit) (ends .exit) (values .exit)) ≡ setRemoving (kindOf kind) (lent (count .entry) (starts .entry) (ends .entry) (values .entry)) start end ⌝ }
 {
-    set_ops::changed::remove(kind, count, starts, ends, values, start, end)
+    number_of(set_ops::changed::remove(kind, count, starts, ends, values, start, end))
 }
 
-pub fn extend<'a>(
+pub fn well_formed(
     kind: RangeKind,
-    count: &'a mut usize,
-    starts: &'a mut [i64; PLACES],
-    ends: &'a mut [i64; PLACES],
-    values: &'a mut [u8; PLACES],
-    new_starts: &[i64],
-    new_ends: &[i64],
-) -> Applied
-    ensures { λ r. ⌜ extended r (lent (count .exit) (starts .exit) (ends .exit) (values .exit)) ≡ setExtending (kindOf kind) (lent (count .entry) (starts .entry) (ends .entry) (values .entry)) (pairs (now («new_starts» .entry)) (now («new_ends» .entry))) ⌝ }
-{
-    set_ops::bulk::extend(kind, count, starts, ends, values, new_starts, new_ends)
-}
-
-// The kind is for the promise alone: a set that holds nothing is the same for both.
-pub fn clear<'a>(
-    kind: RangeKind,
-    count: &'a mut usize,
-    starts: &'a mut [i64; PLACES],
-    ends: &'a mut [i64; PLACES],
-    values: &'a mut [u8; PLACES],
-)
-    ensures { λ _. ⌜ (lent (count .exit) (starts .exit) (ends .exit) (values .exit)) ≡ cleared (kindOf kind) ⌝ }
-{
-    map_ops::change::clear(count, starts, ends, values)
-}
-
-pub fn is_formed<'a>(
-    kind: RangeKind,
-    count: &'a usize,
-    starts: &'a [i64; PLACES],
-    ends: &'a [i64; PLACES],
-    values: &'a [u8; PLACES],
+    count: &usize,
+    starts: &[i64; PLACES],
+    ends: &[i64; PLACES],
+    values: &[u8; PLACES],
 ) -> bool
     ensures { λ r. ⌜ r ≡ formedSet (kindOf kind) (lent (count .entry) (starts .entry) (ends .entry) (values .entry)) ⌝ }
 {
@@ -286,17 +259,17 @@ pub fn is_formed<'a>(
 }
 
 // Intersection and union.
-pub fn combine<'a, 'b>(
+pub fn combine(
     kind: RangeKind,
     operation: Operation,
-    count: &'a usize,
-    starts: &'a [i64; PLACES],
-    ends: &'a [i64; PLACES],
-    values: &'a [u8; PLACES],
-    count2: &'b usize,
-    starts2: &'b [i64; PLACES],
-    ends2: &'b [i64; PLACES],
-    values2: &'b [u8; PLACES],
+    count: &usize,
+    starts: &[i64; PLACES],
+    ends: &[i64; PLACES],
+    values: &[u8; PLACES],
+    count2: &usize,
+    starts2: &[i64; PLACES],
+    ends2: &[i64; PLACES],
+    values2: &[u8; PLACES],
     out_starts: &mut [i64],
     out_ends: &mut [i64],
 ) -> Count
@@ -321,12 +294,12 @@ pub fn combine<'a, 'b>(
     ))
 }
 
-pub fn total<'a>(
+pub fn total(
     kind: RangeKind,
-    count: &'a usize,
-    starts: &'a [i64; PLACES],
-    ends: &'a [i64; PLACES],
-    values: &'a [u8; PLACES],
+    count: &usize,
+    starts: &[i64; PLACES],
+    ends: &[i64; PLACES],
+    values: &[u8; PLACES],
 ) -> Total
     ensures { λ r. ⌜ r ≡ totalOf (totalling (kindOf kind) (lent (count .entry) (starts .entry) (ends .entry) (values .entry))) ⌝ }
 {

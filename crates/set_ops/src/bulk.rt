@@ -1,11 +1,11 @@
 // Bulk insert into a set: in list order, up to the first refusal. The set is checked once.
 use key::RangeKind;
-use map_ops::change::unchecked;
 use outcomes::Applied;
 use outcomes::NOT_FORMED;
+use outcomes::Outcome;
 use outcomes::PLACES;
 use range_list::shorter;
-use store::formed::is_formed;
+use store::check::well_formed;
 use store::plain::plain;
 ghost use mathlib.Core.Path.{_≡_};
 ghost use Rattle.key.specs.Range.{kindOf};
@@ -29,7 +29,7 @@ fn extend_formed(
     let n = shorter(new_starts.len(), new_ends.len());
     let mut i = 0;
     while i < n {
-        let answer = unchecked::insert(
+        let went = edit::insert(
             kind,
             count,
             starts,
@@ -39,7 +39,7 @@ fn extend_formed(
             new_ends[i],
             0,
         );
-        if answer != 0 {
+        if let Outcome::Refused(answer) = went {
             return Applied {
                 answer: answer,
                 applied: i,
@@ -71,7 +71,7 @@ pub fn extend(
             applied: 0,
         };
     }
-    if !is_formed(kind, *count, starts, ends, values) {
+    if !well_formed(kind, *count, starts, ends, values) {
         return Applied {
             answer: NOT_FORMED,
             applied: 0,

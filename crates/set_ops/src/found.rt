@@ -14,12 +14,12 @@ ghost use Rattle.range_list.specs.InnerLists.{wrote};
 ghost use Rattle.set_ops.specs.Answers.{setContaining, setGaps, setLookup, setMeeting, setOverlapping};
 
 // The range that holds the key.
-pub fn get<'a>(
+pub fn get(
     kind: RangeKind,
-    count: &'a usize,
-    starts: &'a [i64; PLACES],
-    ends: &'a [i64; PLACES],
-    values: &'a [u8; PLACES],
+    count: &usize,
+    starts: &[i64; PLACES],
+    ends: &[i64; PLACES],
+    values: &[u8; PLACES],
     key: i64,
 ) -> Found
     ensures { λ r. ⌜ r ≡ setLookup (kindOf kind) (lent (count .entry) (starts .entry) (ends .entry) (values .entry)) key ⌝ }
@@ -31,12 +31,12 @@ pub fn get<'a>(
 }
 
 // Whether some range holds the key.
-pub fn contains<'a>(
+pub fn contains(
     kind: RangeKind,
-    count: &'a usize,
-    starts: &'a [i64; PLACES],
-    ends: &'a [i64; PLACES],
-    values: &'a [u8; PLACES],
+    count: &usize,
+    starts: &[i64; PLACES],
+    ends: &[i64; PLACES],
+    values: &[u8; PLACES],
     key: i64,
 ) -> Asked
     ensures { λ r. ⌜ r ≡ setContaining (kindOf kind) (lent (count .entry) (starts .entry) (ends .entry) (values .entry)) key ⌝ }
@@ -48,12 +48,12 @@ pub fn contains<'a>(
 }
 
 // Whether some range has a key of the query.
-pub fn overlaps<'a>(
+pub fn overlaps(
     kind: RangeKind,
-    count: &'a usize,
-    starts: &'a [i64; PLACES],
-    ends: &'a [i64; PLACES],
-    values: &'a [u8; PLACES],
+    count: &usize,
+    starts: &[i64; PLACES],
+    ends: &[i64; PLACES],
+    values: &[u8; PLACES],
     start: i64,
     end: i64,
 ) -> Asked
@@ -66,12 +66,12 @@ pub fn overlaps<'a>(
 }
 
 // Which consecutive stored part meets the query.
-pub fn overlapping<'a>(
+pub fn overlapping(
     kind: RangeKind,
-    count: &'a usize,
-    starts: &'a [i64; PLACES],
-    ends: &'a [i64; PLACES],
-    values: &'a [u8; PLACES],
+    count: &usize,
+    starts: &[i64; PLACES],
+    ends: &[i64; PLACES],
+    values: &[u8; PLACES],
     start: i64,
     end: i64,
 ) -> Part
@@ -84,12 +84,12 @@ pub fn overlapping<'a>(
 }
 
 // The maximal uncovered ranges inside the outer range, into the first places of two lent lists.
-pub fn gaps<'a>(
+pub fn gaps(
     kind: RangeKind,
-    count: &'a usize,
-    starts: &'a [i64; PLACES],
-    ends: &'a [i64; PLACES],
-    values: &'a [u8; PLACES],
+    count: &usize,
+    starts: &[i64; PLACES],
+    ends: &[i64; PLACES],
+    values: &[u8; PLACES],
     start: i64,
     end: i64,
     out_starts: &mut [i64],

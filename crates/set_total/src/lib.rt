@@ -75,12 +75,12 @@ pub fn total_unchecked(
 }
 
 // Any set is taken.
-pub fn total<'a>(
+pub fn total(
     kind: RangeKind,
-    count: &'a usize,
-    starts: &'a [i64; PLACES],
-    ends: &'a [i64; PLACES],
-    values: &'a [u8; PLACES],
+    count: &usize,
+    starts: &[i64; PLACES],
+    ends: &[i64; PLACES],
+    values: &[u8; PLACES],
 ) -> Totalled
     ensures { λ r. ⌜ r ≡ totalling (kindOf kind) (lent (count .entry) (starts .entry) (ends .entry) (values .entry)) ⌝ }
 {

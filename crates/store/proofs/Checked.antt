@@ -4,15 +4,15 @@ use native.Mathlib.Omega.{arith}
 use native.Mathlib.Decide.{decLt}
 use native.Mathlib.Numerals.{add-one}
 use mir.Facts.{sfits-lit}
-use mathlib.Core.Path.{_≡_, refl, sym, subst}
+use mathlib.Core.Path.{_≡_, refl, sym, ap, subst, _∙_}
 use mathlib.Core.Logic.{_⊎_, inl, inr, ⊎-elim}
 use mathlib.Core.Bool.{Bool, true, false}
-use lib.ListN.{getD}
+use lib.ListN.{length, getD}
 use Rattle.span.specs.Span.{span, Tidy}
 use Rattle.span.proofs.Pieces.{tidy-places, places-tidy}
 use Rattle.key.specs.InnerDecides.{Decides}
 use Rattle.key.specs.Range.{Kind}
-use Rattle.outcomes.specs.Stored.{Stored, ranges, wellFormed, AllFit}
+use Rattle.outcomes.specs.Stored.{places, Stored, ranges, wellFormed, AllFit, Sound}
 use Rattle.outcomes.proofs.Formed.{Formed, Shaped, formed, well-formed, length-ranges, getD-ranges}
 use Rattle.store.specs.InnerCheck.{place, Step, Follows, Steps, Keys, Unused}
 
@@ -96,3 +96,11 @@ module _ (kind : Kind) {n : ℕ} {m : Stored} (shape : Shaped n m) where
     (λ k. elim (decLt k (m .count)) [ yes p ↦ f k p .start-fits | no p ↦ rw (u .starts k (omega arith)) (sfits-lit tt) ]),
     λ k. elim (decLt k (m .count)) [ yes p ↦ f k p .end-fits | no p ↦ rw (u .ends k (omega arith)) (sfits-lit tt) ],
   )
+
+-- what the check found of the columns of a whole map, as the callers ask for it
+pub whole : (kind : Kind) {m : Stored} {r : Bool} → Shaped (length (m .starts)) m → length (m .starts) ≡ places → r ≡ wellFormed kind (length (m .starts)) m
+    → (r ≡ true → AllFit (m .starts) × AllFit (m .ends)) → (r ≡ wellFormed kind places m) × (r ≡ true → Sound kind m)
+whole kind {m} shape n e f = (
+  e ∙ ap (λ (k : ℕ). wellFormed kind k m) n,
+  λ t. record { ends-as = shape .ends; values-as = shape .values; starts-fit = f t .0; ends-fit = f t .1; well = sym e ∙ t },
+)

@@ -1,5 +1,6 @@
 // The check of a lent map of either kind. The live places are walked once, and each column of the unused ones once.
 use key::RangeKind;
+use outcomes::PLACES;
 ghost use mathlib.Core.Path.{_≡_};
 ghost use mathlib.Core.Bool.{true};
 ghost use Prim.Native.Nat.{ℕ, _+_, _<_, _≤_};
@@ -8,7 +9,8 @@ ghost use lib.IntN.{pos};
 ghost use Rattle.key.specs.InnerDecides.{Decides};
 ghost use Rattle.key.specs.Rank.{rank};
 ghost use Rattle.key.specs.Range.{halfOpen, inclusive, kindOf};
-ghost use Rattle.outcomes.specs.Stored.{stored, wellFormed, Spare, AllFit};
+ghost use Rattle.outcomes.specs.Stored.{stored, Sound, Spare};
+ghost use Rattle.outcomes.specs.Outcomes.{formed};
 ghost use Rattle.store.specs.InnerCheck.{Follows, Steps, Keys, Unused};
 
 // The greatest key at which the next range may not begin: the end of a half-open range before one of the same value, else the key before its end.
@@ -151,17 +153,16 @@ fn unused(starts: &[i64], ends: &[i64], values: &[u8], count: usize) -> bool
     true
 }
 
-// Whether a map is well formed.
+// Whether a lent map is well formed: `true` exactly where it is, and then it is sound.
 pub fn well_formed(
     kind: RangeKind,
-    starts: &[i64],
-    ends: &[i64],
-    values: &[u8],
     count: usize,
+    starts: &[i64; PLACES],
+    ends: &[i64; PLACES],
+    values: &[u8; PLACES],
 ) -> bool
-    requires { ⌜ (length (now ends) ≡ length (now starts)) × (length (now values) ≡ length (now starts)) ⌝ }
-    ensures { λ r. ⌜ r ≡ wellFormed (kindOf kind) (length (now (starts .entry))) (stored count (now (starts .entry)) (now (ends .entry)) (now (values .entry))) ⌝ }
-    ensures { λ r. ⌜ (r ≡ true → AllFit (now (starts .entry)) × AllFit (now (ends .entry))) ⌝ }
+    ensures { λ r. ⌜ r ≡ formed (kindOf kind) (stored count (now (starts .entry)) (now (ends .entry)) (now (values .entry))) ⌝ }
+    ensures { λ r. ⌜ (r ≡ true → Sound (kindOf kind) (stored count (now (starts .entry)) (now (ends .entry)) (now (values .entry)))) ⌝ }
 {
     if !unused(starts, ends, values, count) {
         return false;

@@ -382,7 +382,7 @@ fn clear(m: Map) -> Map {
     let mut starts = m.starts;
     let mut ends = m.ends;
     let mut values = m.values;
-    map_abi::clear(kind, &mut count, &mut starts, &mut ends, &mut values);
+    map_ops::change::clear(&mut count, &mut starts, &mut ends, &mut values);
     io::write_all(1, b"clear\n");
     Map {
         kind: kind,
@@ -486,12 +486,12 @@ fn print_question(kind: RangeKind, s: Step) {
 }
 
 // Overlaps is asked with overlapping, on a line of its own.
-fn answer_overlapping<'a>(
+fn answer_overlapping(
     kind: RangeKind,
-    count: &'a usize,
-    starts: &'a [i64; PLACES],
-    ends: &'a [i64; PLACES],
-    values: &'a [u8; PLACES],
+    count: &usize,
+    starts: &[i64; PLACES],
+    ends: &[i64; PLACES],
+    values: &[u8; PLACES],
     r: Ends,
 ) {
     print_stretch(map_abi::overlapping(kind, count, starts, ends, values, r.start, r.end));
@@ -500,12 +500,12 @@ fn answer_overlapping<'a>(
     print_yes(map_abi::overlaps(kind, count, starts, ends, values, r.start, r.end));
 }
 
-fn answer_gaps_into<'a>(
+fn answer_gaps_into(
     kind: RangeKind,
-    count: &'a usize,
-    starts: &'a [i64; PLACES],
-    ends: &'a [i64; PLACES],
-    values: &'a [u8; PLACES],
+    count: &usize,
+    starts: &[i64; PLACES],
+    ends: &[i64; PLACES],
+    values: &[u8; PLACES],
     r: Ends,
     out_starts: &mut [i64],
     out_ends: &mut [i64],
@@ -525,12 +525,12 @@ fn answer_gaps_into<'a>(
 }
 
 // The gaps into lists of so many places, which hold 0 before. Only one list is cut: the shorter decides.
-fn answer_gaps<'a>(
+fn answer_gaps(
     kind: RangeKind,
-    count: &'a usize,
-    starts: &'a [i64; PLACES],
-    ends: &'a [i64; PLACES],
-    values: &'a [u8; PLACES],
+    count: &usize,
+    starts: &[i64; PLACES],
+    ends: &[i64; PLACES],
+    values: &[u8; PLACES],
     r: Ends,
     many: usize,
 ) {
@@ -550,12 +550,12 @@ fn answer_gaps<'a>(
     }
 }
 
-fn answer<'a>(
+fn answer(
     kind: RangeKind,
-    count: &'a usize,
-    starts: &'a [i64; PLACES],
-    ends: &'a [i64; PLACES],
-    values: &'a [u8; PLACES],
+    count: &usize,
+    starts: &[i64; PLACES],
+    ends: &[i64; PLACES],
+    values: &[u8; PLACES],
     s: Step,
 ) {
     let what = s.what;
@@ -599,16 +599,16 @@ fn ask(m: Map, s: Step) {
     print(b'\n');
 }
 
-fn compare_by<'a, 'b>(
+fn compare_by(
     kind: RangeKind,
-    count: &'a usize,
-    starts: &'a [i64; PLACES],
-    ends: &'a [i64; PLACES],
-    values: &'a [u8; PLACES],
-    count2: &'b usize,
-    starts2: &'b [i64; PLACES],
-    ends2: &'b [i64; PLACES],
-    values2: &'b [u8; PLACES],
+    count: &usize,
+    starts: &[i64; PLACES],
+    ends: &[i64; PLACES],
+    values: &[u8; PLACES],
+    count2: &usize,
+    starts2: &[i64; PLACES],
+    ends2: &[i64; PLACES],
+    values2: &[u8; PLACES],
 ) {
     io::write_all(1, b"eq");
     print_yes(map_abi::eq(
@@ -690,7 +690,7 @@ fn extend(m: Map, new_starts: &[i64], new_ends: &[i64], new_values: &[u8]) -> Ma
     let mut starts = m.starts;
     let mut ends = m.ends;
     let mut values = m.values;
-    print_applied(map_abi::extend(
+    print_applied(map_ops::change::bulk::extend(
         kind,
         &mut count,
         &mut starts,

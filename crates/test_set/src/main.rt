@@ -238,12 +238,12 @@ fn print_edited(what: u8, kind: RangeKind, r: Edited) {
 // ---- one set
 
 // Is empty, len, first, last, the second range and the total.
-fn ask_whole<'a>(
+fn ask_whole(
     kind: RangeKind,
-    count: &'a usize,
-    starts: &'a [i64; PLACES],
-    ends: &'a [i64; PLACES],
-    values: &'a [u8; PLACES],
+    count: &usize,
+    starts: &[i64; PLACES],
+    ends: &[i64; PLACES],
+    values: &[u8; PLACES],
 ) {
     print_told(b'e', set_abi::is_empty(kind, count, starts, ends, values));
     print_count(b'n', set_abi::len(kind, count, starts, ends, values));
@@ -268,12 +268,12 @@ fn print_whole(kind: RangeKind, m: Set) {
 }
 
 // Get and contains.
-fn ask_at<'a>(
+fn ask_at(
     kind: RangeKind,
-    count: &'a usize,
-    starts: &'a [i64; PLACES],
-    ends: &'a [i64; PLACES],
-    values: &'a [u8; PLACES],
+    count: &usize,
+    starts: &[i64; PLACES],
+    ends: &[i64; PLACES],
+    values: &[u8; PLACES],
     key: i64,
 ) {
     print_found(
@@ -296,12 +296,12 @@ fn print_at(kind: RangeKind, m: Set, key: i64) {
 }
 
 // Overlapping, overlaps, and the gaps into three places, which hold 0 before.
-fn ask_over<'a>(
+fn ask_over(
     kind: RangeKind,
-    count: &'a usize,
-    starts: &'a [i64; PLACES],
-    ends: &'a [i64; PLACES],
-    values: &'a [u8; PLACES],
+    count: &usize,
+    starts: &[i64; PLACES],
+    ends: &[i64; PLACES],
+    values: &[u8; PLACES],
     start: i64,
     end: i64,
 ) {
@@ -358,16 +358,16 @@ fn print_over(kind: RangeKind, m: Set, r: Ends) {
 // ---- two sets
 
 // The intersection into three places, which hold 0 before.
-fn ask_intersection<'a, 'b>(
+fn ask_intersection(
     kind: RangeKind,
-    count: &'a usize,
-    starts: &'a [i64; PLACES],
-    ends: &'a [i64; PLACES],
-    values: &'a [u8; PLACES],
-    count2: &'b usize,
-    starts2: &'b [i64; PLACES],
-    ends2: &'b [i64; PLACES],
-    values2: &'b [u8; PLACES],
+    count: &usize,
+    starts: &[i64; PLACES],
+    ends: &[i64; PLACES],
+    values: &[u8; PLACES],
+    count2: &usize,
+    starts2: &[i64; PLACES],
+    ends2: &[i64; PLACES],
+    values2: &[u8; PLACES],
 ) {
     let mut out_starts = [0i64; 3];
     let mut out_ends = [0i64; 3];
@@ -392,16 +392,16 @@ fn ask_intersection<'a, 'b>(
 }
 
 // The union in the same way.
-fn ask_union<'a, 'b>(
+fn ask_union(
     kind: RangeKind,
-    count: &'a usize,
-    starts: &'a [i64; PLACES],
-    ends: &'a [i64; PLACES],
-    values: &'a [u8; PLACES],
-    count2: &'b usize,
-    starts2: &'b [i64; PLACES],
-    ends2: &'b [i64; PLACES],
-    values2: &'b [u8; PLACES],
+    count: &usize,
+    starts: &[i64; PLACES],
+    ends: &[i64; PLACES],
+    values: &[u8; PLACES],
+    count2: &usize,
+    starts2: &[i64; PLACES],
+    ends2: &[i64; PLACES],
+    values2: &[u8; PLACES],
 ) {
     let mut out_starts = [0i64; 3];
     let mut out_ends = [0i64; 3];
@@ -426,16 +426,16 @@ fn ask_union<'a, 'b>(
 }
 
 // Equality, order, intersection and union.
-fn ask_pair<'a, 'b>(
+fn ask_pair(
     kind: RangeKind,
-    count: &'a usize,
-    starts: &'a [i64; PLACES],
-    ends: &'a [i64; PLACES],
-    values: &'a [u8; PLACES],
-    count2: &'b usize,
-    starts2: &'b [i64; PLACES],
-    ends2: &'b [i64; PLACES],
-    values2: &'b [u8; PLACES],
+    count: &usize,
+    starts: &[i64; PLACES],
+    ends: &[i64; PLACES],
+    values: &[u8; PLACES],
+    count2: &usize,
+    starts2: &[i64; PLACES],
+    ends2: &[i64; PLACES],
+    values2: &[u8; PLACES],
 ) {
     print_told(
         b'q',

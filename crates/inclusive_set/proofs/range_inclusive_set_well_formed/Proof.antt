@@ -1,4 +1,4 @@
--- `inclusive_set::range_inclusive_set_well_formed` meets its contract: it lends all the fields of each set to `set_abi::is_formed`, and passes the rest on (`thin`, Thin.antt).
+-- `inclusive_set::range_inclusive_set_well_formed` meets its contract: it lends all the fields of each set to `set_abi::well_formed`, and passes the rest on (`thin`, Thin.antt).
 use mathlib.Core.Path.{refl}
 use mathlib.Core.List.{[], _∷_}
 use base.Logic.{id⊢}
@@ -6,9 +6,9 @@ use Rattle.thin.proofs.Thin.{literal, lend, proves}
 use Rattle.thin.proofs.Numbers.{boolean, number}
 use Rattle.thin_answers.proofs.Types.{the-kind}
 use Rattle.inclusive_set.proofs.Sets.{range-inclusive-set}
-use Rattle.set_abi.proofs.is_formed as g
-use Rattle.set_abi.proofs.is_formed.Symbol as g-def
-use Rattle.set_abi.proofs.is_formed.Met as g-thm
+use Rattle.set_abi.proofs.well_formed as g
+use Rattle.set_abi.proofs.well_formed.Symbol as g-def
+use Rattle.set_abi.proofs.well_formed.Met as g-thm
 use Rattle.inclusive_set.proofs.range_inclusive_set_well_formed as f
 use Rattle.inclusive_set.proofs.range_inclusive_set_well_formed.Key as f-key
 use Rattle.inclusive_set.proofs.range_inclusive_set_well_formed.Statement as stated
@@ -19,4 +19,4 @@ unfolding code.routine
 range-inclusive-set-well-formed-spec 𝓤 H 𝓜 𝓖 𝓡 =
     proves 𝓤 H 𝓜 𝓖 𝓡 (literal (the-kind code.function) ∷ lend range-inclusive-set ∷ []) (number boolean)
     (f.clauses 𝓤 H) (g.clauses 𝓤 H) (λ κs a k x. (tt, id⊢ 𝓤 _, λ r zs. id⊢ 𝓤 _))
-    code.env f-key.name code.function (code.unfolded 𝓤 H 𝓜 𝓡) g-def.name code.calls-set-abi·is-formed (g-thm.met 𝓤 H 𝓜 𝓖 𝓡) (λ κs a. (refl, refl, refl))
+    code.env f-key.name code.function (code.unfolded 𝓤 H 𝓜 𝓡) g-def.name code.calls-set-abi·well-formed (g-thm.met 𝓤 H 𝓜 𝓖 𝓡) (λ κs a. (refl, refl, refl))

@@ -1,4 +1,4 @@
--- `map::range_map_extend` meets its contract: it lends all the fields of each map to `map_abi::extend`, and passes the rest on (`thin`, Thin.antt).
+-- `map::range_map_extend` meets its contract: it lends all the fields of each map to `map_ops::change::bulk::extend`, and passes the rest on (`thin`, Thin.antt).
 use mathlib.Core.Path.{refl}
 use mathlib.Core.List.{[], _∷_}
 use base.Logic.{id⊢}
@@ -6,9 +6,9 @@ use denote.Builtin.{i64, u8}
 use Rattle.thin.proofs.Thin.{literal, lend-mut, slice, proves}
 use Rattle.thin_answers.proofs.Types.{the-kind, applied}
 use Rattle.map.proofs.Maps.{range-map}
-use Rattle.map_abi.proofs.extend as g
-use Rattle.map_abi.proofs.extend.Symbol as g-def
-use Rattle.map_abi.proofs.extend.Met as g-thm
+use Rattle.map_ops.proofs.change.bulk.extend as g
+use Rattle.map_ops.proofs.change.bulk.extend.Symbol as g-def
+use Rattle.map_ops.proofs.change.bulk.extend.Met as g-thm
 use Rattle.map.proofs.range_map_extend as f
 use Rattle.map.proofs.range_map_extend.Key as f-key
 use Rattle.map.proofs.range_map_extend.Statement as stated
@@ -19,4 +19,4 @@ unfolding code.routine
 range-map-extend-spec 𝓤 H 𝓜 𝓖 𝓡 =
     proves 𝓤 H 𝓜 𝓖 𝓡 (literal (the-kind code.function) ∷ lend-mut range-map ∷ slice i64 ∷ slice i64 ∷ slice u8 ∷ []) applied
     (f.clauses 𝓤 H) (g.clauses 𝓤 H) (λ κs a k x. (tt, id⊢ 𝓤 _, λ r zs. id⊢ 𝓤 _))
-    code.env f-key.name code.function (code.unfolded 𝓤 H 𝓜 𝓡) g-def.name code.calls-map-abi·extend (g-thm.met 𝓤 H 𝓜 𝓖 𝓡) (λ κs a. (refl, refl, refl))
+    code.env f-key.name code.function (code.unfolded 𝓤 H 𝓜 𝓡) g-def.name code.calls-map-ops·change·bulk·extend (g-thm.met 𝓤 H 𝓜 𝓖 𝓡) (λ κs a. (refl, refl, refl))

@@ -1,4 +1,4 @@
--- `map::range_map_well_formed` meets its contract: it lends all the fields of each map to `map_abi::is_formed`, and passes the rest on (`thin`, Thin.antt).
+-- `map::range_map_well_formed` meets its contract: it lends all the fields of each map to `map_abi::well_formed`, and passes the rest on (`thin`, Thin.antt).
 use mathlib.Core.Path.{refl}
 use mathlib.Core.List.{[], _∷_}
 use base.Logic.{id⊢}
@@ -6,9 +6,9 @@ use Rattle.thin.proofs.Thin.{literal, lend, proves}
 use Rattle.thin.proofs.Numbers.{boolean, number}
 use Rattle.thin_answers.proofs.Types.{the-kind}
 use Rattle.map.proofs.Maps.{range-map}
-use Rattle.map_abi.proofs.is_formed as g
-use Rattle.map_abi.proofs.is_formed.Symbol as g-def
-use Rattle.map_abi.proofs.is_formed.Met as g-thm
+use Rattle.map_abi.proofs.well_formed as g
+use Rattle.map_abi.proofs.well_formed.Symbol as g-def
+use Rattle.map_abi.proofs.well_formed.Met as g-thm
 use Rattle.map.proofs.range_map_well_formed as f
 use Rattle.map.proofs.range_map_well_formed.Key as f-key
 use Rattle.map.proofs.range_map_well_formed.Statement as stated
@@ -19,4 +19,4 @@ unfolding code.routine
 range-map-well-formed-spec 𝓤 H 𝓜 𝓖 𝓡 =
     proves 𝓤 H 𝓜 𝓖 𝓡 (literal (the-kind code.function) ∷ lend range-map ∷ []) (number boolean)
     (f.clauses 𝓤 H) (g.clauses 𝓤 H) (λ κs a k x. (tt, id⊢ 𝓤 _, λ r zs. id⊢ 𝓤 _))
-    code.env f-key.name code.function (code.unfolded 𝓤 H 𝓜 𝓡) g-def.name code.calls-map-abi·is-formed (g-thm.met 𝓤 H 𝓜 𝓖 𝓡) (λ κs a. (refl, refl, refl))
+    code.env f-key.name code.function (code.unfolded 𝓤 H 𝓜 𝓡) g-def.name code.calls-map-abi·well-formed (g-thm.met 𝓤 H 𝓜 𝓖 𝓡) (λ κs a. (refl, refl, refl))

@@ -21,7 +21,8 @@ same-length-2 c = search needs
 
 returns : tie.Need-returns
 returns c =
-    let w = rw (toZ-ofZ (c .before .before .before .before .before .before .fits .start), toZ-ofZ (c .before .before .before .before .before .before .fits .end)) at (c .before .before .before .gaps .ensures) in
+    let s = c .before .before .before .before .before .before .before .before .before .before in
+    let w = rw (toZ-ofZ (s .fits .start), toZ-ofZ (s .fits .end)) at (c .before .before .before .gaps .ensures) in
     record {
       number = c .count-of .ensures ∙ ap (λ (x : Written). countOf (x .answer)) w;
       starts-are = ap (λ (x : Written). x .starts) w;

@@ -14,7 +14,7 @@ range-of-requires c κs = search needs
 
 returns : tie.Need-returns
 returns c =
-    let s = c .before .before in
+    let s = c .before .before .before .before .before .before in
     c .range-of .ensures ∙ ap rangeOf (rw (toZ-ofZ (s .fits .key)) at (c .before .get-key-value .ensures))
 
 pub get-key-value-unchecked-spec : {M : Type 1} → statement M

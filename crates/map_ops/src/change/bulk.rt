@@ -2,8 +2,9 @@
 use key::RangeKind;
 use outcomes::Applied;
 use outcomes::NOT_FORMED;
+use outcomes::Outcome;
 use outcomes::PLACES;
-use store::formed::is_formed;
+use store::check::well_formed;
 ghost use mathlib.Core.Path.{_≡_};
 ghost use Prim.Native.Nat.{min};
 ghost use lib.ListN.{length};
@@ -38,7 +39,7 @@ fn extend_formed(
     let n = shorter(shorter(new_starts.len(), new_ends.len()), new_values.len());
     let mut i = 0;
     while i < n {
-        let answer = crate::change::unchecked::insert(
+        let went = edit::insert(
             kind,
             count,
             starts,
@@ -48,7 +49,7 @@ fn extend_formed(
             new_ends[i],
             new_values[i],
         );
-        if answer != 0 {
+        if let Outcome::Refused(answer) = went {
             return Applied {
                 answer: answer,
                 applied: i,
@@ -75,7 +76,7 @@ pub fn extend(
 ) -> Applied
     ensures { λ r. ⌜ extended r (lent (count .exit) (starts .exit) (ends .exit) (values .exit)) ≡ extending (kindOf kind) (lent (count .entry) (starts .entry) (ends .entry) (values .entry)) (entries (now («new_starts» .entry)) (now («new_ends» .entry)) (now («new_values» .entry))) ⌝ }
 {
-    if !is_formed(kind, *count, starts, ends, values) {
+    if !well_formed(kind, *count, starts, ends, values) {
         return Applied {
             answer: NOT_FORMED,
             applied: 0,

@@ -10,6 +10,9 @@ use Rattle.outcomes.proofs.range_of.Tie as tie
 enum-known-a : tie.Need-enum-known-a
 enum-known-a c = search needs
 
+enum-told : tie.Need-enum-told
+enum-told c = search needs
+
 enum-known-a-2 : tie.Need-enum-known-a-2
 enum-known-a-2 c = search needs
 
@@ -17,7 +20,11 @@ returns : tie.Need-returns
 returns c = let k = c .known-told .given in rw (toZ-ofZ (sfits-of (k .0 .1)), toZ-ofZ (sfits-of (k .1 .0 .1))) (ap rangeOf (sym (c .before .a .given .1)))
 
 returns-2 : tie.Need-returns-2
-returns-2 c = ap rangeOf (sym (c .before .a2 .given .1))
+returns-2 c = ap rangeOf (sym (c .enum-told .given .1))
+
+returns-3 : tie.Need-returns-3
+returns-3 c = ap rangeOf (sym (c .before .a2 .given .1))
 
 pub range-of-spec : {M : Type 1} → statement M
-range-of-spec = tie.close (tie.spec enum-known-a enum-known-a-2 returns returns-2)
+range-of-spec =
+    tie.close (tie.spec enum-known-a enum-told enum-known-a-2 returns returns-2 returns-3)

@@ -6,19 +6,19 @@ use borrow.Author.Needs.{needs}
 use Rattle.report.proofs.checked.Statement.{statement}
 use Rattle.report.proofs.checked.Tie as tie
 
-is-formed-requires : tie.Need-is-formed-requires
-is-formed-requires c κs = search needs
+well-formed-requires : tie.Need-well-formed-requires
+well-formed-requires c κs = search needs
 
 returns : tie.Need-returns
 unfolding reporting
-returns c = rw (sym (c .before .is-formed .ensures .0) ∙ not-true _ (c .if1 .taken))
+returns c = rw (sym (c .before .well-formed .ensures .0) ∙ not-true _ (c .if1 .taken))
 
 unchecked-requires : tie.Need-unchecked-requires
-unchecked-requires c κs = c .before .before .before .before .is-formed .ensures .1 (not-false _ (c .before .before .before .if1 .left))
+unchecked-requires c κs = c .before .before .before .before .well-formed .ensures .1 (not-false _ (c .before .before .before .if1 .left))
 
 returns-2 : tie.Need-returns-2
 unfolding reporting
-returns-2 c = rw (sym (c .before .before .before .before .before .is-formed .ensures .0) ∙ not-false _ (c .before .before .before .before .if1 .left)) (c .unchecked .ensures)
+returns-2 c = rw (sym (c .before .before .before .before .before .well-formed .ensures .0) ∙ not-false _ (c .before .before .before .before .if1 .left)) (c .unchecked .ensures)
 
 pub checked-spec : {M : Type 1} → statement M
-checked-spec = tie.close (tie.spec is-formed-requires returns unchecked-requires returns-2)
+checked-spec = tie.close (tie.spec well-formed-requires returns unchecked-requires returns-2)

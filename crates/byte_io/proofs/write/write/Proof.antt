@@ -9,16 +9,16 @@ use Rattle.byte_form.specs.Form.{writing}
 use Rattle.byte_io.proofs.write.write.Statement.{statement}
 use Rattle.byte_io.proofs.write.write.Tie as tie
 
-is-formed-requires : tie.Need-is-formed-requires
-is-formed-requires c κs = search needs
+well-formed-requires : tie.Need-well-formed-requires
+well-formed-requires c κs = search needs
 
 returns : tie.Need-returns
 unfolding writing
-returns c = rw (sym (c .before .is-formed .ensures .0) ∙ not-true _ (c .if1 .taken))
+returns c = rw (sym (c .before .well-formed .ensures .0) ∙ not-true _ (c .if1 .taken))
 
 write-formed-requires : tie.Need-write-formed-requires
 write-formed-requires c κs =
-    let f = c .before .before .is-formed in
+    let f = c .before .before .well-formed in
     let yes = not-false _ (c .before .if1 .left) in
     (f .ensures .1 yes, formed halfOpen places _ (sym (f .ensures .0) ∙ yes) .held)
 
@@ -27,8 +27,8 @@ same-length c = search needs
 
 returns-2 : tie.Need-returns-2
 unfolding writing
-returns-2 c = rw (sym (c .before .before .before .before .before .is-formed .ensures .0) ∙ not-false _ (c .before .before .before .before .if1 .left)) (c .before .before .write-formed .ensures)
+returns-2 c = rw (sym (c .before .before .before .before .before .well-formed .ensures .0) ∙ not-false _ (c .before .before .before .before .if1 .left)) (c .before .before .write-formed .ensures)
 
 pub write-spec : {M : Type 1} → statement M
 write-spec =
-    tie.close (tie.spec is-formed-requires returns write-formed-requires same-length returns-2)
+    tie.close (tie.spec well-formed-requires returns write-formed-requires same-length returns-2)

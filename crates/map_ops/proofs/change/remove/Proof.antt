@@ -1,5 +1,5 @@
 -- `map_ops::change::remove` meets its contract.
-use mathlib.Core.Path.{sym, _∙_}
+use mathlib.Core.Path.{refl, sym, _∙_}
 use borrow.Author.Tests.{not-true, not-false}
 use mir.Facts.{toZ-ofZ}
 use Rattle.outcomes.specs.Outcomes.{edited}
@@ -7,21 +7,21 @@ use borrow.Author.Needs.{needs}
 use Rattle.map_ops.proofs.change.remove.Statement.{statement}
 use Rattle.map_ops.proofs.change.remove.Tie as tie
 
-is-formed-requires : tie.Need-is-formed-requires
-is-formed-requires c κs = search needs
+well-formed-requires : tie.Need-well-formed-requires
+well-formed-requires c κs = search needs
 
 returns : tie.Need-returns
 unfolding edited
-returns c = rw (sym (c .before .is-formed .ensures .0) ∙ not-true _ (c .if1 .taken))
+returns c = rw (sym (c .before .well-formed .ensures .0) ∙ not-true _ (c .if1 .taken)) (record { outcome = refl; map-is = refl })
 
 remove-requires : tie.Need-remove-requires
-remove-requires c κs = c .before .before .before .before .before .is-formed .ensures .1 (not-false _ (c .before .before .before .before .if1 .left))
+remove-requires c κs = c .before .before .before .before .before .well-formed .ensures .1 (not-false _ (c .before .before .before .before .if1 .left))
 
 returns-2 : tie.Need-returns-2
 unfolding edited
 returns-2 c =
     let s = c .before .before .before .before .before .before .before .before .before .before .before in
-    rw (sym (c .before .before .before .before .before .before .is-formed .ensures .0) ∙ not-false _ (c .before .before .before .before .before .if1 .left)) (rw (toZ-ofZ (s .fits .start), toZ-ofZ (s .fits .end)) at (c .remove .ensures))
+    rw (sym (c .before .before .before .before .before .before .well-formed .ensures .0) ∙ not-false _ (c .before .before .before .before .before .if1 .left)) (rw (toZ-ofZ (s .fits .start), toZ-ofZ (s .fits .end)) at (c .remove .ensures))
 
 pub remove-spec : {M : Type 1} → statement M
-remove-spec = tie.close (tie.spec is-formed-requires returns remove-requires returns-2)
+remove-spec = tie.close (tie.spec well-formed-requires returns remove-requires returns-2)

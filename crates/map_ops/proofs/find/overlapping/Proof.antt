@@ -7,21 +7,21 @@ use borrow.Author.Needs.{needs}
 use Rattle.map_ops.proofs.find.overlapping.Statement.{statement}
 use Rattle.map_ops.proofs.find.overlapping.Tie as tie
 
-is-formed-requires : tie.Need-is-formed-requires
-is-formed-requires c κs = search needs
+well-formed-requires : tie.Need-well-formed-requires
+well-formed-requires c κs = search needs
 
 returns : tie.Need-returns
 unfolding overlapping
-returns c = rw (sym (c .before .is-formed .ensures .0) ∙ not-true _ (c .if1 .taken))
+returns c = rw (sym (c .before .well-formed .ensures .0) ∙ not-true _ (c .if1 .taken))
 
 overlapping-requires : tie.Need-overlapping-requires
-overlapping-requires c κs = c .before .before .before .before .is-formed .ensures .1 (not-false _ (c .before .before .before .if1 .left))
+overlapping-requires c κs = c .before .before .before .before .well-formed .ensures .1 (not-false _ (c .before .before .before .if1 .left))
 
 returns-2 : tie.Need-returns-2
 unfolding overlapping
 returns-2 c =
     let s = c .before .before .before .before .before .before .before in
-    rw (sym (c .before .before .before .before .before .is-formed .ensures .0) ∙ not-false _ (c .before .before .before .before .if1 .left)) (rw (toZ-ofZ (s .fits .start), toZ-ofZ (s .fits .end)) at (c .overlapping .ensures))
+    rw (sym (c .before .before .before .before .before .well-formed .ensures .0) ∙ not-false _ (c .before .before .before .before .if1 .left)) (rw (toZ-ofZ (s .fits .start), toZ-ofZ (s .fits .end)) at (c .overlapping .ensures))
 
 pub overlapping-spec : {M : Type 1} → statement M
-overlapping-spec = tie.close (tie.spec is-formed-requires returns overlapping-requires returns-2)
+overlapping-spec = tie.close (tie.spec well-formed-requires returns overlapping-requires returns-2)

@@ -10,12 +10,12 @@ use borrow.Author.Needs.{needs}
 use Rattle.map_ops.proofs.list.last_range_value.Statement.{statement}
 use Rattle.map_ops.proofs.list.last_range_value.Tie as tie
 
-is-formed-requires : tie.Need-is-formed-requires
-is-formed-requires c κs = search needs
+well-formed-requires : tie.Need-well-formed-requires
+well-formed-requires c κs = search needs
 
 returns : tie.Need-returns
 unfolding rangeAt
-returns c = rw (sym (c .before .is-formed .ensures .0) ∙ not-true _ (c .if1 .taken))
+returns c = rw (sym (c .before .well-formed .ensures .0) ∙ not-true _ (c .if1 .taken))
 
 last-place-requires : tie.Need-last-place-requires
 last-place-requires c κs = search needs
@@ -25,7 +25,7 @@ range-at-requires c κs =
     let s = c .before .before .before .before .before .before .before in
     let a = s .args in
     let m = stored (a .count .now) (a .starts .now) (a .ends .now) (a .values .now) in
-    let sound = c .before .before .before .before .before .is-formed .ensures .1 (not-false _ (c .before .before .before .before .if1 .left)) in
+    let sound = c .before .before .before .before .before .well-formed .ensures .1 (not-false _ (c .before .before .before .before .if1 .left)) in
     let h = sound-held (kindOf (a .kind)) m sound in
     (h, omega (arith, sound .ends-as), omega (arith, sound .values-as))
 
@@ -33,8 +33,8 @@ returns-2 : tie.Need-returns-2
 unfolding rangeAt
 returns-2 c =
     let s = c .before .before .before .before .before .before .before .before in
-    rw (sym (c .before .before .before .before .before .before .is-formed .ensures .0) ∙ not-false _ (c .before .before .before .before .before .if1 .left)) (rw (c .before .last-place .ensures) at (c .range-at .ensures))
+    rw (sym (c .before .before .before .before .before .before .well-formed .ensures .0) ∙ not-false _ (c .before .before .before .before .before .if1 .left)) (rw (c .before .last-place .ensures) at (c .range-at .ensures))
 
 pub last-range-value-spec : {M : Type 1} → statement M
 last-range-value-spec =
-    tie.close (tie.spec is-formed-requires returns last-place-requires range-at-requires returns-2)
+    tie.close (tie.spec well-formed-requires returns last-place-requires range-at-requires returns-2)

@@ -15,21 +15,21 @@ returns : tie.Need-returns
 unfolding setExtending extending plain
 returns c = rw (sym (c .before .plain .ensures) ∙ not-true _ (c .if1 .taken))
 
-is-formed-requires : tie.Need-is-formed-requires
-is-formed-requires c κs = search needs
+well-formed-requires : tie.Need-well-formed-requires
+well-formed-requires c κs = search needs
 
 returns-2 : tie.Need-returns-2
 unfolding setExtending extending plain
-returns-2 c = rw (sym (c .before .before .before .before .before .before .before .plain .ensures) ∙ not-false _ (c .before .before .before .before .before .before .if1 .left), sym (c .before .is-formed .ensures .0) ∙ not-true _ (c .if2 .taken))
+returns-2 c = rw (sym (c .before .before .before .before .before .before .before .plain .ensures) ∙ not-false _ (c .before .before .before .before .before .before .if1 .left), sym (c .before .well-formed .ensures .0) ∙ not-true _ (c .if2 .taken))
 
 extend-formed-requires : tie.Need-extend-formed-requires
-extend-formed-requires c κs = c .before .before .before .before .before .is-formed .ensures .1 (not-false _ (c .before .before .before .before .if2 .left))
+extend-formed-requires c κs = c .before .before .before .before .before .well-formed .ensures .1 (not-false _ (c .before .before .before .before .if2 .left))
 
 returns-3 : tie.Need-returns-3
 unfolding setExtending extending plain
-returns-3 c = rw (sym (c .before .before .before .before .before .before .before .before .before .before .before .before .plain .ensures) ∙ not-false _ (c .before .before .before .before .before .before .before .before .before .before .before .if1 .left), sym (c .before .before .before .before .before .before .is-formed .ensures .0) ∙ not-false _ (c .before .before .before .before .before .if2 .left)) (c .extend-formed .ensures)
+returns-3 c = rw (sym (c .before .before .before .before .before .before .before .before .before .before .before .before .plain .ensures) ∙ not-false _ (c .before .before .before .before .before .before .before .before .before .before .before .if1 .left), sym (c .before .before .before .before .before .before .well-formed .ensures .0) ∙ not-false _ (c .before .before .before .before .before .if2 .left)) (c .extend-formed .ensures)
 
 pub extend-spec : {M : Type 1} → statement M
 extend-spec =
     tie.close
-    (tie.spec plain-requires returns is-formed-requires returns-2 extend-formed-requires returns-3)
+    (tie.spec plain-requires returns well-formed-requires returns-2 extend-formed-requires returns-3)

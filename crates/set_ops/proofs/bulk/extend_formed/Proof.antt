@@ -7,13 +7,14 @@ use mathlib.Core.List.{[], _∷_}
 use lib.ListN.{length, drop, drop-of-length-le}
 use lib.Seq.{drop-cons}
 use mir.Facts.{toZ-ofZ}
-use borrow.Author.Needs.{sfits-of}
+use borrow.Author.Needs.{needs, sfits-of}
 use Rattle.key.specs.Range.{kindOf}
 use Rattle.key.proofs.Lawful.{lawful}
 use Rattle.outcomes.specs.Stored.{stored, Sound}
 use Rattle.outcomes.specs.Outcomes.{Entry, inserts}
 use Rattle.set_ops.specs.Answers.{pairs}
 use Rattle.set_ops.proofs.Pairs.{length-pairs, getD-pairs, pair-at}
+use Rattle.outcomes.proofs.Went.{numbered, not-done}
 use Rattle.outcomes.proofs.Bulk.{entry-refused, entry-done, entry-sound}
 use Rattle.set_ops.proofs.bulk.extend_formed.Statement.{statement}
 use Rattle.set_ops.proofs.bulk.extend_formed.Tie as tie
@@ -45,22 +46,28 @@ shared-slice-copy-out-insert-2 c = omega (arith, c .before .before .before .befo
 insert-requires : tie.Need-insert-requires Inv-loop μ-loop
 insert-requires c κs = c .before .before .before .before .before .before .before .loop .inv .1
 
+enum-known-went : tie.Need-enum-known-went Inv-loop μ-loop
+enum-known-went c = search needs
+
+enum-told : tie.Need-enum-told Inv-loop μ-loop
+enum-told c = search needs
+
 returns : tie.Need-returns Inv-loop μ-loop
 returns c =
-    let s = c .before .before .before .before .before .before .before .before .before .before .before in
-    let a = s .args in
-    let l = c .before .before .before .before .before .before .before .before .before .loop in
+    let t = c .before .before .before .before in
+    let a = t .before .before .before .before .before .before .before .before .before .args in
+    let l = t .before .before .before .before .before .before .before .loop in
     let ss = a .new-starts .now in
     let es = a .new-ends .now in
     let n = length-pairs ss es in
     let xs = pairs ss es in
     let m = stored (l .count) (l .starts) (l .ends) (l .values) in
-    let h : l .i < length xs = omega (arith, c .before .before .before .before .before .before .before .before .before .before .shorter .ensures) in
+    let h : l .i < length xs = omega (arith, t .before .before .before .before .before .before .before .before .shorter .ensures) in
     let x = pair-at ss es (l .i) in
     let rest = drop (suc (l .i)) xs in
     let cut : drop (l .i) xs ≡ x ∷ rest = drop-cons xs (l .i) _ h ∙ ap (λ (e : Entry). e ∷ rest) (getD-pairs ss es (l .i) h) in
-    let is = rw (toZ-ofZ (sfits-of (c .before .before .before .insert-arg5 .given)), toZ-ofZ (sfits-of (c .before .before .insert-arg6 .given))) at (c .before .insert .ensures) in
-    entry-refused (kindOf (a .kind)) m (l .i) x rest is (c .if1 .taken) ∙ sym (l .inv .2 ∙ ap (inserts (kindOf (a .kind)) m (l .i)) cut)
+    let went = rw (c .before .went .given .1) at (rw (toZ-ofZ (sfits-of (t .before .insert-arg5 .given)), toZ-ofZ (sfits-of (t .insert-arg6 .given))) at (c .before .before .before .insert .ensures)) in
+    entry-refused (kindOf (a .kind)) m (l .i) x rest (numbered went) (not-done went) ∙ sym (l .inv .2 ∙ ap (inserts (kindOf (a .kind)) m (l .i)) cut)
 
 add-i : tie.Need-add-i Inv-loop μ-loop
 add-i c = omega arith
@@ -70,22 +77,23 @@ loop-less c = omega arith
 
 loop-again : tie.Need-loop-again Inv-loop μ-loop
 loop-again c =
-    let s = c .before .before .before .before .before .before .before .before .before .before .before in
-    let a = s .args in
-    let l = c .before .before .before .before .before .before .before .before .before .loop in
+    let t = c .before .before .before in
+    let a = t .before .before .before .before .before .before .before .before .before .args in
+    let l = t .before .before .before .before .before .before .before .loop in
     let ss = a .new-starts .now in
     let es = a .new-ends .now in
     let n = length-pairs ss es in
     let xs = pairs ss es in
     let m = stored (l .count) (l .starts) (l .ends) (l .values) in
-    let h : l .i < length xs = omega (arith, c .before .before .before .before .before .before .before .before .before .before .shorter .ensures) in
+    let h : l .i < length xs = omega (arith, t .before .before .before .before .before .before .before .before .shorter .ensures) in
     let x = pair-at ss es (l .i) in
     let rest = drop (suc (l .i)) xs in
     let cut : drop (l .i) xs ≡ x ∷ rest = drop-cons xs (l .i) _ h ∙ ap (λ (e : Entry). e ∷ rest) (getD-pairs ss es (l .i) h) in
-    let is = rw (toZ-ofZ (sfits-of (c .before .before .before .insert-arg5 .given)), toZ-ofZ (sfits-of (c .before .before .insert-arg6 .given))) at (c .before .insert .ensures) in (
+    let went = rw (c .enum-told .given .1) at (rw (toZ-ofZ (sfits-of (t .before .insert-arg5 .given)), toZ-ofZ (sfits-of (t .insert-arg6 .given))) at (c .before .before .insert .ensures)) in
+    let is = numbered went in (
       omega arith,
-      entry-sound (kindOf (a .kind)) m (l .i) x rest is (lawful (a .kind)) (l .inv .1) (c .if1 .left) .0,
-      rw (add-one (l .i)) (l .inv .2 ∙ ap (inserts (kindOf (a .kind)) m (l .i)) cut ∙ sym (entry-done (kindOf (a .kind)) m (l .i) x rest is (c .if1 .left))),
+      entry-sound (kindOf (a .kind)) m (l .i) x rest is (lawful (a .kind)) (l .inv .1) refl .0,
+      rw (add-one (l .i)) (l .inv .2 ∙ ap (inserts (kindOf (a .kind)) m (l .i)) cut ∙ sym (entry-done (kindOf (a .kind)) m (l .i) x rest is refl)),
     )
 
 returns-2 : tie.Need-returns-2 Inv-loop μ-loop
@@ -115,7 +123,9 @@ extend-formed-spec =
     mul-insert-2
     shared-slice-copy-out-insert-2
     insert-requires
+    enum-known-went
     returns
+    enum-told
     add-i
     loop-less
     loop-again

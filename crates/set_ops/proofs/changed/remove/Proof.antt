@@ -1,5 +1,5 @@
 -- `set_ops::changed::remove` meets its contract.
-use mathlib.Core.Path.{sym, _∙_}
+use mathlib.Core.Path.{refl, sym, _∙_}
 use borrow.Author.Tests.{not-true, not-false}
 use mir.Facts.{toZ-ofZ}
 use Rattle.outcomes.specs.Sets.{plain}
@@ -13,7 +13,7 @@ plain-requires c κs = search needs
 
 returns : tie.Need-returns
 unfolding setRemoving plain
-returns c = rw (sym (c .before .plain .ensures) ∙ not-true _ (c .if1 .taken))
+returns c = rw (sym (c .before .plain .ensures) ∙ not-true _ (c .if1 .taken)) (record { outcome = refl; map-is = refl })
 
 remove-requires : tie.Need-remove-requires
 remove-requires c κs = search needs

@@ -6,19 +6,19 @@ use borrow.Author.Needs.{needs}
 use Rattle.map_ops.proofs.change.bulk.extend.Statement.{statement}
 use Rattle.map_ops.proofs.change.bulk.extend.Tie as tie
 
-is-formed-requires : tie.Need-is-formed-requires
-is-formed-requires c κs = search needs
+well-formed-requires : tie.Need-well-formed-requires
+well-formed-requires c κs = search needs
 
 returns : tie.Need-returns
 unfolding extending
-returns c = rw (sym (c .before .is-formed .ensures .0) ∙ not-true _ (c .if1 .taken))
+returns c = rw (sym (c .before .well-formed .ensures .0) ∙ not-true _ (c .if1 .taken))
 
 extend-formed-requires : tie.Need-extend-formed-requires
-extend-formed-requires c κs = c .before .before .before .before .before .is-formed .ensures .1 (not-false _ (c .before .before .before .before .if1 .left))
+extend-formed-requires c κs = c .before .before .before .before .before .well-formed .ensures .1 (not-false _ (c .before .before .before .before .if1 .left))
 
 returns-2 : tie.Need-returns-2
 unfolding extending
-returns-2 c = rw (sym (c .before .before .before .before .before .before .is-formed .ensures .0) ∙ not-false _ (c .before .before .before .before .before .if1 .left)) (c .extend-formed .ensures)
+returns-2 c = rw (sym (c .before .before .before .before .before .before .well-formed .ensures .0) ∙ not-false _ (c .before .before .before .before .before .if1 .left)) (c .extend-formed .ensures)
 
 pub extend-spec : {M : Type 1} → statement M
-extend-spec = tie.close (tie.spec is-formed-requires returns extend-formed-requires returns-2)
+extend-spec = tie.close (tie.spec well-formed-requires returns extend-formed-requires returns-2)

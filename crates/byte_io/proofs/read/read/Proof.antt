@@ -1,4 +1,4 @@
--- `byte_io::read::read_fields` meets its contract.
+-- `byte_io::read::read` meets its contract.
 use native.Mathlib.Omega.{arith}
 use mathlib.Core.Path.{sym, _∙_}
 use borrow.Author.Tests.{not-true, not-false}
@@ -7,8 +7,8 @@ use Rattle.outcomes.specs.Stored.{lent}
 use Rattle.byte_form.specs.Form.{countIn, reading}
 use Rattle.byte_form.proofs.Forms.{form-yes}
 use Rattle.byte_io.proofs.Reading.{form-sized, form-few, reads-form}
-use Rattle.byte_io.proofs.read.read_fields.Statement.{statement}
-use Rattle.byte_io.proofs.read.read_fields.Tie as tie
+use Rattle.byte_io.proofs.read.read.Statement.{statement}
+use Rattle.byte_io.proofs.read.read.Tie as tie
 
 is-form-requires : tie.Need-is-form-requires
 is-form-requires c κs = search needs
@@ -44,7 +44,7 @@ returns-2 c =
     reads-form (lent (a .count) (a .starts) (a .ends) (a .values)) (a .bytes .now) (c .before .before .before .before .before .before .before .before .u32-at .result) y (c .before .before .before .before .before .before .before .before .u32-at .ensures .0) (record { starts = omega arith; ends = omega arith; values = omega arith })
     (c .before .before .before .before .fill .ensures) (c .clear-rest .ensures)
 
-pub read-fields-spec : {M : Type 1} → statement M
-read-fields-spec =
+pub read-spec : {M : Type 1} → statement M
+read-spec =
     tie.close
     (tie.spec is-form-requires returns u32-at-requires fill-requires clear-rest-requires returns-2)
