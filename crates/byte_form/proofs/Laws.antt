@@ -1,13 +1,13 @@
--- Numbers and ranges as bytes, there and back.
+-- Numbers and keys as bytes, there and back.
 use Prim.Native.Nat.{ℕ, zero, suc, _+_, _-_, _*_, _/_, _%_, _^_, _≤_, _<_, zero-le}
 use native.Mathlib.Nat.{le-antisymm, le-of-suc-le-suc, div-lt-iff-lt-mul, zero-lt-suc, pow-suc, mod-add-div}
 use native.Mathlib.Omega.{arith}
 use mathlib.Core.Path.{_≡_, refl, sym, ap, subst, _∙_}
 use mathlib.Core.Bool.{true, false}
-use mathlib.Core.List.{List, [], _∷_, _++_, append-assoc}
+use mathlib.Core.List.{List, [], _∷_, _++_}
 use borrow.Author.Tests.{ltb-true, lt-ltb, le-ltb}
-use lib.ListN.{length, getD, take, drop, length-append, length-drop}
-use lib.Seq.{getD-at, take-suc, drop-cons, take-at, drop-at, take-add, getD-drop, length-take-le}
+use lib.ListN.{length, getD, take, drop}
+use lib.Seq.{drop-cons, getD-drop}
 use lib.IntN.{ℤ, pos, negsuc, natAbs, _+ℤ_}
 use lib.Dec.{T}
 use lib.Signed.{ltZ, nonNeg}
@@ -15,8 +15,7 @@ use mir.Syntax.{w64}
 use mir.Val.{SFits, toZ, ofZ}
 use mir.Facts.{toZ-ofZ, ofZ-toZ, fits-ofZ}
 use Rattle.key.specs.Rank.{place, bitRank, rank}
-use Rattle.outcomes.specs.Outcomes.{Entry}
-use Rattle.byte_form.specs.Bytes.{bytesOf, numberOf, keyBytes, keyOf, rangeBytes, rangeIn, Bytes}
+use Rattle.byte_form.specs.Bytes.{u32Size, i64Size, bytesOf, numberOf, keyBytes, keyOf, Bytes}
 
 -- NUMBERS
 
@@ -30,7 +29,8 @@ pub number-bytes : (k n : ℕ) → n < 256 ^ k → numberOf (bytesOf k n) ≡ n
 unfolding bytesOf numberOf
 number-bytes zero n h = sym (le-antisymm (le-of-suc-le-suc h) zero-le)
 number-bytes (suc k) n h =
-    let ih : numberOf (bytesOf k (n / 256)) ≡ n / 256 = number-bytes k (n / 256) (div-lt-iff-lt-mul (zero-lt-suc 255) .1 (subst (λ (x : ℕ). n < x) (pow-suc 256 k) h)) in
+    let below : n / 256 < 256 ^ k = div-lt-iff-lt-mul (zero-lt-suc 255) .1 (subst (λ (x : ℕ). n < x) (pow-suc 256 k) h) in
+    let ih : numberOf (bytesOf k (n / 256)) ≡ n / 256 = number-bytes k (n / 256) below in
     rw ih (mod-add-div n 256)
 
 -- bytes are those of their number
@@ -58,8 +58,8 @@ pub drop-step : (l : List ℕ) (at j : ℕ) → at < length l → at + 1 ≡ j �
 drop-step l at j h e = let s : suc at ≡ j = omega arith in drop-cons l at 0 h ∙ ap (λ (k : ℕ). getD l at 0 ∷ drop k l) s
 
 -- the number of the four bytes at a place, one by one
-pub four : (l : List ℕ) (at : ℕ) → at + 4 ≤ length l
-    → numberOf (take 4 (drop at l)) ≡ getD l at 0 + getD l (at + 1) 0 * 256 + getD l (at + 2) 0 * 65536 + getD l (at + 3) 0 * 16777216
+pub four : (l : List ℕ) (at : ℕ) → at + u32Size ≤ length l
+    → numberOf (take u32Size (drop at l)) ≡ getD l at 0 + getD l (at + 1) 0 * 256 + getD l (at + 2) 0 * 65536 + getD l (at + 3) 0 * 16777216
 unfolding numberOf
 four l at h =
     rw (
@@ -71,7 +71,8 @@ four l at h =
     (omega arith)
 
 -- the number of eight bytes is that of two fours
-pub eight : (l : List ℕ) (at : ℕ) → at + 8 ≤ length l → numberOf (take 8 (drop at l)) ≡ numberOf (take 4 (drop at l)) + numberOf (take 4 (drop (at + 4) l)) * 4294967296
+pub eight : (l : List ℕ) (at : ℕ) → at + i64Size ≤ length l
+    → numberOf (take i64Size (drop at l)) ≡ numberOf (take u32Size (drop at l)) + numberOf (take u32Size (drop (at + u32Size) l)) * 4294967296
 unfolding numberOf
 eight l at h =
     rw (
@@ -87,7 +88,7 @@ eight l at h =
     (omega arith)
 
 -- eight bytes are two fours
-pub eight-bytes : (n : ℕ) → bytesOf 8 n ≡ bytesOf 4 n ++ bytesOf 4 (n / 4294967296)
+pub eight-bytes : (n : ℕ) → bytesOf i64Size n ≡ bytesOf u32Size n ++ bytesOf u32Size (n / 4294967296)
 unfolding bytesOf
 eight-bytes n = let q : n / 4294967296 ≡ n / 256 / 256 / 256 / 256 = omega arith in rw q
 
@@ -103,7 +104,8 @@ bits-negative z f e = rw (toZ-ofZ f) (go z f (rw (toZ-ofZ f) at e))
     go (negsuc n) f e = omega (arith, f .sfits)
 
 -- and of another
-pub bits-natural : (z : ℤ) → SFits w64 z → ltZ (toZ w64 (ofZ w64 z)) (pos 0) ≡ false → T (nonNeg (toZ w64 (ofZ w64 z))) × (natAbs (toZ w64 (ofZ w64 z)) ≡ ofZ w64 z)
+pub bits-natural : (z : ℤ) → SFits w64 z → ltZ (toZ w64 (ofZ w64 z)) (pos 0) ≡ false
+    → T (nonNeg (toZ w64 (ofZ w64 z))) × (natAbs (toZ w64 (ofZ w64 z)) ≡ ofZ w64 z)
 bits-natural z f e = rw (toZ-ofZ f) (go z (rw (toZ-ofZ f) at e))
   where
     go : (z : ℤ) → ltZ z (pos 0) ≡ false → T (nonNeg z) × (natAbs z ≡ ofZ w64 z)
@@ -118,13 +120,13 @@ key-negative n h b =
 
 -- a key is that of its bytes
 pub key-back : {z : ℤ} → SFits w64 z → keyOf (keyBytes z) ≡ z
-key-back {z} f = rw (number-bytes 8 (ofZ w64 z) (fits-ofZ f .fits)) (toZ-ofZ f)
+key-back {z} f = rw (number-bytes i64Size (ofZ w64 z) (fits-ofZ f .fits)) (toZ-ofZ f)
 
--- eight bytes are those of their key
-pub bytes-back : (bs : List ℕ) → Bytes bs → length bs ≡ 8 → keyBytes (keyOf bs) ≡ bs
-bytes-back bs b e =
+-- its bytes are those of their key
+pub key-again : (bs : List ℕ) → Bytes bs → length bs ≡ i64Size → keyBytes (keyOf bs) ≡ bs
+key-again bs b e =
     let l : numberOf bs < 2 ^ 64 = rw e at (number-below bs b) in
-    let n : bytesOf 8 (numberOf bs) ≡ bs = rw e at (bytes-number bs b) in
+    let n : bytesOf i64Size (numberOf bs) ≡ bs = rw e at (bytes-number bs b) in
     rw (ofZ-toZ {w = w64} {n = numberOf bs} (record { fits = l })) n
 
 -- a part of bytes is bytes
@@ -136,31 +138,3 @@ bytes-take zero bs b k = zero-lt-suc 255
 bytes-take (suc n) [] b k = zero-lt-suc 255
 bytes-take (suc n) (x ∷ bs) b zero = b 0
 bytes-take (suc n) (x ∷ bs) b (suc k) = bytes-take n bs (λ j. b (suc j)) k
-
--- RANGES
-
-pub length-range : (x : Entry) → length (rangeBytes x) ≡ 17
-unfolding rangeBytes
-length-range x = rw (length-append, length-append, length-bytes 8 (ofZ w64 (x .start)), length-bytes 8 (ofZ w64 (x .end)))
-
--- a range is that of its bytes, whatever follows them
-pub range-back : (x : Entry) (rest : List ℕ) → SFits w64 (x .start) → SFits w64 (x .end) → rangeIn (rangeBytes x ++ rest) ≡ x
-unfolding rangeBytes rangeIn
-range-back x rest f g =
-    let s : List ℕ = keyBytes (x .start) in
-    let e : List ℕ = keyBytes (x .end) in
-    let a : s ++ (e ++ (x .value ∷ [])) ++ rest ≡ s ++ (e ++ (x .value ∷ rest)) = append-assoc s (e ++ (x .value ∷ [])) rest ∙ ap (λ (l : List ℕ). s ++ l) (append-assoc e (x .value ∷ []) rest) in
-    let ls : length s ≡ 8 = length-bytes 8 (ofZ w64 (x .start)) in
-    let le : length e ≡ 8 = length-bytes 8 (ofZ w64 (x .end)) in
-    let d : drop 8 (s ++ (e ++ (x .value ∷ rest))) ≡ e ++ (x .value ∷ rest) = drop-at s (e ++ (x .value ∷ rest)) 8 ls in
-    let v : getD (s ++ (e ++ (x .value ∷ rest))) 16 0 ≡ x .value = rw (← append-assoc s e (x .value ∷ rest)) (getD-at (s ++ e) (x .value) rest 0 16 (length-append s e ∙ rw (ls, le))) in
-    rw (a, d, take-at s (e ++ (x .value ∷ rest)) 8 ls, take-at e (x .value ∷ rest) 8 le, v, key-back f, key-back g)
-
--- seventeen bytes are those of their range
-pub range-bytes : (bs : List ℕ) → Bytes bs → 17 ≤ length bs → rangeBytes (rangeIn bs) ≡ take 17 bs
-unfolding rangeBytes rangeIn
-range-bytes bs b h =
-    let lt : length (take 8 bs) ≡ 8 = length-take-le 8 bs (omega arith) in
-    let ld : length (take 8 (drop 8 bs)) ≡ 8 = length-take-le 8 (drop 8 bs) (omega (arith, length-drop 8 bs)) in
-    rw (bytes-back (take 8 bs) (bytes-take 8 bs b) lt, bytes-back (take 8 (drop 8 bs)) (bytes-take 8 (drop 8 bs) (bytes-drop 8 bs b)) ld)
-    (sym (take-add 8 9 bs ∙ ap (λ (l : List ℕ). take 8 bs ++ l) (take-suc (drop 8 bs) 8 0 (omega (arith, length-drop 8 bs)) ∙ rw (getD-drop 8 bs 8 0))))

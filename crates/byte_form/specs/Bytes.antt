@@ -7,6 +7,14 @@ use mir.Syntax.{w64}
 use mir.Val.{toZ, ofZ}
 use Rattle.outcomes.specs.Outcomes.{Entry}
 
+-- how many bytes a u32 is
+abbrev pub u32Size : ℕ
+u32Size = 4
+
+-- how many bytes an i64 is
+abbrev pub i64Size : ℕ
+i64Size = 8
+
 -- a number as k bytes, the lowest first
 unfoldable pub bytesOf : ℕ → ℕ → List ℕ
 bytesOf zero n = []
@@ -17,11 +25,11 @@ unfoldable pub numberOf : List ℕ → ℕ
 numberOf [] = 0
 numberOf (b ∷ bs) = b + 256 * numberOf bs
 
--- an i64 as 8 bytes: those of the 64 bits that hold it
+-- an i64 as bytes: those of the 64 bits that hold it
 abbrev pub keyBytes : ℤ → List ℕ
-keyBytes z = bytesOf 8 (ofZ w64 z)
+keyBytes z = bytesOf i64Size (ofZ w64 z)
 
--- the i64 of 8 bytes
+-- the i64 of its bytes
 abbrev pub keyOf : List ℕ → ℤ
 keyOf bs = toZ w64 (numberOf bs)
 
@@ -29,9 +37,9 @@ keyOf bs = toZ w64 (numberOf bs)
 unfoldable pub rangeBytes : Entry → List ℕ
 rangeBytes x = keyBytes (x .start) ++ (keyBytes (x .end) ++ (x .value ∷ []))
 
--- the range of the first 17 bytes
+-- the range that stands first in some bytes
 unfoldable pub rangeIn : List ℕ → Entry
-rangeIn bs = record { start = keyOf (take 8 bs); end = keyOf (take 8 (drop 8 bs)); value = getD bs 16 0 }
+rangeIn bs = record { start = keyOf (take i64Size bs); end = keyOf (take i64Size (drop i64Size bs)); value = getD bs (2 * i64Size) 0 }
 
 -- each is a byte, as all that a slice of u8 holds
 abbrev pub Bytes : List ℕ → Type 0

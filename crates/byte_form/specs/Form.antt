@@ -1,4 +1,5 @@
--- Document 01, Byte form: 52 4D 30 31, count as u32, then per range start i64, end i64, value u8. All little-endian. Half-open maps only.
+-- Document 01, Byte form: the mark, count as u32, then range after range; what the writer and the reader answer and leave. All of it is over any layout:
+-- document 01's is `rm01`.
 use Prim.Native.Nat.{ℕ, zero, suc, _<_}
 use mathlib.Core.Path.{_≡_}
 use mathlib.Core.Bool.{Bool, true, false, _&&_, cond}
@@ -6,61 +7,18 @@ use mathlib.Core.List.{List, [], _∷_, _++_, map}
 use lib.Dec.{eqb, ltb}
 use lib.ListN.{length, getD, take, drop}
 use lib.IntN.{pos}
-use Rattle.key.specs.Range.{halfOpen}
 use Rattle.outcomes.specs.Stored.{places, Stored, filled, AllFit}
 use Rattle.outcomes.specs.Outcomes.{Entry, entries, formed, Edited, leaving}
 use Rattle.outcomes.specs.Numbers.{countOf}
 use Rattle.outcomes.specs.declared.Count.{Count}
 use Rattle.outcomes.specs.declared.Counted.{Counted}
 use Rattle.outcomes.specs.declared.Counted.the-variants as Counted
-use Rattle.byte_form.specs.Bytes.{bytesOf, numberOf, rangeBytes, rangeIn}
-
--- 52 4D 30 31
-abbrev pub mark : List ℕ
-mark = 0x52 ∷ 0x4D ∷ 0x30 ∷ 0x31 ∷ []
+use Rattle.byte_form.specs.Bytes.{u32Size, numberOf}
+use Rattle.byte_form.specs.Layout.{Layout, headOf, headSize}
 
 -- the ranges that a map holds, place by place: those of its first `count` places
 unfoldable pub entriesOf : Stored → List Entry
 entriesOf m = take (m .count) (entries (m .starts) (m .ends) (m .values))
-
--- range after range
-unfoldable pub rangesBytes : List Entry → List ℕ
-rangesBytes [] = []
-rangesBytes (x ∷ xs) = rangeBytes x ++ rangesBytes xs
-
--- THE BYTE FORM of a map
-unfoldable pub formOf : Stored → List ℕ
-formOf m = mark ++ (bytesOf 4 (m .count) ++ rangesBytes (entriesOf m))
-
--- what the writer answers, the number of bytes if it is done, and what the lent output holds then
-pub record Output : Type 0 where
-  pub answer : Counted
-  pub out : List ℕ
-
-abbrev pub output : Counted → List ℕ → Output
-output r out = record { answer = r; out = out }
-
--- bytes into the first places of a lent output, if it is long enough
-unfoldable pub put : List ℕ → List ℕ → Output
-put bs out = cond (ltb (length out) (length bs)) (output (Counted.Refused 3) out) (output (Counted.Count (length bs)) (bs ++ drop (length bs) out))
-
--- THE WRITER
-unfoldable pub writing : Stored → List ℕ → Output
-writing m out = cond (formed halfOpen m) (put (formOf m) out) (output (Counted.Refused 4) out)
-
--- what C and Rust see of it: the number and the count, and what the lent output holds
-pub record Wrote (r : Count) (out : List ℕ) (w : Output) : Type 0 where
-  pub number : r ≡ countOf (w .answer)
-  pub out-is : out ≡ w .out
-
--- the first n ranges of some bytes
-unfoldable pub rangesIn : ℕ → List ℕ → List Entry
-rangesIn zero bs = []
-rangesIn (suc n) bs = rangeIn bs ∷ rangesIn n (drop 17 bs)
-
--- the count that bytes tell
-unfoldable pub countIn : List ℕ → ℕ
-countIn bs = numberOf (take 4 (drop 4 bs))
 
 -- the map of some ranges: unused places hold start 0, end 0, value 0
 unfoldable pub mapOf : List Entry → Stored
@@ -71,9 +29,22 @@ mapOf xs = record {
   values = filled places 0 (map (λ (x : Entry). x .value) xs);
 }
 
--- the only map that bytes can be the form of: that of the ranges that stand in them
-unfoldable pub mapIn : List ℕ → Stored
-mapIn bs = mapOf (rangesIn (countIn bs) (drop 8 bs))
+-- what the writer answers, the number of bytes if it is done, and what the lent output holds then
+pub record Output : Type 0 where
+  pub answer : Counted
+  pub out : List ℕ
+
+abbrev pub output : Counted → List ℕ → Output
+output r out = record { answer = r; out = out }
+
+-- what C and Rust see of it: the number and the count, and what the lent output holds
+pub record Wrote (r : Count) (out : List ℕ) (w : Output) : Type 0 where
+  pub number : r ≡ countOf (w .answer)
+  pub out-is : out ≡ w .out
+
+-- bytes into the first places of a lent output, if it is long enough
+unfoldable pub put : List ℕ → List ℕ → Output
+put bs out = cond (ltb (length out) (length bs)) (output (Counted.Refused 3) out) (output (Counted.Count (length bs)) (bs ++ drop (length bs) out))
 
 -- are two lists of bytes the same
 unfoldable pub same : List ℕ → List ℕ → Bool
@@ -82,13 +53,40 @@ same [] (c ∷ cs) = false
 same (b ∷ bs) [] = false
 same (b ∷ bs) (c ∷ cs) = eqb b c && same bs cs
 
--- are bytes the form of a well-formed map
-unfoldable pub isForm : List ℕ → Bool
-isForm bs = formed halfOpen (mapIn bs) && same bs (formOf (mapIn bs))
+module _ (layout : Layout) where
+  -- range after range
+  unfoldable pub rangesBytes : List Entry → List ℕ
+  rangesBytes [] = []
+  rangesBytes (x ∷ xs) = layout .written x ++ rangesBytes xs
 
--- THE READER. It overwrites its map, so it does not check it
-unfoldable pub reading : Stored → List ℕ → Edited
-reading m bs = cond (isForm bs) (leaving 0 (mapIn bs)) (leaving 6 m)
+  -- THE BYTE FORM of a map: the mark, the count, and its ranges
+  unfoldable pub formOf : Stored → List ℕ
+  formOf m = headOf layout (m .count) ++ rangesBytes (entriesOf m)
+
+  -- THE WRITER
+  unfoldable pub writing : Stored → List ℕ → Output
+  writing m out = cond (formed (layout .kind) m) (put (formOf m) out) (output (Counted.Refused 4) out)
+
+  -- the first n ranges of some bytes
+  unfoldable pub rangesIn : ℕ → List ℕ → List Entry
+  rangesIn zero bs = []
+  rangesIn (suc n) bs = layout .read bs ∷ rangesIn n (drop (layout .size) bs)
+
+  -- the count that bytes tell: it stands behind the mark
+  unfoldable pub countIn : List ℕ → ℕ
+  countIn bs = numberOf (take u32Size (drop (length (layout .mark)) bs))
+
+  -- the only map that bytes can be the form of: that of the ranges that stand in them
+  unfoldable pub mapIn : List ℕ → Stored
+  mapIn bs = mapOf (rangesIn (countIn bs) (drop (headSize layout) bs))
+
+  -- are bytes the form of a well-formed map
+  unfoldable pub isForm : List ℕ → Bool
+  isForm bs = formed (layout .kind) (mapIn bs) && same bs (formOf (mapIn bs))
+
+  -- THE READER. It overwrites its map, so it does not check it
+  unfoldable pub reading : Stored → List ℕ → Edited
+  reading m bs = cond (isForm bs) (leaving 0 (mapIn bs)) (leaving 6 m)
 
 -- a map as memory holds it: all places, keys that are i64 and values that are u8
 pub record InMemory (m : Stored) : Type 0 where

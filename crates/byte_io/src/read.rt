@@ -1,60 +1,49 @@
-// The reader of the byte form. The bytes are checked first, where they stand; nothing is written before the answer is known.
+// The reader of document 01's byte form. The bytes are checked first, where they stand; nothing is written before the answer is known.
+use byte_form::rm01::HEAD_SIZE;
+use byte_form::rm01::RANGE_SIZE;
+use byte_form::rm01::count_in;
+use byte_form::rm01::end_at;
+use byte_form::rm01::form_size;
+use byte_form::rm01::has_mark;
+use byte_form::rm01::start_at;
+use byte_form::rm01::value_at;
 use outcomes::DONE;
 use outcomes::PLACES;
 ghost use mathlib.Core.Path.{_≡_};
-ghost use Prim.Native.Nat.{_≤_, _<_};
-ghost use lib.ListN.{length, take};
+ghost use Prim.Native.Nat.{_<_};
 ghost use Rattle.key.specs.InnerDecides.{Decides};
 ghost use Rattle.key.specs.Range.{halfOpen};
-ghost use Rattle.outcomes.specs.Stored.{places, lent};
+ghost use Rattle.outcomes.specs.Stored.{lent};
 ghost use Rattle.outcomes.specs.Outcomes.{leaving};
 ghost use Rattle.store.specs.InnerCheck.{Step, Steps};
-ghost use Rattle.byte_form.specs.Form.{mark, isForm, reading};
-ghost use Rattle.byte_io.specs.InnerRead.{Sized, Columns, Filled, Cleared, told};
+ghost use Rattle.byte_form.specs.Layout.{rm01};
+ghost use Rattle.byte_form.specs.Form.{isForm, reading};
+ghost use Rattle.byte_io.specs.InnerRead.{Sized, Filled, Cleared, told};
 
 // The number of document 01's table for bytes that are not a written map.
 pub const NOT_WRITTEN: u8 = 6;
 
-// Whether the mark stands first.
-fn has_mark(bytes: &[u8]) -> bool
-    requires { ⌜ 4 ≤ length (now bytes) ⌝ }
-    ensures { λ r. ⌜ Decides r (take 4 (now (bytes .entry)) ≡ mark) ⌝ }
-{
-    if bytes[0] != 0x52 {
-        return false;
-    }
-    if bytes[1] != 0x4D {
-        return false;
-    }
-    if bytes[2] != 0x30 {
-        return false;
-    }
-    if bytes[3] != 0x31 {
-        return false;
-    }
-    true
-}
-
 // Whether the range at `k` is not empty, and the next one may follow it.
 fn step(bytes: &[u8], count: usize, k: usize) -> bool
-    requires { ⌜ (k < count) × Sized count (now bytes) ⌝ }
-    ensures { λ r. ⌜ Decides r (Step halfOpen (told count (now (bytes .entry))) k) ⌝ }
+    requires { ⌜ (k < count) × Sized rm01 count (now bytes) ⌝ }
+    ensures { λ r. ⌜ Decides r (Step halfOpen (told rm01 count (now (bytes .entry))) k) ⌝ }
 {
-    let at = 8 + 17 * k;
-    let start = byte_form::key_at(bytes, at);
-    let end = byte_form::key_at(bytes, at + 8);
+    let at = form_size(k);
+    let start = start_at(bytes, at);
+    let end = end_at(bytes, at);
     if start >= end {
         return false;
     }
     if k + 1 >= count {
         return true;
     }
-    let next = byte_form::key_at(bytes, at + 17);
+    let after = at + RANGE_SIZE;
+    let next = start_at(bytes, after);
     if next < end {
         return false;
     }
-    let value = bytes[at + 16];
-    let other = bytes[at + 33];
+    let value = value_at(bytes, at);
+    let other = value_at(bytes, after);
     if next == end && value == other {
         return false;
     }
@@ -63,8 +52,8 @@ fn step(bytes: &[u8], count: usize, k: usize) -> bool
 
 // Whether all ranges are so.
 fn tidy(bytes: &[u8], count: usize) -> bool
-    requires { ⌜ Sized count (now bytes) ⌝ }
-    ensures { λ r. ⌜ Decides r (Steps halfOpen (told count (now (bytes .entry)))) ⌝ }
+    requires { ⌜ Sized rm01 count (now bytes) ⌝ }
+    ensures { λ r. ⌜ Decides r (Steps halfOpen (told rm01 count (now (bytes .entry)))) ⌝ }
 {
     let mut k = 0;
     while k < count {
@@ -78,36 +67,43 @@ fn tidy(bytes: &[u8], count: usize) -> bool
 
 // Whether bytes are the form of a well-formed map.
 fn is_form(bytes: &[u8]) -> bool
-    ensures { λ r. ⌜ r ≡ isForm (now (bytes .entry)) ⌝ }
+    ensures { λ r. ⌜ r ≡ isForm rm01 (now (bytes .entry)) ⌝ }
 {
-    if bytes.len() < 8 {
+    if bytes.len() < HEAD_SIZE {
         return false;
     }
     if !has_mark(bytes) {
         return false;
     }
-    let n = byte_form::u32_at(bytes, 4);
+    let n = count_in(bytes);
     if n > PLACES as u64 {
         return false;
     }
     let count = n as usize;
-    if bytes.len() != 8 + 17 * count {
+    if bytes.len() != form_size(count) {
         return false;
     }
     tidy(bytes, count)
 }
 
 // The ranges into the first places.
-fn fill(starts: &mut [i64], ends: &mut [i64], values: &mut [u8], bytes: &[u8], count: usize)
-    requires { ⌜ Columns (now starts) (now ends) (now values) × Sized count (now bytes) ⌝ }
-    ensures { λ _. ⌜ Filled count (now (bytes .entry)) (now (starts .entry)) (now (ends .entry)) (now (values .entry)) (now (starts .exit)) (now (ends .exit)) (now (values .exit)) ⌝ }
+fn fill(
+    starts: &mut [i64; PLACES],
+    ends: &mut [i64; PLACES],
+    values: &mut [u8; PLACES],
+    bytes: &[u8],
+    count: usize,
+)
+    requires { ⌜ Sized rm01 count (now bytes) ⌝ }
+    ensures { λ _. ⌜ Filled rm01 count (now (bytes .entry)) (now (starts .entry)) (now (ends .entry)) (now (values .entry))
+        (now (starts .exit)) (now (ends .exit)) (now (values .exit)) ⌝ }
 {
     let mut i = 0;
     while i < count {
-        let at = 8 + 17 * i;
-        starts[i] = byte_form::key_at(bytes, at);
-        ends[i] = byte_form::key_at(bytes, at + 8);
-        values[i] = bytes[at + 16];
+        let at = form_size(i);
+        starts[i] = start_at(bytes, at);
+        ends[i] = end_at(bytes, at);
+        values[i] = value_at(bytes, at);
         i += 1;
     }
 }
@@ -119,7 +115,8 @@ fn clear_rest(
     values: &mut [u8; PLACES],
     count: usize,
 )
-    ensures { λ _. ⌜ Cleared count (now (starts .entry)) (now (ends .entry)) (now (values .entry)) (now (starts .exit)) (now (ends .exit)) (now (values .exit)) ⌝ }
+    ensures { λ _. ⌜ Cleared count (now (starts .entry)) (now (ends .entry)) (now (values .entry))
+        (now (starts .exit)) (now (ends .exit)) (now (values .exit)) ⌝ }
 {
     splice::clear_i64(starts, count, PLACES);
     splice::clear_i64(ends, count, PLACES);
@@ -134,12 +131,13 @@ pub fn read(
     values: &mut [u8; PLACES],
     bytes: &[u8],
 ) -> u8
-    ensures { λ r. ⌜ leaving r (lent (count .exit) (starts .exit) (ends .exit) (values .exit)) ≡ reading (lent (count .entry) (starts .entry) (ends .entry) (values .entry)) (now (bytes .entry)) ⌝ }
+    ensures { λ r. ⌜ leaving r (lent (count .exit) (starts .exit) (ends .exit) (values .exit))
+        ≡ reading rm01 (lent (count .entry) (starts .entry) (ends .entry) (values .entry)) (now (bytes .entry)) ⌝ }
 {
     if !is_form(bytes) {
         return NOT_WRITTEN;
     }
-    let n = byte_form::u32_at(bytes, 4) as usize;
+    let n = count_in(bytes) as usize;
     fill(starts, ends, values, bytes, n);
     clear_rest(starts, ends, values, n);
     *count = n;

@@ -1,4 +1,8 @@
-// The writer of the byte form. Nothing is written before it is known that the map is well formed and that the lent output is long enough.
+// The writer of document 01's byte form. Nothing is written before it is known that the map is well formed and that the lent output is long enough.
+use byte_form::rm01::RANGE_SIZE;
+use byte_form::rm01::form_size;
+use byte_form::rm01::put_head;
+use byte_form::rm01::put_range;
 use key::RangeKind;
 use outcomes::Count;
 use outcomes::Counted;
@@ -8,38 +12,24 @@ use outcomes::TOO_SHORT;
 use outcomes::count_of;
 use store::check::well_formed;
 ghost use mathlib.Core.Path.{_≡_};
-ghost use mathlib.Core.List.{_++_};
 ghost use Prim.Native.Nat.{_≤_};
-ghost use lib.ListN.{length};
 ghost use lib.Seq.{sets};
 ghost use Rattle.key.specs.Range.{halfOpen};
 ghost use Rattle.outcomes.specs.Stored.{places, stored, lent, Sound};
-ghost use Rattle.outcomes.specs.Outcomes.{formed};
-ghost use Rattle.byte_form.specs.Bytes.{bytesOf};
-ghost use Rattle.byte_form.specs.Form.{mark, entriesOf, rangesBytes, formOf, output, put, writing, Wrote};
+ghost use Rattle.byte_form.specs.Layout.{rm01, headSize};
+ghost use Rattle.byte_form.specs.Form.{entriesOf, rangesBytes, formOf, output, put, writing, Wrote};
 ghost use Rattle.byte_io.specs.InnerWrite.{Room};
 
-// The mark and the count.
-fn write_head(out: &mut [u8], count: usize)
-    requires { ⌜ 8 ≤ length (now out) ⌝ }
-    ensures { λ _. ⌜ now (out .exit) ≡ sets (now (out .entry)) 0 (mark ++ bytesOf 4 count) ⌝ }
-{
-    out[0] = 0x52;
-    out[1] = 0x4D;
-    out[2] = 0x30;
-    out[3] = 0x31;
-    byte_form::put_u32(&mut out[4..], count as u64);
-}
-
-// Range after range, each into its own 17 bytes.
+// Range after range, each into its own bytes.
 fn write_ranges(starts: &[i64], ends: &[i64], values: &[u8], count: usize, out: &mut [u8])
-    requires { ⌜ Room count (now starts) (now ends) (now values) (now out) ⌝ }
-    ensures { λ _. ⌜ now (out .exit) ≡ sets (now (out .entry)) 8 (rangesBytes (entriesOf (stored count (now (starts .entry)) (now (ends .entry)) (now (values .entry))))) ⌝ }
+    requires { ⌜ Room rm01 count (now starts) (now ends) (now values) (now out) ⌝ }
+    ensures { λ _. ⌜ now (out .exit) ≡ sets (now (out .entry)) (headSize rm01)
+        (rangesBytes rm01 (entriesOf (stored count (now (starts .entry)) (now (ends .entry)) (now (values .entry))))) ⌝ }
 {
     let mut i = 0;
     while i < count {
-        let at = 8 + 17 * i;
-        byte_form::put_range(&mut out[at..at + 17], starts[i], ends[i], values[i]);
+        let at = form_size(i);
+        put_range(&mut out[at..at + RANGE_SIZE], starts[i], ends[i], values[i]);
         i += 1;
     }
 }
@@ -53,13 +43,14 @@ fn write_formed(
     out: &mut [u8],
 ) -> Counted
     requires { ⌜ Sound halfOpen (stored count (now starts) (now ends) (now values)) × (count ≤ places) ⌝ }
-    ensures { λ r. ⌜ output r (now (out .exit)) ≡ put (formOf (stored count (now (starts .entry)) (now (ends .entry)) (now (values .entry)))) (now (out .entry)) ⌝ }
+    ensures { λ r. ⌜ output r (now (out .exit))
+        ≡ put (formOf rm01 (stored count (now (starts .entry)) (now (ends .entry)) (now (values .entry)))) (now (out .entry)) ⌝ }
 {
-    let n = 8 + 17 * count;
+    let n = form_size(count);
     if out.len() < n {
         return Counted::Refused(TOO_SHORT);
     }
-    write_head(out, count);
+    put_head(out, count);
     write_ranges(starts, ends, values, count, out);
     Counted::Count(n)
 }
@@ -72,7 +63,8 @@ pub fn write(
     values: &[u8; PLACES],
     out: &mut [u8],
 ) -> Counted
-    ensures { λ r. ⌜ output r (now (out .exit)) ≡ writing (lent (count .entry) (starts .entry) (ends .entry) (values .entry)) (now (out .entry)) ⌝ }
+    ensures { λ r. ⌜ output r (now (out .exit))
+        ≡ writing rm01 (lent (count .entry) (starts .entry) (ends .entry) (values .entry)) (now (out .entry)) ⌝ }
 {
     if !well_formed(RangeKind::HalfOpen, *count, starts, ends, values) {
         return Counted::Refused(NOT_FORMED);
@@ -88,7 +80,8 @@ pub fn write_number(
     values: &[u8; PLACES],
     out: &mut [u8],
 ) -> Count
-    ensures { λ r. ⌜ Wrote r (now (out .exit)) (writing (lent (count .entry) (starts .entry) (ends .entry) (values .entry)) (now (out .entry))) ⌝ }
+    ensures { λ r. ⌜ Wrote r (now (out .exit))
+        (writing rm01 (lent (count .entry) (starts .entry) (ends .entry) (values .entry)) (now (out .entry))) ⌝ }
 {
     count_of(write(count, starts, ends, values, out))
 }

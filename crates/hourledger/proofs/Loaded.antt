@@ -17,8 +17,10 @@ use Rattle.outcomes.specs.declared.Counted.{Counted}
 use Rattle.outcomes.specs.declared.Counted.the-variants as Counted
 use Rattle.outcomes.proofs.Formed as well
 use Rattle.byte_form.specs.Bytes.{Bytes}
+use Rattle.byte_form.specs.Layout.{rm01}
 use Rattle.byte_form.specs.Form.{formOf, Output, output, put, reading}
 use Rattle.byte_form.specs.Form as form
+use Rattle.byte_form.proofs.Lawful.{rm01-lawful}
 use Rattle.byte_form.proofs.Forms.{read-write}
 use Rattle.range_list.specs.InnerLists.{wrote}
 use Rattle.query_text.specs.Reader.{Read, got, bad, queryOf}
@@ -26,9 +28,9 @@ use Rattle.query.specs.Answers.{byQuery, resultOf, queried, querying}
 use Rattle.hourledger.specs.InnerInput.{Loaded}
 
 -- a form that was read
-pub read-loaded : (old : Stored) {m : Stored} (bs : List ℕ) {r : ℕ} → Bytes bs → leaving r m ≡ reading old bs → r ≡ 0 → Loaded m
+pub read-loaded : (old : Stored) {m : Stored} (bs : List ℕ) {r : ℕ} → Bytes bs → leaving r m ≡ reading rm01 old bs → r ≡ 0 → Loaded m
 read-loaded old {m} bs bytes is e =
-    let r = read-write old bs bytes (sym is ∙ ap (λ (n : ℕ). leaving n m) e) in
+    let r = read-write rm01-lawful old bs bytes (sym is ∙ ap (λ (n : ℕ). leaving n m) e) in
     let k = r .memory in
     record {
       sound = record {
@@ -42,21 +44,21 @@ read-loaded old {m} bs bytes is e =
     }
 
 -- a form that is written has room
-pub written-within : (m : Stored) (out : List ℕ) {out₁ : List ℕ} {r : Counted} {n : ℕ} → output r out₁ ≡ form.writing m out → r ≡ Counted.Count n
+pub written-within : (m : Stored) (out : List ℕ) {out₁ : List ℕ} {r : Counted} {n : ℕ} → output r out₁ ≡ form.writing rm01 m out → r ≡ Counted.Count n
     → n ≤ length out
 unfolding form.writing put
 written-within m out {out₁} {r} {n} is e =
-    go (formed halfOpen m) (ltb (length out) (length (formOf m))) refl (sym (ap (λ (o : Output). o .answer) is) ∙ e)
+    go (formed halfOpen m) (ltb (length out) (length (formOf rm01 m))) refl (sym (ap (λ (o : Output). o .answer) is) ∙ e)
   where
-    go : (t u : Bool) → ltb (length out) (length (formOf m)) ≡ u
+    go : (t u : Bool) → ltb (length out) (length (formOf rm01 m)) ≡ u
         → cond t
-        (cond u (output (Counted.Refused 3) out) (output (Counted.Count (length (formOf m))) (formOf m ++ drop (length (formOf m)) out)))
+        (cond u (output (Counted.Refused 3) out) (output (Counted.Count (length (formOf rm01 m))) (formOf rm01 m ++ drop (length (formOf rm01 m)) out)))
         (output (Counted.Refused 4) out)
         .answer
         ≡ Counted.Count n
         → n ≤ length out
     go true true h q = absurd (let z : _≡_ {A = ℕ} 0 1 = cc in omega arith)
-    go true false h q = let z : n ≡ length (formOf m) = cc in omega (arith, ltb-false (length out) (length (formOf m)) h)
+    go true false h q = let z : n ≡ length (formOf rm01 m) = cc in omega (arith, ltb-false (length out) (length (formOf rm01 m)) h)
     go false u h q = absurd (let z : _≡_ {A = ℕ} 0 1 = cc in omega arith)
 
 -- the ranges of a query that were written have room

@@ -1,16 +1,18 @@
 // A byte form: read from a descriptor, and loaded into a map.
 use crate::input::Input;
 use crate::input::read_all;
+use byte_form::rm01::LONGEST;
 use outcomes::PLACES;
 ghost use mathlib.Core.Path.{_≡_};
 ghost use Rattle.io.specs.Counts.{Counts};
 ghost use Rattle.outcomes.specs.Stored.{lent};
 ghost use Rattle.outcomes.specs.Outcomes.{leaving};
+ghost use Rattle.byte_form.specs.Layout.{rm01};
 ghost use Rattle.byte_form.specs.Form.{reading};
 ghost use Rattle.hourledger.specs.InnerInput.{Loaded};
 
 // The longest form, and a byte more.
-pub const ROOM: usize = 8 + 17 * PLACES + 1;
+pub const ROOM: usize = LONGEST + 1;
 
 // Reads a form. What is too long, or is not read to its end, is taken as bytes that are longer than any form.
 pub fn read_form(fd: i32, bytes: &mut [u8; ROOM]) -> usize
@@ -33,7 +35,7 @@ pub fn load(
     values: &mut [u8; PLACES],
 ) -> u8
     ensures { λ r. ⌜ leaving r (lent (count .exit) (starts .exit) (ends .exit) (values .exit))
-        ≡ reading (lent (count .entry) (starts .entry) (ends .entry) (values .entry)) (now (form .entry)) ⌝ }
+        ≡ reading rm01 (lent (count .entry) (starts .entry) (ends .entry) (values .entry)) (now (form .entry)) ⌝ }
     ensures { λ r. ⌜ (r ≡ 0 → Loaded (lent (count .exit) (starts .exit) (ends .exit) (values .exit))) ⌝ }
 {
     byte_io::read::read(count, starts, ends, values, form)

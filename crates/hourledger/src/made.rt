@@ -2,6 +2,7 @@
 use crate::input::Input;
 use crate::input::read_all;
 use crate::output::print;
+use byte_form::rm01::LONGEST;
 use edit_lines::Made;
 use edit_lines::said::TOLD_ROOM;
 use edit_lines::said::told_text;
@@ -15,9 +16,6 @@ ghost use Rattle.hourledger.specs.InnerInput.{Held};
 // The most bytes that are taken, and a byte more.
 const ROOM: usize = 1048577;
 
-// The longest form.
-const FORM: usize = 8 + 17 * PLACES;
-
 fn say(made: Made) {
     let mut out = [0u8; TOLD_ROOM];
     let n = told_text(made, &mut out);
@@ -25,7 +23,7 @@ fn say(made: Made) {
 }
 
 fn write_form(count: &usize, starts: &[i64; PLACES], ends: &[i64; PLACES], values: &[u8; PLACES]) {
-    let mut out = [0u8; FORM];
+    let mut out = [0u8; LONGEST];
     let written = byte_io::write::write(count, starts, ends, values, &mut out);
     if let Counted::Count(n) = written {
         print(STDOUT_FILENO, &out, n);

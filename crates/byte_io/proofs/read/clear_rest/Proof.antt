@@ -13,7 +13,14 @@ clear-u8-requires : tie.Need-clear-u8-requires
 clear-u8-requires c κs = omega arith
 
 returns : tie.Need-returns
-returns c = record { starts = c .before .before .before .before .clear-i64 .ensures; ends = c .before .before .clear-i642 .ensures; values = c .clear-u8 .ensures }
+returns c =
+    let second = c .before .before in
+    record {
+      all = record { starts = omega arith; ends = omega arith; values = omega arith };
+      starts = second .before .before .clear-i64 .ensures;
+      ends = second .clear-i642 .ensures;
+      values = c .clear-u8 .ensures;
+    }
 
 pub clear-rest-spec : {M : Type 1} → statement M
 clear-rest-spec = tie.close (tie.spec clear-i64-requires clear-i64-requires-2 clear-u8-requires returns)

@@ -1,14 +1,37 @@
 -- `byte_io::read::read` meets its contract.
 use native.Mathlib.Omega.{arith}
-use mathlib.Core.Path.{sym, _∙_}
+use mathlib.Core.Path.{_≡_, sym, _∙_}
+use mathlib.Core.Bool.{true}
 use borrow.Author.Tests.{not-true, not-false}
 use borrow.Author.Needs.{needs}
 use Rattle.outcomes.specs.Stored.{lent}
-use Rattle.byte_form.specs.Form.{countIn, reading}
+use Rattle.byte_form.specs.Layout.{rm01}
+use Rattle.byte_form.specs.Form.{isForm, reading}
+use Rattle.byte_form.proofs.Lawful.{rm01-lawful}
 use Rattle.byte_form.proofs.Forms.{form-yes}
-use Rattle.byte_io.proofs.Reading.{form-sized, form-few, reads-form}
+use Rattle.byte_io.specs.InnerRead.{Sized}
+use Rattle.byte_io.proofs.Reading.{form-sized, reads-form}
 use Rattle.byte_io.proofs.read.read.Statement.{statement}
 use Rattle.byte_io.proofs.read.read.Tie as tie
+
+-- THE RUNGS: where the function begins, and where the count was read
+
+abbrev begin : tie.Else1 → tie.Start
+begin e = e .before .before .before
+
+abbrev counted : tie.After-fill-arg3 → tie.After-count-in
+counted f = f .before .before .before
+
+-- the bytes are a form
+is : (e : tie.Else1) → isForm rm01 (begin e .args .bytes .now) ≡ true
+is e = sym (e .before .is-form .ensures) ∙ not-false _ (e .if1 .left)
+
+-- and so they are as many as their count asks
+sized : (n : tie.After-count-in) → Sized rm01 (n .count-in .result) (begin (n .before) .args .bytes .now)
+sized n =
+    let bs = begin (n .before) .args .bytes .now in
+    let s = form-sized rm01 rm01-lawful bs (form-yes rm01 bs (is (n .before))) in
+    record { few = omega (arith, s .few, n .count-in .ensures .0); long = omega (arith, s .long, n .count-in .ensures .0) }
 
 is-form-requires : tie.Need-is-form-requires
 is-form-requires c κs = search needs
@@ -17,34 +40,26 @@ returns : tie.Need-returns
 unfolding reading
 returns c = rw (sym (c .before .is-form .ensures) ∙ not-true _ (c .if1 .taken))
 
-u32-at-requires : tie.Need-u32-at-requires
-u32-at-requires c κs =
-    let bs = c .before .before .before .args .bytes .now in
-    let f = form-sized bs (form-yes bs (sym (c .before .is-form .ensures) ∙ not-false _ (c .if1 .left))) in
-    omega arith
+count-in-requires : tie.Need-count-in-requires
+count-in-requires c κs =
+    let bs = begin c .args .bytes .now in
+    omega (arith, form-sized rm01 rm01-lawful bs (form-yes rm01 bs (is c)) .long)
 
 fill-requires : tie.Need-fill-requires
-unfolding countIn
-fill-requires c κs =
-    let i = c .before .before .before .before .before in
-    let bs = c .before .before .before .before .before .before .before .args .bytes .now in
-    let f = form-yes bs (sym (c .before .before .before .before .before .is-form .ensures) ∙ not-false _ (c .before .before .before .before .if1 .left)) in
-    let s = form-sized bs f in
-    let w = form-few bs f in
-    (omega arith, record { few = omega arith; long = omega arith })
+fill-requires c κs = sized (counted c)
 
 clear-rest-requires : tie.Need-clear-rest-requires
 clear-rest-requires c κs = search needs
 
 returns-2 : tie.Need-returns-2
-unfolding countIn
 returns-2 c =
-    let a = c .before .before .before .before .before .before .before .before .before .before .before .before .args in
-    let y = sym (c .before .before .before .before .before .before .before .before .before .before .is-form .ensures) ∙ not-false _ (c .before .before .before .before .before .before .before .before .before .if1 .left) in
-    reads-form (lent (a .count) (a .starts) (a .ends) (a .values)) (a .bytes .now) (c .before .before .before .before .before .before .before .before .u32-at .result) y (c .before .before .before .before .before .before .before .before .u32-at .ensures .0) (record { starts = omega arith; ends = omega arith; values = omega arith })
-    (c .before .before .before .before .fill .ensures) (c .clear-rest .ensures)
+    let filled = c .before .before .before .before in
+    let n = counted (filled .before) in
+    let a = begin (n .before) .args in
+    reads-form rm01 (lent (a .count) (a .starts) (a .ends) (a .values)) (a .bytes .now) (n .count-in .result) (is (n .before)) (n .count-in .ensures .0)
+    (filled .fill .ensures) (c .clear-rest .ensures)
 
 pub read-spec : {M : Type 1} → statement M
 read-spec =
     tie.close
-    (tie.spec is-form-requires returns u32-at-requires fill-requires clear-rest-requires returns-2)
+    (tie.spec is-form-requires returns count-in-requires fill-requires clear-rest-requires returns-2)

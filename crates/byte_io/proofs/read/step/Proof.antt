@@ -1,5 +1,5 @@
 -- `byte_io::read::step` meets its contract.
-use Prim.Native.Nat.{_+_}
+use Prim.Native.Nat.{ℕ, _+_}
 use native.Mathlib.Omega.{arith}
 use mathlib.Core.Path.{_≡_, sym, ap, _∙_}
 use mathlib.Core.Logic.{⊎-elim}
@@ -10,38 +10,82 @@ use borrow.Author.Needs.{sfits-of}
 use Rattle.key.specs.Rank.{bitRank, rank}
 use Rattle.key.proofs.Laws.{tests, rank-ne}
 use Rattle.key.proofs.Answers.{holds, fails}
+use Rattle.outcomes.specs.Stored.{Stored}
+use Rattle.byte_form.specs.Layout.{rm01, formSize}
 use Rattle.byte_io.specs.InnerRead.{told}
-use Rattle.byte_io.proofs.Reading.{count-told, start-at, end-at, value-at, next-at, other-at}
+use Rattle.byte_io.proofs.Reading.{count-told, start-of, end-of, value-of}
 use Rattle.byte_io.proofs.read.step.Statement.{statement}
 use Rattle.byte_io.proofs.read.step.Tie as tie
 
-counts : (c : tie.Start) → told (c .args .count) (c .args .bytes .now) .count ≡ c .args .count
-counts c = count-told (c .args .count) (c .args .bytes .now)
+-- THE RUNGS: where the function begins, where the start and the end were read, and the next start
 
--- the keys that were read are those of the place
-start-is : (c : tie.After-key-at2) → let a = c .before .before .before .args in getD (told (a .count) (a .bytes .now) .starts) (a .k) (pos 0) ≡ c .before .key-at .result
-start-is c = let s = c .before .before .before in start-at (s .args .count) (s .args .k) (s .args .bytes .now) (s .pre .0) ∙ sym (c .before .key-at .ensures)
+abbrev begin : tie.After-end-at → tie.Start
+begin k = k .before .before .before .before
 
-end-is : (c : tie.After-key-at2) → let a = c .before .before .before .args in getD (told (a .count) (a .bytes .now) .ends) (a .k) (pos 0) ≡ c .key-at2 .result
-end-is c = let s = c .before .before .before in end-at (s .args .count) (s .args .k) (s .args .bytes .now) (s .pre .0) ∙ sym (c .key-at2 .ensures)
+abbrev keys : tie.After-start-at2 → tie.After-end-at
+keys n = n .before .before .before
 
-next-is : (c : tie.After-key-at3) → let a = c .before .before .before .before .before .before .args in getD (told (a .count) (a .bytes .now) .starts) (a .k + 1) (pos 0) ≡ c .key-at3 .result
-next-is c = let s = c .before .before .before .before .before .before in next-at (s .args .count) (s .args .k) (s .args .bytes .now) (s .pre .0) (omega arith) ∙ sym (c .key-at3 .ensures)
+abbrev next : tie.After-value-at2 → tie.After-start-at2
+next v = v .before .before .before
 
-mul-at : tie.Need-mul-at
-mul-at c = omega arith
+-- the map that the bytes tell, and where the bytes of the place begin
+abbrev told-map : tie.Start → Stored
+told-map s = told rm01 (s .args .count) (s .args .bytes .now)
 
-add-at : tie.Need-add-at
-add-at c = omega arith
+counts : (s : tie.Start) → told-map s .count ≡ s .args .count
+counts s = count-told rm01 (s .args .count) (s .args .bytes .now)
 
-key-at-requires : tie.Need-key-at-requires
-key-at-requires c κs = omega arith
+abbrev at : tie.After-end-at → ℕ
+at k = k .before .before .form-size .result
 
-add-key-at : tie.Need-add-key-at
-add-key-at c = omega arith
+at-is : (k : tie.After-end-at) → at k ≡ formSize rm01 (begin k .args .k)
+at-is k = k .before .before .form-size .ensures
 
-key-at-requires-2 : tie.Need-key-at-requires-2
-key-at-requires-2 c κs = omega arith
+-- and those of the next
+after-is : (k : tie.After-end-at) → at k + rm01 .size ≡ formSize rm01 (begin k .args .k + 1)
+after-is k = omega (arith, at-is k)
+
+-- WHAT WAS READ IS WHAT STANDS AT THE PLACE
+
+start-is : (k : tie.After-end-at) → let s = begin k in getD (told-map s .starts) (s .args .k) (pos 0) ≡ k .before .start-at .result
+start-is k =
+    let s = begin k in
+    start-of rm01 (s .args .count) (s .args .k) (at k) (s .args .bytes .now) (s .pre .0) (at-is k) ∙ sym (k .before .start-at .ensures)
+
+end-is : (k : tie.After-end-at) → let s = begin k in getD (told-map s .ends) (s .args .k) (pos 0) ≡ k .end-at .result
+end-is k =
+    let s = begin k in
+    end-of rm01 (s .args .count) (s .args .k) (at k) (s .args .bytes .now) (s .pre .0) (at-is k) ∙ sym (k .end-at .ensures)
+
+next-is : (n : tie.After-start-at2) → let s = begin (keys n) in getD (told-map s .starts) (s .args .k + 1) (pos 0) ≡ n .start-at2 .result
+next-is n =
+    let k = keys n in
+    let s = begin k in
+    start-of rm01 (s .args .count) (s .args .k + 1) (at k + rm01 .size) (s .args .bytes .now) (omega arith) (after-is k)
+    ∙ sym (n .start-at2 .ensures)
+
+value-is : (v : tie.After-value-at2) → let s = begin (keys (next v)) in getD (told-map s .values) (s .args .k) 0 ≡ v .before .value-at .result
+value-is v =
+    let k = keys (next v) in
+    let s = begin k in
+    value-of rm01 (s .args .count) (s .args .k) (at k) (s .args .bytes .now) (s .pre .0) (at-is k)
+    ∙ sym (v .before .value-at .ensures)
+
+other-is : (v : tie.After-value-at2) → let s = begin (keys (next v)) in getD (told-map s .values) (s .args .k + 1) 0 ≡ v .value-at2 .result
+other-is v =
+    let k = keys (next v) in
+    let s = begin k in
+    value-of rm01 (s .args .count) (s .args .k + 1) (at k + rm01 .size) (s .args .bytes .now) (omega arith) (after-is k)
+    ∙ sym (v .value-at2 .ensures)
+
+form-size-requires : tie.Need-form-size-requires
+form-size-requires c κs = omega arith
+
+start-at-requires : tie.Need-start-at-requires
+start-at-requires c κs = omega arith
+
+end-at-requires : tie.Need-end-at-requires
+end-at-requires c κs = omega arith
 
 returns : tie.Need-returns
 returns c = fails (λ w. omega (arith, tests, ap rank (start-is (c .before)), ap rank (end-is (c .before))))
@@ -52,57 +96,50 @@ add-if2 c = omega arith
 returns-2 : tie.Need-returns-2
 returns-2 c =
     let k = c .before .before in
-    let n = counts (k .before .before .before) in
+    let m = counts (begin k) in
     holds (omega (arith, tests, ap rank (start-is k), ap rank (end-is k)))
 
-add-key-at-2 : tie.Need-add-key-at-2
-add-key-at-2 c = omega arith
+add-after : tie.Need-add-after
+add-after c = omega arith
 
-key-at-requires-3 : tie.Need-key-at-requires-3
-key-at-requires-3 c κs = omega arith
+start-at-requires-2 : tie.Need-start-at-requires-2
+start-at-requires-2 c κs = omega arith
 
 returns-3 : tie.Need-returns-3
 returns-3 c =
-    let k = c .before .before .before .before in
-    let m = counts (k .before .before .before) in
-    fails (λ w. omega (arith, tests, w .past (omega arith), ap rank (end-is k), ap rank (next-is (c .before))))
+    let n = c .before in
+    let m = counts (begin (keys n)) in
+    fails (λ w. omega (arith, tests, w .past (omega arith), ap rank (end-is (keys n)), ap rank (next-is n)))
 
-add-value : tie.Need-add-value
-add-value c = omega arith
+value-at-requires : tie.Need-value-at-requires
+value-at-requires c κs = omega arith
 
-shared-slice-read-value : tie.Need-shared-slice-read-value
-shared-slice-read-value c = omega arith
-
-add-other : tie.Need-add-other
-add-other c = omega arith
-
-shared-slice-read-other : tie.Need-shared-slice-read-other
-shared-slice-read-other c = omega arith
+value-at-requires-2 : tie.Need-value-at-requires-2
+value-at-requires-2 c κs = omega arith
 
 returns-4 : tie.Need-returns-4
 returns-4 c =
-    let k = c .before .before .before .before .before .before .before .before in
-    let s = k .before .before .before in
-    let v = value-at (s .args .count) (s .args .k) (s .args .bytes .now) (s .pre .0) in
-    let o = other-at (s .args .count) (s .args .k) (s .args .bytes .now) (s .pre .0) (omega arith) in
-    let m = counts s in
-    fails (λ w. w .unlike (omega arith) (omega (arith, ap bitRank (c .before .if4 .taken), ap rank (end-is k), ap rank (next-is (c .before .before .before .before .before)))) (omega (arith, eqb-true)))
+    let v = c .before .before in
+    let n = next v in
+    let m = counts (begin (keys n)) in
+    let value = value-is v in
+    let other = other-is v in
+    fails (λ w. w .unlike (omega arith) (omega (arith, ap bitRank (c .before .if4 .taken), ap rank (end-is (keys n)), ap rank (next-is n)))
+    (omega (arith, eqb-true)))
 
 returns-5 : tie.Need-returns-5
 returns-5 c =
-    let n = c .before .before .before .before in
-    let k = n .before .before .before in
-    let s = k .before .before .before in
-    let v = value-at (s .args .count) (s .args .k) (s .args .bytes .now) (s .pre .0) in
-    let o = other-at (s .args .count) (s .args .k) (s .args .bytes .now) (s .pre .0) (omega arith) in
+    let v = c .before in
+    let n = next v in
+    let k = keys n in
     let es = ap rank (start-is k) in
     let ee = ap rank (end-is k) in
     let en = ap rank (next-is n) in
     holds (record {
       full = omega (arith, tests);
       past = λ _. omega (arith, tests);
-      unlike = λ _ t u. ⊎-elim (λ w. eqb-false _ _ (w .1 .left) (sym v ∙ u ∙ o))
-          (λ w. rank-ne {a = n .key-at3 .result} {b = k .key-at2 .result} (sfits-of (n .key-at3 .ok)) (sfits-of (k .key-at2 .ok)) (w .left) (omega arith))
+      unlike = λ _ t u. ⊎-elim (λ w. eqb-false _ _ (w .1 .left) (sym (value-is v) ∙ u ∙ other-is v))
+          (λ w. rank-ne {a = n .start-at2 .result} {b = k .end-at .result} (sfits-of (n .start-at2 .ok)) (sfits-of (k .end-at .ok)) (w .left) (omega arith))
           (c .if4 .came);
     })
 
@@ -110,20 +147,16 @@ pub step-spec : {M : Type 1} → statement M
 step-spec =
     tie.close
     (tie.spec
-    mul-at
-    add-at
-    key-at-requires
-    add-key-at
-    key-at-requires-2
+    form-size-requires
+    start-at-requires
+    end-at-requires
     returns
     add-if2
     returns-2
-    add-key-at-2
-    key-at-requires-3
+    add-after
+    start-at-requires-2
     returns-3
-    add-value
-    shared-slice-read-value
-    add-other
-    shared-slice-read-other
+    value-at-requires
+    value-at-requires-2
     returns-4
     returns-5)

@@ -6,13 +6,14 @@ use borrow.Author.Count.{below-more}
 use Rattle.key.specs.Range.{halfOpen}
 use Rattle.key.proofs.Answers.{holds, fails}
 use Rattle.store.specs.InnerCheck.{Step}
+use Rattle.byte_form.specs.Layout.{rm01}
 use Rattle.byte_io.specs.InnerRead.{told}
 use Rattle.byte_io.proofs.Reading.{count-told}
 use Rattle.byte_io.proofs.read.tidy.Statement.{statement}
 use Rattle.byte_io.proofs.read.tidy.Tie as tie
 
 abbrev Inv-loop : tie.InvT-loop
-Inv-loop bytes count k₀ k = (k ≤ count) × ((j : ℕ) → j < k → Step halfOpen (told count bytes) j)
+Inv-loop bytes count k₀ k = (k ≤ count) × ((j : ℕ) → j < k → Step halfOpen (told rm01 count bytes) j)
 
 abbrev μ-loop : tie.MeasureT-loop
 μ-loop bytes count k₀ k = count - k
@@ -26,7 +27,7 @@ step-requires c κs = omega arith
 returns : tie.Need-returns Inv-loop μ-loop
 returns c =
     let a = c .before .before .before .before .before .args in
-    fails (λ w. c .before .step .ensures .wrong (not-true _ (c .if1 .taken)) (w _ (omega (arith, count-told (a .count) (a .bytes .now)))))
+    fails (λ w. c .before .step .ensures .wrong (not-true _ (c .if1 .taken)) (w _ (omega (arith, count-told rm01 (a .count) (a .bytes .now)))))
 
 add-k : tie.Need-add-k Inv-loop μ-loop
 add-k c = omega arith
@@ -40,7 +41,7 @@ loop-again c = (omega arith, below-more _ _ (c .before .before .before .loop .in
 returns-2 : tie.Need-returns-2 Inv-loop μ-loop
 returns-2 c =
     let a = c .before .before .before .args in
-    holds (λ k h. c .before .loop .inv .1 k (omega (arith, count-told (a .count) (a .bytes .now))))
+    holds (λ k h. c .before .loop .inv .1 k (omega (arith, count-told rm01 (a .count) (a .bytes .now))))
 
 pub tidy-spec : {M : Type 1} → statement M
 tidy-spec =

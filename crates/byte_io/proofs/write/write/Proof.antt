@@ -27,7 +27,10 @@ same-length c = search needs
 
 returns-2 : tie.Need-returns-2
 unfolding writing
-returns-2 c = rw (sym (c .before .before .before .before .before .well-formed .ensures .0) ∙ not-false _ (c .before .before .before .before .if1 .left)) (c .before .before .write-formed .ensures)
+returns-2 c =
+    let wrote = c .before .before in
+    let yes = wrote .before .before in
+    rw (sym (yes .before .well-formed .ensures .0) ∙ not-false _ (yes .if1 .left)) (wrote .write-formed .ensures)
 
 pub write-spec : {M : Type 1} → statement M
 write-spec =

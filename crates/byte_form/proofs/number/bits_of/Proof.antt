@@ -1,4 +1,4 @@
--- `byte_form::bits_of` meets its contract.
+-- `byte_form::number::bits_of` meets its contract.
 use native.Mathlib.Omega.{arith}
 use lib.IntN.{pos}
 use mir.Syntax.{w64}
@@ -7,8 +7,8 @@ use mir.Facts.{toZ-ofZ, fits-ofZ}
 use Rattle.key.specs.Rank.{rank}
 use Rattle.key.proofs.Laws.{rank-negative, rank-below}
 use Rattle.byte_form.proofs.Laws.{bits-negative, bits-natural}
-use Rattle.byte_form.proofs.bits_of.Statement.{statement}
-use Rattle.byte_form.proofs.bits_of.Tie as tie
+use Rattle.byte_form.proofs.number.bits_of.Statement.{statement}
+use Rattle.byte_form.proofs.number.bits_of.Tie as tie
 
 -- a negative key's rank is an i64
 small : (c : tie.Then1) → SFits w64 (pos (rank (c .before .args .a)))
@@ -18,7 +18,9 @@ sub-result : tie.Need-sub-result
 sub-result c = rw (rank-negative (ofZ w64 (c .before .args .a)) (c .if1 .taken) .0) (small c)
 
 cast-result : tie.Need-cast-result
-cast-result c = rw (rank-negative (ofZ w64 (c .before .args .a)) (c .if1 .taken) .0, toZ-ofZ (small c)) (tt, record { fits = rank-below (ofZ w64 (c .before .args .a)) })
+cast-result c =
+    let n = ofZ w64 (c .before .args .a) in
+    rw (rank-negative n (c .if1 .taken) .0, toZ-ofZ (small c)) (tt, record { fits = rank-below n })
 
 add-result : tie.Need-add-result
 add-result c =

@@ -1,9 +1,9 @@
--- `byte_form::key_at` meets its contract.
+-- `byte_form::number::key_at` meets its contract.
 use borrow.Author.Needs.{needs}
 use mir.Facts.{toZ-ofZ}
 use Rattle.key.proofs.Laws.{toZ-fit}
-use Rattle.byte_form.proofs.key_at.Statement.{statement}
-use Rattle.byte_form.proofs.key_at.Tie as tie
+use Rattle.byte_form.proofs.number.key_at.Statement.{statement}
+use Rattle.byte_form.proofs.number.key_at.Tie as tie
 
 u64-at-requires : tie.Need-u64-at-requires
 u64-at-requires c κs = search needs

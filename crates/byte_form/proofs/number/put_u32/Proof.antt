@@ -1,10 +1,10 @@
--- `byte_form::put_u32` meets its contract.
+-- `byte_form::number::put_u32` meets its contract.
 use native.Mathlib.Omega.{arith}
 use lib.ListN.{length-set}
 use borrow.Author.Needs.{needs}
 use Rattle.byte_form.specs.Bytes.{bytesOf}
-use Rattle.byte_form.proofs.put_u32.Statement.{statement}
-use Rattle.byte_form.proofs.put_u32.Tie as tie
+use Rattle.byte_form.proofs.number.put_u32.Statement.{statement}
+use Rattle.byte_form.proofs.number.put_u32.Tie as tie
 
 low-requires : tie.Need-low-requires
 low-requires c κs = search needs

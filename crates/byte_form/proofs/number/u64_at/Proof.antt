@@ -1,9 +1,9 @@
--- `byte_form::u64_at` meets its contract.
+-- `byte_form::number::u64_at` meets its contract.
 use native.Mathlib.Omega.{arith}
 use borrow.Author.Needs.{needs}
 use Rattle.byte_form.proofs.Laws.{eight}
-use Rattle.byte_form.proofs.u64_at.Statement.{statement}
-use Rattle.byte_form.proofs.u64_at.Tie as tie
+use Rattle.byte_form.proofs.number.u64_at.Statement.{statement}
+use Rattle.byte_form.proofs.number.u64_at.Tie as tie
 
 u32-at-requires : tie.Need-u32-at-requires
 u32-at-requires c κs = search needs

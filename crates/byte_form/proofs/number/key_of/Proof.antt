@@ -1,10 +1,10 @@
--- `byte_form::key_of` meets its contract.
+-- `byte_form::number::key_of` meets its contract.
 use borrow.Author.Needs.{needs}
 use mir.Facts.{toZ-ofZ}
 use Rattle.key.proofs.Laws.{toZ-fit}
 use Rattle.byte_form.proofs.Laws.{key-negative}
-use Rattle.byte_form.proofs.key_of.Statement.{statement}
-use Rattle.byte_form.proofs.key_of.Tie as tie
+use Rattle.byte_form.proofs.number.key_of.Statement.{statement}
+use Rattle.byte_form.proofs.number.key_of.Tie as tie
 
 cast-result : tie.Need-cast-result
 cast-result c = search needs

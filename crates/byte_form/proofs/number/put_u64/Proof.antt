@@ -1,12 +1,12 @@
--- `byte_form::put_u64` meets its contract.
+-- `byte_form::number::put_u64` meets its contract.
 use Prim.Native.Nat.{_/_}
 use native.Mathlib.Omega.{arith}
 use borrow.Author.Needs.{needs}
-use Rattle.byte_form.specs.Bytes.{bytesOf}
+use Rattle.byte_form.specs.Bytes.{u32Size, bytesOf}
 use Rattle.byte_form.proofs.Laws.{length-bytes, eight-bytes}
 use Rattle.byte_form.proofs.Stores.{two-runs}
-use Rattle.byte_form.proofs.put_u64.Statement.{statement}
-use Rattle.byte_form.proofs.put_u64.Tie as tie
+use Rattle.byte_form.proofs.number.put_u64.Statement.{statement}
+use Rattle.byte_form.proofs.number.put_u64.Tie as tie
 
 put-u32-requires : tie.Need-put-u32-requires
 put-u32-requires c κs = search needs
@@ -28,11 +28,13 @@ same-length c = search needs
 
 returns : tie.Need-returns
 returns c =
-    let a = c .before .before .before .before .before .before .before .before .before in
-    let n = a .args .n in
+    let second = c .before .before in
+    let first = second .before .before .before .before in
+    let a = first .before .before .before .args in
+    let n = a .n in
     rw (eight-bytes n)
-    (two-runs (a .args .out .now) (bytesOf 4 n) (bytesOf 4 (n / 4294967296)) 4 (c .before .before .before .before .before .before .put-u32 .ensures) (c .before .before .put-u322 .ensures)
-    (length-bytes 4 n) (omega (arith, length-bytes 4 (n / 4294967296))))
+    (two-runs (a .out .now) (bytesOf u32Size n) (bytesOf u32Size (n / 4294967296)) u32Size (first .put-u32 .ensures) (second .put-u322 .ensures)
+    (length-bytes u32Size n) (omega (arith, length-bytes u32Size (n / 4294967296))))
 
 pub put-u64-spec : {M : Type 1} → statement M
 put-u64-spec =

@@ -1,9 +1,9 @@
--- `byte_form::u32_at` meets its contract.
+-- `byte_form::number::u32_at` meets its contract.
 use native.Mathlib.Omega.{arith}
 use borrow.Author.Needs.{needs}
 use Rattle.byte_form.proofs.Laws.{four}
-use Rattle.byte_form.proofs.u32_at.Statement.{statement}
-use Rattle.byte_form.proofs.u32_at.Tie as tie
+use Rattle.byte_form.proofs.number.u32_at.Statement.{statement}
+use Rattle.byte_form.proofs.number.u32_at.Tie as tie
 
 shared-slice-read-wide : tie.Need-shared-slice-read-wide
 shared-slice-read-wide c = search needs
