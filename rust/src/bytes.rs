@@ -1,5 +1,5 @@
 //! The byte form: ours is compared with a writer and a reader that were written from document 01 alone, and with written forms that are kept as files.
-mod model;
+pub mod model;
 
 use crate::ffi::{range_map_read, range_map_write, Count, Map, PLACES};
 use crate::maps::random::Random;

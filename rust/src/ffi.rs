@@ -185,9 +185,9 @@ macro_rules! queries {
     }};
 }
 
-pub static QUERIES: Queries = queries!("range_map_query", "range_map_query_at");
+pub const QUERIES: Queries = queries!("range_map_query", "range_map_query_at");
 /// Only for well-formed maps.
-pub static QUERIES_UNCHECKED: Queries =
+pub const QUERIES_UNCHECKED: Queries =
     queries!("range_map_query_unchecked", "range_map_query_at_unchecked");
 
 pub type Gaps = unsafe extern "C" fn(&mut Map, i64, i64, *mut i64, usize, *mut i64, usize) -> Count;
@@ -368,8 +368,8 @@ macro_rules! map_functions {
     }};
 }
 
-pub static RANGE_MAP: Functions = map_functions!("range_map_");
-pub static RANGE_INCLUSIVE_MAP: Functions = map_functions!("range_inclusive_map_");
+pub const RANGE_MAP: Functions = map_functions!("range_map_");
+pub const RANGE_INCLUSIVE_MAP: Functions = map_functions!("range_inclusive_map_");
 
 /// Sets take no values: what is lent as one has to be 0, and lists of them are not looked at.
 macro_rules! set_functions {
@@ -412,8 +412,8 @@ macro_rules! set_functions {
     }};
 }
 
-pub static RANGE_SET: Functions = set_functions!("range_set_");
-pub static RANGE_INCLUSIVE_SET: Functions = set_functions!("range_inclusive_set_");
+pub const RANGE_SET: Functions = set_functions!("range_set_");
+pub const RANGE_INCLUSIVE_SET: Functions = set_functions!("range_inclusive_set_");
 
 /// What only sets have.
 pub struct Operations {
@@ -454,5 +454,5 @@ macro_rules! operations {
     }};
 }
 
-pub static RANGE_SET_OPERATIONS: Operations = operations!("range_set_");
-pub static RANGE_INCLUSIVE_SET_OPERATIONS: Operations = operations!("range_inclusive_set_");
+pub const RANGE_SET_OPERATIONS: Operations = operations!("range_set_");
+pub const RANGE_INCLUSIVE_SET_OPERATIONS: Operations = operations!("range_inclusive_set_");

@@ -1,14 +1,14 @@
 //! What rangemap keeps to itself, compiled from its own sources: its traits on ranges.
-//! RANGEMAP_SRC is set by the script that builds this program.
+//! rangemap/build.rs has linked target/rangemap to them.
 
 #[allow(dead_code, unexpected_cfgs)]
 pub mod std_ext {
-    include!(concat!(env!("RANGEMAP_SRC"), "/src/std_ext.rs"));
+    include!("../../target/rangemap/src/std_ext.rs");
 }
 
 #[allow(dead_code, unexpected_cfgs)]
 mod operations {
-    include!(concat!(env!("RANGEMAP_SRC"), "/src/operations.rs"));
+    include!("../../target/rangemap/src/operations.rs");
 
     // The trait is private to its file, so it is called from in here.
     pub fn intersect(a: &Range<i64>, b: &Range<i64>) -> Option<Range<i64>> {

@@ -31,7 +31,7 @@ const EDIT_REFUSED: &str =
     "insert or remove, with an empty or reversed range: 1, the Rust panics and keeps its map";
 const BULK_REFUSED: &str =
     "bulk insert, with an empty or reversed range: 1 and the count, the Rust panics and keeps the earlier entries";
-const TOO_MANY: &str = "more than 512 ranges: 2, the Rust has no limit";
+const TOO_MANY: &str = "more ranges than places: 2, the Rust has no limit";
 const EXHAUSTED: &str =
     "an exhausted RangeInclusive cannot be written, the Rust stores it and does not find its key";
 pub const KNOWN: [&str; 7] = [
@@ -117,9 +117,9 @@ pub fn agree<T: PartialEq + Debug + Copy>(
 }
 
 /// An edit gives the range a value, or none.
-type Edit = fn(&mut Map, Ends, Option<u8>) -> u8;
+pub type Edit = fn(&mut Map, Ends, Option<u8>) -> u8;
 
-fn edit<K: Kind>(m: &mut Map, r: Ends, new: Option<u8>) -> u8 {
+pub fn edit<K: Kind>(m: &mut Map, r: Ends, new: Option<u8>) -> u8 {
     match new {
         Some(value) => (K::OURS.insert)(m, r.0, r.1, value),
         None => (K::OURS.remove)(m, r.0, r.1),
@@ -127,9 +127,9 @@ fn edit<K: Kind>(m: &mut Map, r: Ends, new: Option<u8>) -> u8 {
 }
 
 /// Only for a well-formed map.
-fn edit_unchecked<K: Kind>(m: &mut Map, r: Ends, new: Option<u8>) -> u8 {
+pub fn edit_unchecked<K: Kind>(m: &mut Map, r: Ends, new: Option<u8>) -> u8 {
     let inner = K::OURS.inner.expect("only maps have unchecked doors");
-    // SAFETY: every caller lends a map that an edit left, or the model.
+    // SAFETY: every caller lends a map that an edit left, or one of good entries.
     unsafe {
         match new {
             Some(value) => (inner.insert)(m, r.0, r.1, value),

@@ -453,7 +453,7 @@ fn random_window(random: &mut Random, cells: &Cells) -> Window {
     }
 }
 
-/// Random queries over random maps of up to 512 ranges, of cells of one key each or of many.
+/// Random queries over random maps of up to PLACES ranges, of cells of one key each or of many.
 fn compare_random(report: &mut Report, pairs: usize) {
     report.part("query, random ones over random maps".to_string());
     let mut random = Random::new(41);

@@ -2,10 +2,11 @@
 use crate::ffi::{self, Intersected, Related};
 use crate::inside::std_ext::{RangeExt, RangeInclusiveExt};
 use crate::inside::{intersect, intersect_inclusive};
+use crate::maps::kind::Ends;
 use crate::report::Report;
-use crate::shown::Key;
+use crate::shown::{Key, Shown};
 use rangemap::{RangeInclusiveSet, RangeSet};
-use std::fmt::{Arguments, Display, Formatter, Result, Write};
+use std::fmt::{Arguments, Write};
 use std::ops::{Range, RangeInclusive};
 
 const REFUSED: &str =
@@ -15,9 +16,6 @@ pub const KNOWN: [&str; 2] = [REFUSED, REFUSED_TOUCHES];
 
 /// Not listed: the Rust is not known to say yes here.
 const UNKNOWN: &str = "the Rust says yes, with an empty or reversed range";
-
-/// A start and an end, of either kind.
-type Ends = (i64, i64);
 
 /// One way to ask rangemap.
 struct Oracle {
@@ -151,16 +149,6 @@ fn intersected(common: Option<Ends>) -> Intersected {
     Intersected { answer, start, end }
 }
 
-/// A range as Rust writes it.
-struct Shown<'a>(&'a Kind, Ends);
-
-impl Display for Shown<'_> {
-    fn fmt(&self, f: &mut Formatter) -> Result {
-        let Shown(kind, (start, end)) = *self;
-        write!(f, "{}{}{}", Key(start), kind.dots, Key(end))
-    }
-}
-
 fn ranges(keys: &[i64]) -> Vec<Ends> {
     let from = |&start| keys.iter().map(move |&end| (start, end));
     keys.iter().flat_map(from).collect()
@@ -198,7 +186,7 @@ fn compare_related(
 fn compare_contains(report: &mut Report, kind: &Kind, oracle: &Oracle, r: Ends, key: i64) {
     let ours = (kind.contains)(r.0, r.1, key);
     let yes = (oracle.contains)(r, key);
-    let input = format_args!("{} contains {}", Shown(kind, r), Key(key));
+    let input = format_args!("{} contains {}", Shown(kind.dots, r), Key(key));
     compare_related(report, input, ours, (kind.valid)(r), yes, UNKNOWN);
 }
 
@@ -206,7 +194,7 @@ fn compare_overlaps(report: &mut Report, kind: &Kind, oracle: &Oracle, a: Ends, 
     let ours = (kind.overlaps)(a.0, a.1, b.0, b.1);
     let yes = (oracle.overlaps)(a, b);
     let valid = (kind.valid)(a) && (kind.valid)(b);
-    let input = format_args!("{} overlaps {}", Shown(kind, a), Shown(kind, b));
+    let input = format_args!("{} overlaps {}", Shown(kind.dots, a), Shown(kind.dots, b));
     compare_related(report, input, ours, valid, yes, UNKNOWN);
 }
 
@@ -214,14 +202,14 @@ fn compare_touches(report: &mut Report, kind: &Kind, oracle: &Oracle, a: Ends, b
     let ours = (kind.touches)(a.0, a.1, b.0, b.1);
     let yes = (oracle.touches)(a, b);
     let valid = (kind.valid)(a) && (kind.valid)(b);
-    let input = format_args!("{} touches {}", Shown(kind, a), Shown(kind, b));
+    let input = format_args!("{} touches {}", Shown(kind.dots, a), Shown(kind.dots, b));
     compare_related(report, input, ours, valid, yes, REFUSED_TOUCHES);
 }
 
 fn compare_intersect(report: &mut Report, kind: &Kind, oracle: &Oracle, a: Ends, b: Ends) {
     let ours = (kind.intersect)(a.0, a.1, b.0, b.1);
     let common = (oracle.intersect)(a, b);
-    let input = format_args!("{} intersect {}", Shown(kind, a), Shown(kind, b));
+    let input = format_args!("{} intersect {}", Shown(kind.dots, a), Shown(kind.dots, b));
     report.same(input, ours, intersected(common));
 }
 
@@ -274,19 +262,19 @@ fn shown_related(r: Related) -> String {
 }
 
 fn shown_intersected(kind: &Kind, r: Intersected) -> String {
-    format!("{} {}", r.answer, Shown(kind, (r.start, r.end)))
+    format!("{} {}", r.answer, Shown(kind.dots, (r.start, r.end)))
 }
 
 fn replay_case(a: Ends, b: Ends) -> String {
     let kind = &HALF_OPEN;
     let common = intersected((kind.traits.intersect)(a, b));
-    let (shown_a, shown_b) = (Shown(kind, a), Shown(kind, b));
+    let (shown_a, shown_b) = (Shown(kind.dots, a), Shown(kind.dots, b));
     let result = shown_intersected(kind, common);
     format!("case {shown_a} and {shown_b}: intersect {result}")
 }
 
 fn replay_contains(kind: &Kind, r: Ends) -> String {
-    let mut line = format!("{}:", Shown(kind, r));
+    let mut line = format!("{}:", Shown(kind.dots, r));
     for (i, &key) in REPLAYED_KEYS.iter().enumerate() {
         let comma = if i == 0 { "" } else { "," };
         let answer = related((kind.valid)(r), (kind.traits.contains)(r, key));
@@ -301,7 +289,7 @@ fn replay_pair(kind: &Kind, a: Ends, b: Ends) -> String {
     let overlaps = shown_related(related(valid, (kind.traits.overlaps)(a, b)));
     let touches = shown_related(related(valid, (kind.traits.touches)(a, b)));
     let common = shown_intersected(kind, intersected((kind.traits.intersect)(a, b)));
-    let (a, b) = (Shown(kind, a), Shown(kind, b));
+    let (a, b) = (Shown(kind.dots, a), Shown(kind.dots, b));
     format!("{a} and {b}: overlaps {overlaps}, touches {touches}, intersect {common}")
 }
 

@@ -1,5 +1,6 @@
 //! Counts what was compared, part by part, and tells every difference that is not a known one.
 use std::fmt::{Arguments, Debug};
+use std::process::ExitCode;
 
 /// So many failures are told; the others are only counted.
 const TOLD: u64 = 20;
@@ -90,5 +91,16 @@ impl Report {
             self.compared, self.failures
         );
         self.compared > 0 && self.failures == 0
+    }
+}
+
+/// Runs a program on its words: it ends well if all was as it should be.
+pub fn run(program: impl FnOnce(&[&str]) -> bool) -> ExitCode {
+    let words: Vec<String> = std::env::args().skip(1).collect();
+    let words: Vec<&str> = words.iter().map(String::as_str).collect();
+    if program(&words) {
+        ExitCode::SUCCESS
+    } else {
+        ExitCode::FAILURE
     }
 }

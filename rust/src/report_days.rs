@@ -3,7 +3,7 @@
 //! The day is worked out here again, by another algorithm. The map is edited at random by rangemap, and each edit is painted on a
 //! list of the day's seconds besides; the report has to say what the list says. Each hour is held against the seconds in whole numbers.
 use crate::day_ffi::{range_map_day_report, range_map_day_report_unchecked, DayReport};
-use crate::ffi::Map;
+use crate::ffi::{Map, PLACES};
 use crate::maps::random::Random;
 use crate::report::Report;
 use rangemap::RangeMap;
@@ -310,7 +310,7 @@ fn cases(report: &mut Report) {
     );
 
     let mut damaged = november.clone();
-    damaged.starts[511] = 1;
+    damaged.starts[PLACES - 1] = 1;
     let mut strange = november.clone();
     strange.values[0] = 0;
     let good = [date];

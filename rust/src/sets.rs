@@ -1,5 +1,5 @@
 //! Modules 4 and 5: sets of half-open and of inclusive ranges. What a map has too is compared as the maps are.
-mod kind;
+pub mod kind;
 mod operations;
 mod replay;
 

@@ -1,4 +1,4 @@
-//! How keys are told.
+//! How keys and ranges are told.
 use std::fmt::{Display, Formatter, Result};
 
 /// A key, with the ends of the i64 by name.
@@ -16,5 +16,15 @@ impl Display for Key {
             (_, to_max) if to_max < NEAR => write!(f, "max-{to_max}"),
             _ => self.0.fmt(f),
         }
+    }
+}
+
+/// A range as Rust writes it: its dots, and its start and its end.
+pub struct Shown(pub &'static str, pub (i64, i64));
+
+impl Display for Shown {
+    fn fmt(&self, f: &mut Formatter) -> Result {
+        let Shown(dots, (start, end)) = *self;
+        write!(f, "{}{dots}{}", Key(start), Key(end))
     }
 }

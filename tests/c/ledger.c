@@ -37,6 +37,27 @@ typedef struct Entry {
 #define ENTRIES(...) (const Entry[]){__VA_ARGS__}, sizeof((const Entry[]){__VA_ARGS__}) / sizeof(Entry)
 #define NOTHING NULL, 0
 
+/* As many half-open ranges of one key as there are places, each so many keys after the one before. */
+static const Entry *spread(int64_t first, int64_t step, uint8_t value) {
+    static Entry entries[HOURLEDGER_PLACES];
+    for (int64_t i = 0; i < HOURLEDGER_PLACES; i++) {
+        entries[i] = (Entry){first + step * i, first + step * i + 1, value};
+    }
+    return entries;
+}
+
+#define SPREAD(FIRST, STEP, VALUE) spread(FIRST, STEP, VALUE), HOURLEDGER_PLACES
+
+/* Whether the lists hold every second key from the first on, each as a range of its own. */
+static bool every_second(const int64_t *starts, const int64_t *ends, size_t count, int64_t first) {
+    bool good = true;
+    for (size_t i = 0; i < count; i++) {
+        const int64_t key = first + 2 * (int64_t)i;
+        good = good && starts[i] == key && ends[i] == key + 1;
+    }
+    return good;
+}
+
 static bool is_range(LedgerRange r, uint8_t answer, int64_t start, int64_t end, uint8_t value) {
     return r.answer == answer && r.start == start && r.end == end && r.value == value;
 }
@@ -309,13 +330,7 @@ static void half_open_bulk(void) {
 
 /* 512 ranges of one value at 0..1, 2..3, and so on. */
 static void half_open_full(void) {
-    RangeMap m = range_map_new();
-    for (int64_t i = 0; i < HOURLEDGER_PLACES; i++) {
-        m.starts[i] = 2 * i;
-        m.ends[i] = 2 * i + 1;
-        m.values[i] = 7;
-    }
-    m.count = HOURLEDGER_PLACES;
+    RangeMap m = range_map_holding(SPREAD(0, 2, 7));
     const RangeMap full = m;
     check("full: count 512", is_count(range_map_len(&m), 0, HOURLEDGER_PLACES));
     check("full: insert 2000..2001: 2", range_map_insert(&m, 2000, 2001, 7) == 2);
@@ -585,24 +600,13 @@ static void query_refusals(void) {
 /* 512 ranges of one key and 512 others: what neither map holds. */
 static void query_longest(void) {
     static int64_t starts[HOURLEDGER_QUERY], ends[HOURLEDGER_QUERY];
-    RangeMap a = range_map_new(), b = range_map_new();
-    for (int64_t i = 0; i < HOURLEDGER_PLACES; i++) {
-        a.starts[i] = 4 * i;
-        a.ends[i] = 4 * i + 1;
-        b.starts[i] = 4 * i + 2;
-        b.ends[i] = 4 * i + 3;
-    }
-    a.count = b.count = HOURLEDGER_PLACES;
+    const RangeMap a = range_map_holding(SPREAD(0, 4, 0)), b = range_map_holding(SPREAD(2, 4, 0));
     const RangeMap a_before = a, b_before = b;
     const size_t n = HOURLEDGER_QUERY;
     check("the longest result into one place less: 3",
           is_count(range_map_query(&a, &b, -1, 2048, TEXT("!A0&!B0"), starts, n - 1, ends, n), 3, 0));
     check("the longest result", is_count(range_map_query(&a, &b, -1, 2048, TEXT("!A0&!B0"), starts, n, ends, n), 0, n));
-    bool good = true;
-    for (int64_t i = 0; i < HOURLEDGER_QUERY; i++) {
-        good = good && starts[i] == 2 * i - 1 && ends[i] == 2 * i;
-    }
-    check("the longest result: every second key", good);
+    check("the longest result: every second key", every_second(starts, ends, n, -1));
     check("the longest result: the maps as they were", range_map_same(&a, &a_before) && range_map_same(&b, &b_before));
 }
 
@@ -652,12 +656,7 @@ static void half_open_set_questions(void) {
 
 /* 512 ranges at 0..1, 2..3, and so on. */
 static void half_open_set_full(void) {
-    RangeSet m = range_set_new();
-    for (int64_t i = 0; i < HOURLEDGER_PLACES; i++) {
-        m.starts[i] = 2 * i;
-        m.ends[i] = 2 * i + 1;
-    }
-    m.count = HOURLEDGER_PLACES;
+    RangeSet m = range_set_holding(SPREAD(0, 2, 0));
     const RangeSet full = m;
     check("set, full: insert 2000..2001: 2", range_set_insert(&m, 2000, 2001) == 2);
     check("set, full: unchanged", range_set_same(&m, &full));
@@ -700,21 +699,10 @@ static void half_open_set_operations(void) {
 /* 512 ranges of one key and 512 others: their union needs 1024 places, and no set is made of it. */
 static void half_open_set_long_union(void) {
     static int64_t starts[HOURLEDGER_UNION], ends[HOURLEDGER_UNION];
-    RangeSet a = range_set_new(), b = range_set_new();
-    for (int64_t i = 0; i < HOURLEDGER_PLACES; i++) {
-        a.starts[i] = 4 * i;
-        a.ends[i] = 4 * i + 1;
-        b.starts[i] = 4 * i + 2;
-        b.ends[i] = 4 * i + 3;
-    }
-    a.count = b.count = HOURLEDGER_PLACES;
+    const RangeSet a = range_set_holding(SPREAD(0, 4, 0)), b = range_set_holding(SPREAD(2, 4, 0));
     const size_t n = HOURLEDGER_UNION;
     check("a long union", is_count(range_set_union(&a, &b, starts, n, ends, n), 0, n));
-    bool good = true;
-    for (int64_t i = 0; i < HOURLEDGER_UNION; i++) {
-        good = good && starts[i] == 2 * i && ends[i] == 2 * i + 1;
-    }
-    check("a long union: every second key", good);
+    check("a long union: every second key", every_second(starts, ends, n, 0));
     check("a long union into one place less: 3", is_count(range_set_union(&a, &b, starts, n, ends, n - 1), 3, 0));
 }
 

@@ -13,41 +13,28 @@ from collections import Counter
 from datetime import date, datetime, timedelta
 
 sys.dont_write_bytecode = True  # nothing is left beside the sources
+sys.path.append(os.path.join(os.path.dirname(os.path.abspath(__file__)), "../days"))
+from list import FIRST, LAST, midnights, zones
 from second import GREATEST, LEAST, answer, contents, form, hours_shown, log_day, sunday
-
-ZONES = [
-    "America/New_York",
-    "America/Chicago",
-    "America/Denver",
-    "America/Los_Angeles",
-    "America/Anchorage",
-    "Pacific/Honolulu",
-    "America/Phoenix",
-]
-FIRST, LAST = date(2007, 1, 1), date(2099, 12, 31)
 
 
 def by_zoneinfo():
     """Says how many days of second.py are those of the tz database, or that it is not at hand."""
     try:
-        from zoneinfo import ZoneInfo
-
-        zones = [ZoneInfo(name) for name in ZONES]
+        found = zones()
     except Exception as error:
         print("compare.py: days are not held to the tz database:", error)
         return True
     days = [sunday(year, month, which) for year in range(2007, 2100) for month, which in ((3, 2), (11, 1))]
     days += [day + timedelta(days=n) for day in days for n in (-1, 1)] + [FIRST, LAST]
     for day in days:
-        for number, zone in enumerate(zones):
+        for number, zone in enumerate(found):
             start, end = log_day(number, day.year, day.month, day.day)
-            after = day + timedelta(days=1)
-            wanted = [int(datetime(d.year, d.month, d.day, tzinfo=zone).timestamp()) for d in (day, after)]
             clock = [datetime.fromtimestamp(k, zone).hour for k in range(start, end, 3600)]
-            if wanted != [start, end] or clock != hours_shown(end - start):
+            if midnights(day, zone) != [start, end] or clock != hours_shown(end - start):
                 print("compare.py: second.py is not the tz database:", number, day)
                 return False
-    print(f"{len(days) * len(zones)} days of the second maker are as the tz database has them")
+    print(f"{len(days) * len(found)} days of the second maker are as the tz database has them")
     return True
 
 

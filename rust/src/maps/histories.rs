@@ -1,4 +1,4 @@
-//! Long random histories that run into the limit of 512 ranges.
+//! Long random histories that run into the limit of PLACES ranges.
 use super::dense::{as_ends, entries, Cells, Dense};
 use super::kind::{shown, Ends, Entry, Kind};
 use super::random::Random;

@@ -1,6 +1,6 @@
 //! What a kind of map or set is, and the two kinds of map: our functions of each, and rangemap's type.
 use crate::ffi::{self, Functions};
-use crate::shown::Key;
+use crate::shown::Shown;
 use rangemap::{RangeInclusiveMap, RangeMap};
 use std::fmt::{Display, Formatter, Result};
 use std::marker::PhantomData;
@@ -39,13 +39,17 @@ pub trait Kind: 'static {
     fn rust_last(m: &Self::Rust) -> Option<Entry>;
     fn rust_get(m: &Self::Rust, key: i64) -> Option<Entry>;
     fn rust_contains(m: &Self::Rust, key: i64) -> bool;
-    fn rust_overlapping(m: &Self::Rust, r: Ends) -> Vec<Entry>;
+    fn rust_iter_overlapping(m: &Self::Rust, r: Ends) -> impl Iterator<Item = Entry> + '_;
     fn rust_overlaps(m: &Self::Rust, r: Ends) -> bool;
     fn rust_each_gap(m: &Self::Rust, r: Ends, each: impl FnMut(Ends));
     fn rust_insert(m: &mut Self::Rust, r: Ends, value: u8);
     fn rust_remove(m: &mut Self::Rust, r: Ends);
     fn rust_clear(m: &mut Self::Rust);
     fn rust_extend(m: &mut Self::Rust, entries: &[Entry]);
+
+    fn rust_overlapping(m: &Self::Rust, r: Ends) -> Vec<Entry> {
+        Self::rust_iter_overlapping(m, r).collect()
+    }
 
     fn rust_gaps(m: &Self::Rust, r: Ends) -> Vec<Ends> {
         let mut gaps = Vec::new();
@@ -74,6 +78,7 @@ pub struct HalfOpen;
 pub struct Inclusive;
 
 /// The two types of rangemap have the same functions. `$range` makes a range, `$ends` takes one apart.
+/// What the bench times is inline, since a caller's own code would have it so.
 macro_rules! rust_map {
     ($map:ty, $range:expr, $ends:expr) => {
         type Rust = $map;
@@ -98,6 +103,7 @@ macro_rules! rust_map {
             m.last_range_value().map(|(r, &value)| ($ends(r), value))
         }
 
+        #[inline]
         fn rust_get(m: &$map, key: i64) -> Option<Entry> {
             m.get_key_value(&key).map(|(r, &value)| ($ends(r), value))
         }
@@ -106,9 +112,10 @@ macro_rules! rust_map {
             m.contains_key(&key)
         }
 
-        fn rust_overlapping(m: &$map, r: Ends) -> Vec<Entry> {
+        #[inline]
+        fn rust_iter_overlapping(m: &$map, r: Ends) -> impl Iterator<Item = Entry> + '_ {
             let found = m.overlapping($range(r));
-            found.map(|(r, &value)| ($ends(r), value)).collect()
+            found.map(|(r, &value)| ($ends(r), value))
         }
 
         fn rust_overlaps(m: &$map, r: Ends) -> bool {
@@ -119,10 +126,12 @@ macro_rules! rust_map {
             m.gaps(&$range(r)).map(|r| $ends(&r)).for_each(each);
         }
 
+        #[inline]
         fn rust_insert(m: &mut $map, r: Ends, value: u8) {
             m.insert($range(r), value);
         }
 
+        #[inline]
         fn rust_remove(m: &mut $map, r: Ends) {
             m.remove($range(r));
         }
@@ -181,18 +190,9 @@ impl Kind for Inclusive {
     );
 }
 
-/// A range as Rust writes it.
-pub struct Shown<K>(Ends, PhantomData<K>);
-
-impl<K: Kind> Display for Shown<K> {
-    fn fmt(&self, f: &mut Formatter) -> Result {
-        let (start, end) = self.0;
-        write!(f, "{}{}{}", Key(start), K::DOTS, Key(end))
-    }
-}
-
-pub fn shown<K: Kind>(r: Ends) -> Shown<K> {
-    Shown(r, PhantomData)
+/// A range of a kind as Rust writes it.
+pub fn shown<K: Kind>(r: Ends) -> Shown {
+    Shown(K::DOTS, r)
 }
 
 /// A map or a set as document 01 writes it: range>value, in order. A set has only 0 for values.

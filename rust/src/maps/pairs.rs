@@ -3,7 +3,7 @@ use super::dense::{entries, Dense};
 use super::kind::{of, Entry, Kind};
 use super::stored::told;
 use super::{agree, Placed, Size};
-use crate::ffi::{Map, Order};
+use crate::ffi::{Map, Order, PLACES};
 use crate::report::Report;
 use std::cmp::Ordering;
 
@@ -76,9 +76,10 @@ fn compare_pair<K: Kind>(
 fn full_maps<K: Kind>() -> Vec<Vec<Entry>> {
     let range = |i: usize| K::ends(10 * i as i128, 10 * i as i128 + 5).expect("small keys");
     let value = K::value(7);
-    let full: Vec<Entry> = (0..crate::ffi::PLACES).map(|i| (range(i), value)).collect();
-    let mut maps = vec![full.clone(), full[..511].to_vec(), full[1..].to_vec()];
-    for place in [0, 1, 255, 510, 511] {
+    let full: Vec<Entry> = (0..PLACES).map(|i| (range(i), value)).collect();
+    let last = PLACES - 1;
+    let mut maps = vec![full.clone(), full[..last].to_vec(), full[1..].to_vec()];
+    for place in [0, 1, last / 2, last - 1, last] {
         // A set has no other value.
         for change in [((1, 0), 0), ((0, 1), 0), ((0, 0), K::value(1))] {
             let mut changed = full.clone();

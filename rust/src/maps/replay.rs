@@ -153,7 +153,7 @@ impl<K: Kind> Replay<K> {
         self.line(format_args!("clear"));
     }
 
-    /// Document 01's full map: 512 ranges of one key and of one value, with a key between each two.
+    /// Document 01's full map: as many ranges as places, of one key and of one value, with a key between each two.
     fn fill(&mut self) {
         K::rust_clear(&mut self.rust);
         self.damaged = false;

@@ -76,8 +76,8 @@ macro_rules! set_kind {
                 m.contains(&key)
             }
 
-            fn rust_overlapping(m: &$set, r: Ends) -> Vec<Entry> {
-                m.overlapping($range(r)).map(|r| ($ends(r), 0)).collect()
+            fn rust_iter_overlapping(m: &$set, r: Ends) -> impl Iterator<Item = Entry> + '_ {
+                m.overlapping($range(r)).map(|r| ($ends(r), 0))
             }
 
             fn rust_overlaps(m: &$set, r: Ends) -> bool {

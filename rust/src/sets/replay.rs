@@ -115,7 +115,7 @@ impl<K: SetKind> Lent<K> {
         )
     }
 
-    /// What the edit answers, and the set that it leaves. No set comes near the limit of 512 ranges.
+    /// What the edit answers, and the set that it leaves. No set comes near the limit of PLACES ranges.
     fn edited(&self, r: Ends, new: Option<u8>) -> String {
         let mut left = Lent::<K> {
             rust: self.rust.clone(),

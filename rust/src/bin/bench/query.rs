@@ -1,14 +1,15 @@
 //! A query of four atoms over two maps of 500 ranges, beside the same in Rust: rangemap's two iterators, and the query compiled by hand.
 //! Ours reads the query from its bytes in every call.
-use crate::ffi::{Map, Queries, QUERIES, QUERIES_UNCHECKED};
-use crate::maps::kind::{Ends, Entry};
-use crate::maps::random::Random;
-use crate::{race, tell, Lists, Wanted, PAIRS};
+use crate::lists::Lists;
+use crate::logs::{random_entries, STEP};
+use crate::pairs::{race_pairs, Way, PAIRS};
+use crate::{tell, Wanted};
+use beside_rust::ffi::{Map, Queries, QUERIES, QUERIES_UNCHECKED};
+use beside_rust::maps::kind::{Ends, HalfOpen};
 use rangemap::RangeMap;
 use std::hint::black_box;
 
 const RANGES: usize = 500;
-const CALLS: usize = 200;
 
 /// The query, and the same of the values at an instant. No map holds the value that stands for none.
 const TEXT: &[u8] = b"A3&!B1|A1&B2";
@@ -18,23 +19,9 @@ fn holds(a: u8, b: u8) -> bool {
     (a == 3) & (b != 1) | (a == 1) & (b == 2)
 }
 
-/// So many keys for each range, most of which belong to none.
-const STEP: i64 = 20;
-
 /// All the keys of the maps, and some beside them.
 const START: i64 = -5;
-const END: i64 = STEP * RANGES as i64 + 5;
-
-/// One range of random start and length in each step, with one of four values.
-fn entries(seed: u64) -> Vec<Entry> {
-    let mut random = Random::new(seed);
-    let range = |i: usize| {
-        let from = STEP * i as i64 + random.below(8) as i64;
-        let to = from + 1 + random.below(11) as i64;
-        ((from, to), 1 + random.below(4) as u8)
-    };
-    (0..RANGES).map(range).collect()
-}
+const END: i64 = STEP as i64 * RANGES as i64 + 5;
 
 type Rust = RangeMap<i64, u8>;
 
@@ -49,26 +36,25 @@ fn in_window(m: &Rust) -> impl Iterator<Item = (Ends, u8)> + '_ {
 
 impl Lists {
     fn query_by(&mut self, door: &Queries, a: &mut Map, b: &mut Map) -> usize {
-        let (starts, ends) = (&mut self.starts, &mut self.ends);
-        let text = black_box(TEXT);
-        // SAFETY: the lists are there, and the maps are well formed.
-        let count = unsafe {
-            (door.list)(
-                black_box(a),
-                black_box(b),
-                START,
-                END,
-                text.as_ptr(),
-                text.len(),
-                starts.as_mut_ptr(),
-                starts.len(),
-                ends.as_mut_ptr(),
-                ends.len(),
-            )
-        };
-        assert_eq!(count.answer, 0);
-        black_box(self);
-        count.count
+        self.write(|starts, starts_length, ends, ends_length| {
+            let (a, b, text) = (black_box(a), black_box(b), black_box(TEXT));
+            let (bytes, length) = (text.as_ptr(), text.len());
+            // SAFETY: the lists are there, and the maps are well formed.
+            unsafe {
+                (door.list)(
+                    a,
+                    b,
+                    START,
+                    END,
+                    bytes,
+                    length,
+                    starts,
+                    starts_length,
+                    ends,
+                    ends_length,
+                )
+            }
+        })
     }
 
     /// Both iterators walked at once, from each key where a map changes to the next. It would serve any query: only `holds` knows which.
@@ -138,60 +124,19 @@ impl Lists {
     }
 }
 
-fn race_pairs(pairs: usize) -> [f64; 4] {
-    let seeds = 0..pairs as u64;
-    let entries = seeds.map(|i| (entries(2 * i + 17), entries(2 * i + 18)));
-    let entries: Vec<_> = entries.collect();
-    let rust_of = |one: &[Entry]| one.iter().map(|&((s, e), v)| (s..e, v)).collect::<Rust>();
-    let rust = entries.iter().map(|(a, b)| (rust_of(a), rust_of(b)));
-    let rust: Vec<_> = rust.collect();
-    let maps = entries.iter().map(|(a, b)| (Map::of(a), Map::of(b)));
-    let mut maps: Vec<_> = maps.collect();
-    let mut lent = maps.clone();
-    let mut lists = [const { Lists::EMPTY }; 4];
-
-    for (((a, b), (lent_a, lent_b)), (rust_a, rust_b)) in maps.iter_mut().zip(&mut lent).zip(&rust)
-    {
-        let [inner, checked, walked, knowing] = &mut lists;
-        let count = walked.query_by_rust(rust_a, rust_b);
-        assert!(count > 0);
-        assert_eq!(inner.query_by(&QUERIES_UNCHECKED, a, b), count);
-        assert_eq!(checked.query_by(&QUERIES, lent_a, lent_b), count);
-        assert_eq!(knowing.query_by_knowing(rust_a, rust_b), count);
-        for other in [inner, checked, knowing] {
-            assert!(other.starts[..count] == walked.starts[..count]);
-            assert!(other.ends[..count] == walked.ends[..count]);
-        }
-    }
-
-    let [inner, checked, walked, knowing] = &mut lists;
-    race(
-        CALLS,
+/// The times of both doors, of the Rust that would serve any query, and of the Rust that knows this one.
+fn race_ways(pairs: usize) -> [f64; 4] {
+    let inner =
+        |lists: &mut Lists, a: &mut Map, b: &mut Map| lists.query_by(&QUERIES_UNCHECKED, a, b);
+    let checked = |lists: &mut Lists, a: &mut Map, b: &mut Map| lists.query_by(&QUERIES, a, b);
+    race_pairs::<HalfOpen, 4>(
+        pairs,
+        |seed| random_entries::<HalfOpen>(RANGES, seed, |random| 1 + random.below(4) as u8),
         [
-            &mut || {
-                for i in 0..CALLS {
-                    let (a, b) = &mut maps[i % pairs];
-                    inner.query_by(&QUERIES_UNCHECKED, a, b);
-                }
-            },
-            &mut || {
-                for i in 0..CALLS {
-                    let (a, b) = &mut lent[i % pairs];
-                    checked.query_by(&QUERIES, a, b);
-                }
-            },
-            &mut || {
-                for i in 0..CALLS {
-                    let (a, b) = &rust[i % pairs];
-                    walked.query_by_rust(a, b);
-                }
-            },
-            &mut || {
-                for i in 0..CALLS {
-                    let (a, b) = &rust[i % pairs];
-                    knowing.query_by_knowing(a, b);
-                }
-            },
+            Way::Ours(&inner),
+            Way::Ours(&checked),
+            Way::Rust(&Lists::query_by_rust),
+            Way::Rust(&Lists::query_by_knowing),
         ],
     )
 }
@@ -199,7 +144,7 @@ fn race_pairs(pairs: usize) -> [f64; 4] {
 /// As with sets, many pairs of maps take turns, and these are what is wanted; one pair alone is told too.
 pub fn race_queries(wanted: &mut Vec<Wanted>) {
     for pairs in [1, PAIRS] {
-        let [inner, checked, walked, knowing] = race_pairs(pairs);
+        let [inner, checked, walked, knowing] = race_ways(pairs);
         let what =
             format!("a query of 4 atoms over maps of {RANGES} ranges, {pairs} pairs in turn");
         tell(&what, [inner, checked, walked]);

@@ -1,19 +1,6 @@
 //! Compares the exported functions with rangemap, and what is new, the byte form, the day's report and queries, with models of their own.
-//! Each module of the port has a file of its own here.
-mod bytes;
-mod day_ffi;
-mod ffi;
-mod inside;
-mod maps;
-mod query;
-mod relations;
-mod report;
-mod report_days;
-mod sets;
-mod shown;
-mod transcription;
-
-use report::Report;
+use beside_rust::report::{run, Report};
+use beside_rust::{bytes, maps, query, relations, report_days, sets, transcription};
 use std::process::ExitCode;
 
 /// The differences that are allowed, of all modules.
@@ -75,9 +62,7 @@ fn replay(module: &str) -> bool {
 }
 
 fn main() -> ExitCode {
-    let words: Vec<String> = std::env::args().skip(1).collect();
-    let words: Vec<&str> = words.iter().map(String::as_str).collect();
-    let good = match words[..] {
+    run(|words| match words {
         [] => compare(&SHORT),
         ["full"] => compare(&FULL),
         ["replay", module] => replay(module),
@@ -85,10 +70,5 @@ fn main() -> ExitCode {
             eprintln!("usage: compare [full | replay MODULE]");
             false
         }
-    };
-    if good {
-        ExitCode::SUCCESS
-    } else {
-        ExitCode::FAILURE
-    }
+    })
 }

@@ -1,8 +1,8 @@
 //! A day's report at 500 ranges, all in one day, beside the time in which rangemap's `overlapping` hands the same ranges over.
-use crate::day_ffi::{range_map_day_report, range_map_day_report_unchecked, DayReport};
-use crate::ffi::Map;
-use crate::maps::random::Random;
 use crate::{race, tell, Wanted};
+use beside_rust::day_ffi::{range_map_day_report, range_map_day_report_unchecked, DayReport};
+use beside_rust::ffi::Map;
+use beside_rust::maps::random::Random;
 use rangemap::RangeMap;
 use std::hint::black_box;
 
@@ -32,6 +32,7 @@ fn sums(rust: &RangeMap<i64, u8>) -> [i64; 5] {
 }
 
 /// All that `overlapping` hands over, in one number, so that no range can be left out.
+/// Written for this one type: here the loop that serves any kind, `handed_over`, takes a third longer, which would flatter ours.
 fn handed(rust: &RangeMap<i64, u8>) -> i64 {
     let mut sum = 0;
     for (range, &status) in rust.overlapping(black_box(START..END)) {
