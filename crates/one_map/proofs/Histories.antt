@@ -25,6 +25,7 @@ use Rattle.outcomes.specs.declared.Found.the-variants as Found
 use Rattle.outcomes.specs.Outcomes.{lookup, Entry, Edited, leaving, Change, edited, cleared, inserts, extending, run, changes}
 use Rattle.outcomes.proofs.Edits.{none-refused, ranges-cleared}
 use Rattle.outcomes.proofs.Bulk.{range, entries-ranges, bulk-singles}
+use Rattle.byte_form.specs.Layout.{rm01}
 use Rattle.byte_form.specs.Bytes.{Bytes}
 use Rattle.byte_form.specs.Form.{entriesOf, mapIn, isForm, reading}
 use Rattle.one_map.specs.Events.{Proper, valueAt, Event, insert, remove, bulkInsert, clear, readBytes, happens, afterEvents, lastValue}
@@ -94,22 +95,22 @@ unfolding ranges entriesOf
 ranges-entries kind m = entries-ranges kind (m .count) (m .starts) (m .ends) (m .values)
 
 -- bytes that are read leave the map that stands in them
-pub read-done : (m : Stored) (bs : List ℕ) → reading m bs .answer ≡ 0 → reading m bs ≡ leaving 0 (mapIn bs)
+pub read-done : (m : Stored) (bs : List ℕ) → reading rm01 m bs .answer ≡ 0 → reading rm01 m bs ≡ leaving 0 (mapIn rm01 bs)
 unfolding reading
-read-done m bs z = go (isForm bs) z
+read-done m bs z = go (isForm rm01 bs) z
   where
-    go : (t : Bool) → cond t (leaving 0 (mapIn bs)) (leaving 6 m) .answer ≡ 0 → cond t (leaving 0 (mapIn bs)) (leaving 6 m) ≡ leaving 0 (mapIn bs)
+    go : (t : Bool) → cond t (leaving 0 (mapIn rm01 bs)) (leaving 6 m) .answer ≡ 0 → cond t (leaving 0 (mapIn rm01 bs)) (leaving 6 m) ≡ leaving 0 (mapIn rm01 bs)
     go true z = refl
     go false z = absurd (omega arith)
 
 -- read: the ranges of that map, put one after the other
-read-left : {m : Stored} → (bs : List ℕ) → Bytes bs → reading m bs .answer ≡ 0
-    → Left halfOpen m (reading m bs .left) (anew (map entryChange (entriesOf (mapIn bs))))
+read-left : {m : Stored} → (bs : List ℕ) → Bytes bs → reading rm01 m bs .answer ≡ 0
+    → Left halfOpen m (reading rm01 m bs .left) (anew (map entryChange (entriesOf (mapIn rm01 bs))))
 read-left {m} bs fit z =
-    let xs : List Entry = entriesOf (mapIn bs) in
+    let xs : List Entry = entriesOf (mapIn rm01 bs) in
     let is = read-done m bs z in
     let p = read-proper m bs fit is .0 in
-    let r : ranges halfOpen (mapIn bs) ≡ map (range halfOpen) xs = ranges-entries halfOpen (mapIn bs) in
+    let r : ranges halfOpen (mapIn rm01 bs) ≡ map (range halfOpen) xs = ranges-entries halfOpen (mapIn rm01 bs) in
     let o : Ordered 0 (map (range halfOpen) xs) = subst (Ordered 0) r (proper-tidy p .ordered) in
     subst (λ (l : Edited). Left halfOpen m (l .left) (anew (map entryChange xs))) (sym is) (record {
       proper = p;
@@ -126,10 +127,10 @@ module _ {kind : Kind} (law : Lawful kind) where
   event-left (bulkInsert xs) p = bulk-left law p xs
   event-left clear {m} p = clear-left law m
   event-left (readBytes is bs fit) {m} p =
-      let cs : List Change = map entryChange (entriesOf (mapIn bs)) in
-      let as-read : reading m bs .answer ≡ 0 → Left kind m (reading m bs .left) (anew cs) =
-      λ z. subst (λ (k : Kind). Left k m (reading m bs .left) (anew cs)) (sym is) (read-left bs fit z) in
-      done-or-not (reading m bs) (anew cs) p as-read (read-unchanged m bs)
+      let cs : List Change = map entryChange (entriesOf (mapIn rm01 bs)) in
+      let as-read : reading rm01 m bs .answer ≡ 0 → Left kind m (reading rm01 m bs .left) (anew cs) =
+      λ z. subst (λ (k : Kind). Left k m (reading rm01 m bs .left) (anew cs)) (sym is) (read-left bs fit z) in
+      done-or-not (reading rm01 m bs) (anew cs) p as-read (read-unchanged m bs)
 
   -- an event leaves a well-formed map
   pub event-proper : (x : Event kind) {m : Stored} → Proper kind m → Proper kind (happens x m .left)

@@ -27,7 +27,7 @@ use Rattle.outcomes.specs.declared.Found.{Found}
 use Rattle.outcomes.specs.declared.Found.the-variants as Found
 use Rattle.outcomes.proofs.Formed.{formed, shape, good, length-ranges, getD-ranges}
 use Rattle.outcomes.proofs.Storing.{map-take, starts-back, ends-back, values-back, upto-ranges}
-use Rattle.byte_form.proofs.Forms.{filled-take}
+use Rattle.byte_form.proofs.Entries.{filled-take}
 use Rattle.one_map.specs.Events.{Proper, valueOf, valueAt}
 
 -- a lookup that tells a value answers 0, with that value

@@ -11,7 +11,9 @@ use Rattle.key.proofs.Lawful.{Lawful, half-open}
 use Rattle.outcomes.specs.Stored.{Stored}
 use Rattle.outcomes.specs.Outcomes.{Entry, entries, leaving, cleared, inserting, removing, extending}
 use Rattle.outcomes.proofs.Edits.{ranges-cleared}
+use Rattle.byte_form.specs.Layout.{rm01}
 use Rattle.byte_form.specs.Form.{entriesOf, formOf, reading, InMemory}
+use Rattle.byte_form.proofs.Lawful.{rm01-lawful}
 use Rattle.byte_form.proofs.Forms.{write-read, read-write}
 use Rattle.one_map.specs.Events.{Proper, Event, insert, remove, bulkInsert, clear, readBytes, afterEvents, entryChange, effect}
 use Rattle.one_map.specs.Events.{EntriesU8, ValuesU8, AllU8}
@@ -47,7 +49,7 @@ event-u8 {kind} (insert s e v) m u = accepted-gives IsU8 (inserting kind m s e v
 event-u8 {kind} (remove s e) m u = accepted-gives IsU8 (removing kind m s e) _ (λ z. (tt, tt))
 event-u8 {kind} (bulkInsert xs) m u = entries-u8 (extending kind m xs .told .applied) xs u
 event-u8 clear m u = tt
-event-u8 (readBytes is bs fit) m u = accepted-gives IsU8 (reading m bs) _ (λ z. memory-u8 (read-write m bs fit (read-done m bs z) .memory))
+event-u8 (readBytes is bs fit) m u = accepted-gives IsU8 (reading rm01 m bs) _ (λ z. memory-u8 (read-write rm01-lawful m bs fit (read-done m bs z) .memory))
 
 module _ {kind : Kind} (law : Lawful kind) where
   events-u8 : (xs : List (Event kind)) {m : Stored} → Proper kind m → AllU8 xs → Holds IsU8 kind m → Holds IsU8 kind (afterEvents xs m)
@@ -76,5 +78,5 @@ module _ {kind : Kind} (law : Lawful kind) where
 
 -- WRITTEN AND READ BACK: what any events leave of a half-open map is read from its written form, whatever map is overwritten
 pub history-read-back : (xs : List (Event halfOpen)) → AllU8 xs → (old : Stored)
-    → reading old (formOf (afterEvents xs (cleared halfOpen))) ≡ leaving 0 (afterEvents xs (cleared halfOpen))
-history-read-back xs u old = write-read old (history-memory half-open xs u) (proper-formed (events-proper half-open xs (clear-proper half-open)))
+    → reading rm01 old (formOf rm01 (afterEvents xs (cleared halfOpen))) ≡ leaving 0 (afterEvents xs (cleared halfOpen))
+history-read-back xs u old = write-read rm01-lawful old (history-memory half-open xs u) (proper-formed (events-proper half-open xs (clear-proper half-open)))

@@ -19,7 +19,7 @@ use Rattle.key.proofs.Laws.{rank-key}
 use Rattle.key.proofs.Lawful.{Lawful}
 use Rattle.outcomes.specs.Stored.{Stored, ranges}
 use Rattle.outcomes.specs.Outcomes.{writing, uncovered, gapsIn}
-use Rattle.outcomes.specs.Sets.{plain, SoundSet, unionOf, totalIs, intersected, joining, totalled, intersecting, uniting, totalling}
+use Rattle.outcomes.specs.Sets.{plain, SoundSet, totalIs, intersected, joining, totalled, intersecting, uniting, totalling}
 use Rattle.outcomes.proofs.Storing.{upto-ranges}
 use Rattle.outcomes.proofs.Sets.{covers, plain-ranges, intersection-points, union-points, union-neighbours}
 use Rattle.one_map.specs.Events.{Proper, valueAt}
@@ -103,7 +103,7 @@ module _ {kind : Kind} {a b : Stored} (p : Proper kind a) (q : Proper kind b) (y
   pub one-union : (xs : List Span) → Ordered 0 xs → Plain xs → ((k : ℕ) → covers xs k ≡ (covers (ranges kind a) k || covers (ranges kind b) k))
       → ((k : ℕ) → any (links k) xs ≡ (any (links k) (ranges kind a) || any (links k) (ranges kind b)))
       → (starts ends : List ℤ) → uniting kind a b starts ends ≡ writing kind xs starts ends
-  unfolding uniting joining unionOf
+  unfolding uniting joining
   one-union xs o l points pairs starts ends =
       let u = ordered-united 0 (ranges kind a) (ranges kind b) (proper-tidy p .ordered) (proper-tidy q .ordered) in
       let v = plain-united (ranges kind a) (ranges kind b) (plain-ranges kind a y) (plain-ranges kind b z) in

@@ -28,8 +28,10 @@ use Rattle.outcomes.specs.declared.Found.the-variants as Found
 use Rattle.outcomes.proofs.Formed.{shape, good, length-ranges}
 use Rattle.outcomes.proofs.Storing.{sound-storing, length-storing, upto-ranges}
 use Rattle.outcomes.proofs.Edits.{accepted, done, edit-ranges, edit-sound, edit-length, ranges-cleared}
+use Rattle.byte_form.specs.Layout.{rm01}
 use Rattle.byte_form.specs.Bytes.{Bytes}
 use Rattle.byte_form.specs.Form.{formOf, reading, InMemory}
+use Rattle.byte_form.proofs.Lawful.{rm01-lawful}
 use Rattle.byte_form.proofs.Forms.{write-read, read-write}
 use Rattle.one_map.specs.Events.{Proper, valueOf, valueAt, inRange}
 use Rattle.one_map.proofs.Known.{proper-formed, proper-tidy, value-at, each-instant, stored-again, same-ranges, same-lookups}
@@ -158,9 +160,9 @@ memory-proper {kind} {m} i w = record {
 }
 
 -- READ leaves a proper map, whose written form the bytes are
-pub read-proper : {m : Stored} (old : Stored) (bs : List ℕ) → Bytes bs → reading old bs ≡ leaving 0 m → Proper halfOpen m × (formOf m ≡ bs)
-read-proper old bs fit is = let r = read-write old bs fit is in (memory-proper (r .memory) (r .well), r .bytes)
+pub read-proper : {m : Stored} (old : Stored) (bs : List ℕ) → Bytes bs → reading rm01 old bs ≡ leaving 0 m → Proper halfOpen m × (formOf rm01 m ≡ bs)
+read-proper old bs fit is = let r = read-write rm01-lawful old bs fit is in (memory-proper (r .memory) (r .well), r .bytes)
 
 -- THE ONE MAP OF SOME BYTES: where some well-formed map has them as its written form, they are read, and what is left is that map
-pub one-read : {b : Stored} (old : Stored) (bs : List ℕ) → InMemory b → formed halfOpen b ≡ true → formOf b ≡ bs → reading old bs ≡ leaving 0 b
-one-read old bs i w form = ap (reading old) (sym form) ∙ write-read old i w
+pub one-read : {b : Stored} (old : Stored) (bs : List ℕ) → InMemory b → formed halfOpen b ≡ true → formOf rm01 b ≡ bs → reading rm01 old bs ≡ leaving 0 b
+one-read old bs i w form = ap (reading rm01 old) (sym form) ∙ write-read rm01-lawful old i w

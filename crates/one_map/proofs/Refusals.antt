@@ -12,7 +12,7 @@ use lib.ListN.{length, getD, drop, length-append, length-drop, length-map}
 use lib.Seq.{getD-append-add, getD-drop}
 use lib.IntN.{ℤ, pos}
 use Rattle.span.specs.Span.{Span, given}
-use Rattle.span.specs.Operations.{gaps, overlaps, any, holds, common, total}
+use Rattle.span.specs.Operations.{gaps, overlaps, any, holds, common, united, total}
 use Rattle.key.specs.Rank.{rank, keys, keyAt}
 use Rattle.key.specs.Range.{Kind, halfOpen, rangeOf, empty}
 use Rattle.outcomes.specs.Stored.{places, Stored, ranges, storing, wellFormed}
@@ -21,7 +21,7 @@ use Rattle.outcomes.specs.Numbers as Numbers
 use Rattle.outcomes.specs.Outcomes.{yesNo, comparedBy, isEqual, firstPlace, howMany, partOf, Entry, over, Written, Edited, leaving, extended}
 use Rattle.outcomes.specs.Outcomes.{placed, found, met, metPart, writing, uncovered, compared, editing, formed}
 use Rattle.outcomes.specs.Outcomes.{rangeAt, lookup, meeting, overlapping, gapsIn, ordering, equality, edited, extending}
-use Rattle.outcomes.specs.Sets.{plain, unionOf, totalIs, notWritten, intersected, joining, totalled, formedSet, intersecting, uniting, totalling}
+use Rattle.outcomes.specs.Sets.{plain, totalIs, notWritten, intersected, joining, totalled, formedSet, intersecting, uniting, totalling}
 use Rattle.outcomes.specs.declared.Asked.{Asked}
 use Rattle.outcomes.specs.declared.Asked.the-variants as Asked
 use Rattle.outcomes.specs.declared.Counted.{Counted}
@@ -34,6 +34,7 @@ use Rattle.outcomes.specs.declared.Compared.{Compared}
 use Rattle.outcomes.specs.declared.Compared.the-variants as Compared
 use Rattle.outcomes.specs.declared.Totalled.{Totalled}
 use Rattle.outcomes.specs.declared.Totalled.the-variants as Totalled
+use Rattle.byte_form.specs.Layout.{rm01}
 use Rattle.byte_form.specs.Form.{formOf, Output, output, mapIn, isForm, reading}
 use Rattle.byte_form.specs.Form as Form
 
@@ -89,11 +90,11 @@ module _ (kind : Kind) (m : Stored) (s e : ℤ) (new : Option ℕ) where
       go true false false n = absurd (n refl)
 
 -- a map that is read
-pub read-unchanged : (m : Stored) (bs : List ℕ) → (reading m bs .answer ≡ 0 → ⊥) → reading m bs .left ≡ m
+pub read-unchanged : (m : Stored) (bs : List ℕ) → (reading rm01 m bs .answer ≡ 0 → ⊥) → reading rm01 m bs .left ≡ m
 unfolding reading
-read-unchanged m bs n = go (isForm bs) n
+read-unchanged m bs n = go (isForm rm01 bs) n
   where
-    go : (t : Bool) → (cond t (leaving 0 (mapIn bs)) (leaving 6 m) .answer ≡ 0 → ⊥) → cond t (leaving 0 (mapIn bs)) (leaving 6 m) .left ≡ m
+    go : (t : Bool) → (cond t (leaving 0 (mapIn rm01 bs)) (leaving 6 m) .answer ≡ 0 → ⊥) → cond t (leaving 0 (mapIn rm01 bs)) (leaving 6 m) .left ≡ m
     go true n = absurd (n refl)
     go false n = refl
 
@@ -171,12 +172,12 @@ pub record BytesKept (o : Output) (out : List ℕ) : Type 0 where
   pub long : length (o .out) ≡ length out
 
 -- the writer of bytes
-pub write-kept : (m : Stored) (out : List ℕ) → BytesKept (Form.writing m out) out
+pub write-kept : (m : Stored) (out : List ℕ) → BytesKept (Form.writing rm01 m out) out
 unfolding Form.writing Form.put
 write-kept m out = go (formed halfOpen m) (ltb (length out) (length bs)) refl
   where
     bs : List ℕ
-    bs = formOf m
+    bs = formOf rm01 m
 
     go : (f t : Bool) → ltb (length out) (length bs) ≡ t
         → BytesKept (cond f (cond t (output (Counted.Refused 3) out) (output (Counted.Count (length bs)) (bs ++ drop (length bs) out)))
@@ -379,10 +380,10 @@ module _ (kind : Kind) where
   -- UNION: 4 of the first set, then 4 of the second, 3
   pub union-order : (a b : Stored) (starts ends : List ℤ)
       → listNumber (uniting kind a b starts ends)
-      ≡ firstNumber (notFormed kind a ∷ noSet a ∷ notFormed kind b ∷ noSet b ∷ tooShort (unionOf (ranges kind a) (ranges kind b)) starts ends ∷ [])
+      ≡ firstNumber (notFormed kind a ∷ noSet a ∷ notFormed kind b ∷ noSet b ∷ tooShort (united (ranges kind a) (ranges kind b)) starts ends ∷ [])
   unfolding uniting joining
   union-order a b starts ends =
-      all-pass listNumber (formed kind a) (plain a) (formed kind b) (plain b) refl (writing-order (unionOf (ranges kind a) (ranges kind b)) starts ends)
+      all-pass listNumber (formed kind a) (plain a) (formed kind b) (plain b) refl (writing-order (united (ranges kind a) (ranges kind b)) starts ends)
 
   -- TOTAL: 4, 9
   pub total-order : (m : Stored) → totalNumber (totalling kind m) ≡ firstNumber (notFormed kind m ∷ noSet m ∷ totalOver (ranges kind m) ∷ [])
@@ -391,6 +392,6 @@ module _ (kind : Kind) where
 
 -- THE WRITER of bytes: 4, 3
 pub write-order : (m : Stored) (out : List ℕ)
-    → bytesNumber (Form.writing m out) ≡ firstNumber (notFormed halfOpen m ∷ refuse (ltb (length out) (length (formOf m))) 3 ∷ [])
+    → bytesNumber (Form.writing rm01 m out) ≡ firstNumber (notFormed halfOpen m ∷ refuse (ltb (length out) (length (formOf rm01 m))) 3 ∷ [])
 unfolding Form.writing Form.put
-write-order m out = lets-pass bytesNumber (formed halfOpen m) refl (refuses bytesNumber (ltb (length out) (length (formOf m))) refl refl)
+write-order m out = lets-pass bytesNumber (formed halfOpen m) refl (refuses bytesNumber (ltb (length out) (length (formOf rm01 m))) refl refl)

@@ -15,6 +15,7 @@ use Rattle.outcomes.specs.Stored.{places, Stored, Sound}
 use Rattle.outcomes.specs.Outcomes.{Entry, Edited, leaving, Change, lookup, cleared, inserting, removing, extending, changes}
 use Rattle.outcomes.specs.declared.Found.{Found}
 use Rattle.outcomes.specs.declared.Found.the-variants as Found
+use Rattle.byte_form.specs.Layout.{rm01}
 use Rattle.byte_form.specs.Bytes.{Bytes}
 use Rattle.byte_form.specs.Form.{entriesOf, mapIn, reading}
 
@@ -68,7 +69,7 @@ happens {kind} (insert s e v) m = inserting kind m s e v
 happens {kind} (remove s e) m = removing kind m s e
 happens {kind} (bulkInsert xs) m = leaving (extending kind m xs .told .answer) (extending kind m xs .left)
 happens {kind} clear m = leaving 0 (cleared kind)
-happens {kind} (readBytes is bs fit) m = reading m bs
+happens {kind} (readBytes is bs fit) m = reading rm01 m bs
 
 -- the map after some events
 unfoldable pub afterEvents : {kind : Kind} → List (Event kind) → Stored → Stored
@@ -102,7 +103,7 @@ effect {kind} (insert s e v) m = ifAccepted (inserting kind m s e v) (changed (r
 effect {kind} (remove s e) m = ifAccepted (removing kind m s e) (changed (record { start = s; end = e; new = none } ∷ []))
 effect {kind} (bulkInsert xs) m = changed (map entryChange (take (extending kind m xs .told .applied) xs))
 effect {kind} clear m = anew []
-effect {kind} (readBytes is bs fit) m = ifAccepted (reading m bs) (anew (map entryChange (entriesOf (mapIn bs))))
+effect {kind} (readBytes is bs fit) m = ifAccepted (reading rm01 m bs) (anew (map entryChange (entriesOf (mapIn rm01 bs))))
 
 -- what an effect leaves at a key where old was held: what the last change over the key gives, or else old, unless all that was held is gone
 unfoldable pub leftAt : Kind → Effect → ℤ → Option ℕ → Option ℕ
