@@ -16,7 +16,7 @@ use Rattle.range_list.specs.InnerLists.{Room}
 use Rattle.two_sets.specs.InnerKind.{wide}
 use Rattle.two_sets.specs.InnerSides.{Side}
 use Rattle.two_sets.specs.InnerLists.{Going}
-use Rattle.two_sets.specs.declared.Reached.{Reached}
+use Rattle.two_sets.specs.declared.Position.{Position}
 
 -- what the two sets have in common
 abbrev pub shared : RangeKind → List ℤ → List ℤ → ℕ → List ℤ → List ℤ → ℕ → List Span
@@ -31,11 +31,11 @@ abbrev pub piece : RangeKind → ℤ → ℤ → Span
 piece kind s e = span (rank s) (wide kind + rank e) 0
 
 -- what is still to be written where the walk is: the open range, and what the sets have in common from there on
-abbrev pub openShared : RangeKind → List ℤ → List ℤ → ℕ → List ℤ → List ℤ → ℕ → Reached → List Span
+abbrev pub openShared : RangeKind → List ℤ → List ℤ → ℕ → List ℤ → List ℤ → ℕ → Position → List Span
 openShared kind sa ea na sb eb nb r = piece kind (r .start) (r .end) ∷ sharedFrom kind sa ea na (r .i) sb eb nb (r .j)
 
 -- the walk may go on from where it is: both places are in their sets, and the lent lists have room for what is still to be written
-pub record Ready (kind : RangeKind) (sa ea : List ℤ) (na : ℕ) (sb eb : List ℤ) (nb : ℕ) (r : Reached) (os oe : List ℤ) : Type 0 where
+pub record Ready (kind : RangeKind) (sa ea : List ℤ) (na : ℕ) (sb eb : List ℤ) (nb : ℕ) (r : Position) (os oe : List ℤ) : Type 0 where
   pub side-a : Side (kindOf kind) sa ea na
   pub side-b : Side (kindOf kind) sb eb nb
   pub in-a : r .i ≤ na
@@ -43,7 +43,7 @@ pub record Ready (kind : RangeKind) (sa ea : List ℤ) (na : ℕ) (sb eb : List 
   pub room : Room (r .at) (openShared kind sa ea na sb eb nb r) os oe
 
 -- it has gone on to another place: what was written on the way, and what is still to be
-pub record Gone (kind : RangeKind) (sa ea : List ℤ) (na : ℕ) (sb eb : List ℤ) (nb : ℕ) (r : Reached) (os oe : List ℤ) (r₁ : Reached) (os₁ oe₁ : List ℤ)
+pub record Gone (kind : RangeKind) (sa ea : List ℤ) (na : ℕ) (sb eb : List ℤ) (nb : ℕ) (r : Position) (os oe : List ℤ) (r₁ : Position) (os₁ oe₁ : List ℤ)
     : Type 0 where
   pub in-a : r₁ .i ≤ na
   pub in-b : r₁ .j ≤ nb

@@ -5,7 +5,7 @@ mod walk;
 use crate::walk::step;
 use crate::walk::write_from;
 use key::RangeKind;
-use two_sets::Reached;
+use two_sets::Position;
 ghost use mathlib.Core.Path.{_≡_};
 ghost use lib.ListN.{length};
 ghost use Rattle.key.specs.Range.{kindOf};
@@ -68,7 +68,7 @@ pub fn write(
         i += s.left as usize;
         j += !s.left as usize;
         if s.found {
-            let first = Reached {
+            let first = Position {
                 at: 0,
                 i,
                 j,

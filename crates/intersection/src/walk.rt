@@ -1,7 +1,7 @@
 // THE WALK over two sets that finds what they have in common, with two positions; the range that ends first goes.
 use key::RangeKind;
 use range_list::put;
-use two_sets::Reached;
+use two_sets::Position;
 use two_sets::meets;
 use two_sets::pick;
 ghost use mathlib.Core.Path.{_≡_};
@@ -113,10 +113,10 @@ fn write_most(
     starts_b: &[i64],
     ends_b: &[i64],
     count_b: usize,
-    from: Reached,
+    from: Position,
     out_starts: &mut [i64],
     out_ends: &mut [i64],
-) -> Reached
+) -> Position
     requires { ⌜ Ready kind (now «starts_a») (now «ends_a») «count_a» (now «starts_b») (now «ends_b») «count_b» from (now «out_starts») (now «out_ends») ⌝ }
     ensures { λ r. ⌜ Gone kind (now («starts_a» .entry)) (now («ends_a» .entry)) «count_a» (now («starts_b» .entry)) (now («ends_b» .entry)) «count_b»
         from (now («out_starts» .entry)) (now («out_ends» .entry)) r (now («out_starts» .exit)) (now («out_ends» .exit)) ⌝ }
@@ -139,7 +139,7 @@ fn write_most(
         lo = pick(t.found, t.start, lo);
         hi = pick(t.found, t.end, hi);
     }
-    Reached {
+    Position {
         at,
         i,
         j,
@@ -157,7 +157,7 @@ fn write_rest(
     starts_b: &[i64],
     ends_b: &[i64],
     count_b: usize,
-    from: Reached,
+    from: Position,
     out_starts: &mut [i64],
     out_ends: &mut [i64],
 ) -> usize
@@ -193,7 +193,7 @@ pub fn write_from(
     starts_b: &[i64],
     ends_b: &[i64],
     count_b: usize,
-    from: Reached,
+    from: Position,
     out_starts: &mut [i64],
     out_ends: &mut [i64],
 ) -> usize

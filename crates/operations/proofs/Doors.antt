@@ -9,26 +9,26 @@ use Rattle.key.specs.Range.{Kind, kindOf}
 use Rattle.key.specs.declared.RangeKind.{RangeKind}
 use Rattle.outcomes.specs.Stored.{Stored}
 use Rattle.outcomes.specs.Outcomes.{Written, writing}
-use Rattle.outcomes.specs.Sets.{SoundSet, formedSet, notWritten, intersected, unionOf, joining, intersecting, uniting}
+use Rattle.outcomes.specs.Sets.{SoundSet, formedSet, notWritten, intersected, joining, intersecting, uniting}
 use Rattle.two_sets.specs.InnerSides.{Side}
 use Rattle.two_sets.proofs.Doors.{rows-are}
 use Rattle.intersection.proofs.Steps as intersection
 use Rattle.union.proofs.Steps as union
-use Rattle.operations.specs.InnerOperation.{found, combined, combinedAny}
+use Rattle.operations.specs.InnerOperation.{foundBy, combined, combinedAny}
 use Rattle.operations.specs.declared.Operation.{Operation}
 use Rattle.operations.specs.declared.Operation.the-variants as Operation
 
 -- at most as many ranges as the sets have together
 pub most : (operation : Operation) (kind : RangeKind) {sa ea sb eb : List ℤ} {na nb : ℕ} → Side (kindOf kind) sa ea na → Side (kindOf kind) sb eb nb
-    → length (found operation kind sa ea na sb eb nb) ≤ na + nb
+    → length (foundBy operation kind sa ea na sb eb nb) ≤ na + nb
 most Operation.Intersection = intersection.most
 most Operation.Union = union.most
 
 -- THE UNCHECKED DOOR
 pub answered : (operation : Operation) (kind : RangeKind) {a b : Stored} → SoundSet (kindOf kind) a → SoundSet (kindOf kind) b → (os oe : List ℤ) {w : Written}
-    → w ≡ writing (kindOf kind) (found operation kind (a .starts) (a .ends) (a .count) (b .starts) (b .ends) (b .count)) os oe
+    → w ≡ writing (kindOf kind) (foundBy operation kind (a .starts) (a .ends) (a .count) (b .starts) (b .ends) (b .count)) os oe
     → w ≡ combined operation (kindOf kind) a b os oe
-unfolding intersected unionOf joining
+unfolding intersected joining
 answered Operation.Intersection kind s t os oe e = rw (← rows-are (kindOf kind) s, ← rows-are (kindOf kind) t) e
 answered Operation.Union kind s t os oe e = rw (← rows-are (kindOf kind) s, ← rows-are (kindOf kind) t) e
 

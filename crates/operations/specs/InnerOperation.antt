@@ -14,9 +14,9 @@ use Rattle.operations.specs.declared.Operation.{Operation}
 use Rattle.operations.specs.declared.Operation.the-variants as Operation
 
 -- the ranges that its walk finds in two sets that are lent as columns
-abbrev pub found : Operation → RangeKind → List ℤ → List ℤ → ℕ → List ℤ → List ℤ → ℕ → List Span
-found Operation.Intersection = shared
-found Operation.Union = either
+abbrev pub foundBy : Operation → RangeKind → List ℤ → List ℤ → ℕ → List ℤ → List ℤ → ℕ → List Span
+foundBy Operation.Intersection = shared
+foundBy Operation.Union = either
 
 -- what it answers of two sets that are sound
 abbrev pub combined : Operation → Kind → Stored → Stored → List ℤ → List ℤ → Written

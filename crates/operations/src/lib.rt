@@ -18,7 +18,7 @@ ghost use Rattle.outcomes.specs.Sets.{SoundSet};
 ghost use Rattle.range_list.specs.InnerLists.{wrote, Room};
 ghost use Rattle.two_sets.specs.InnerSides.{Side};
 ghost use Rattle.two_sets.specs.InnerLists.{Ended};
-ghost use Rattle.operations.specs.InnerOperation.{found, combined, combinedAny};
+ghost use Rattle.operations.specs.InnerOperation.{foundBy, combined, combinedAny};
 
 // The operations: what two sets have in common, and what either has.
 pub enum Operation {
@@ -39,7 +39,7 @@ fn counted(
 ) -> usize
     requires { ⌜ Side (kindOf kind) (now «starts_a») (now «ends_a») «count_a»
         × Side (kindOf kind) (now «starts_b») (now «ends_b») «count_b» ⌝ }
-    ensures { λ r. ⌜ r ≡ length (found operation kind (now («starts_a» .entry)) (now («ends_a» .entry)) «count_a»
+    ensures { λ r. ⌜ r ≡ length (foundBy operation kind (now («starts_a» .entry)) (now («ends_a» .entry)) «count_a»
         (now («starts_b» .entry)) (now («ends_b» .entry)) «count_b») ⌝ }
 {
     match operation {
@@ -79,9 +79,9 @@ fn write(
 ) -> usize
     requires { ⌜ Side (kindOf kind) (now «starts_a») (now «ends_a») «count_a»
         × Side (kindOf kind) (now «starts_b») (now «ends_b») «count_b»
-        × Room 0 (found operation kind (now «starts_a») (now «ends_a») «count_a» (now «starts_b») (now «ends_b») «count_b»)
+        × Room 0 (foundBy operation kind (now «starts_a») (now «ends_a») «count_a» (now «starts_b») (now «ends_b») «count_b»)
         (now «out_starts») (now «out_ends») ⌝ }
-    ensures { λ r. ⌜ Ended (kindOf kind) 0 (found operation kind (now («starts_a» .entry)) (now («ends_a» .entry)) «count_a»
+    ensures { λ r. ⌜ Ended (kindOf kind) 0 (foundBy operation kind (now («starts_a» .entry)) (now («ends_a» .entry)) «count_a»
         (now («starts_b» .entry)) (now («ends_b» .entry)) «count_b»)
         (now («out_starts» .entry)) (now («out_ends» .entry)) r (now («out_starts» .exit)) (now («out_ends» .exit)) ⌝ }
 {
@@ -125,7 +125,7 @@ fn fits(
 ) -> bool
     requires { ⌜ Side (kindOf kind) (now «starts_a») (now «ends_a») «count_a»
         × Side (kindOf kind) (now «starts_b») (now «ends_b») «count_b» ⌝ }
-    ensures { λ r. ⌜ Decides r (length (found operation kind (now («starts_a» .entry)) (now («ends_a» .entry)) «count_a»
+    ensures { λ r. ⌜ Decides r (length (foundBy operation kind (now («starts_a» .entry)) (now («ends_a» .entry)) «count_a»
         (now («starts_b» .entry)) (now («ends_b» .entry)) «count_b») ≤ room) ⌝ }
 {
     if roomy(count_a, count_b, room) {

@@ -9,7 +9,7 @@ use Rattle.key.specs.Rank.{place, bitRank, keyAt}
 use Rattle.key.specs.Range.{Kind, halfOpen, inclusive, rangeOf}
 use Rattle.outcomes.specs.Stored.{places, Stored, spans, ranges, filled, storing, zeros, noughts, unused, wellFormed}
 use Rattle.outcomes.specs.Outcomes.{Entry, Written, writing}
-use Rattle.outcomes.specs.Sets.{plain, unionOf, totalIs, notWritten, intersected, joining, totalled, intersecting, uniting, totalling}
+use Rattle.outcomes.specs.Sets.{plain, totalIs, notWritten, intersected, joining, totalled, intersecting, uniting, totalling}
 use Rattle.outcomes.specs.declared.Counted.the-variants as Counted
 use Rattle.outcomes.specs.declared.Totalled.the-variants as Totalled
 
@@ -35,7 +35,7 @@ lent = pos 70 ∷ pos 80 ∷ pos 90 ∷ []
 
 -- `unfolding all` opens every definition that a case computes with
 unfoldable all : Unit {0}
-unfolding inside keep before after joins tidy push joined within parts common overlaps merged absorb united total place bitRank keyAt spans ranges filled storing zeros noughts unused wellFormed writing plain unionOf totalIs intersected joining totalled intersecting uniting totalling
+unfolding inside keep before after joins tidy push joined within parts common overlaps merged absorb united total place bitRank keyAt spans ranges filled storing zeros noughts unused wellFormed writing plain totalIs intersected joining totalled intersecting uniting totalling
 all = tt
 
 -- Half-open: ranges that only touch stay apart; ranges that overlap become one

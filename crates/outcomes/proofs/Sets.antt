@@ -1,4 +1,5 @@
--- What the outcomes of sets mean, for both kinds, of any two sound sets: the points of a union and of an intersection, their totals, and that neither depends on the order.
+-- What the outcomes of sets mean, for both kinds, of any two sound sets: the points of a union and of an intersection, their totals,
+-- and that neither depends on the order.
 use Prim.Native.Nat.{ℕ, zero, suc, _+_, _-_, _≤_}
 use native.Mathlib.Omega.{arith}
 use mathlib.Core.Path.{_≡_, refl, sym, ap, _∙_}
@@ -20,7 +21,7 @@ use Rattle.key.specs.Range.{Kind}
 use Rattle.key.proofs.Answers.{one-answer}
 use Rattle.outcomes.specs.Stored.{Stored, spans, ranges, noughts}
 use Rattle.outcomes.specs.Outcomes.{Written}
-use Rattle.outcomes.specs.Sets.{plain, SoundSet, unionOf, intersected}
+use Rattle.outcomes.specs.Sets.{plain, SoundSet, intersected}
 use Rattle.outcomes.specs.declared.Counted.{Counted}
 use Rattle.outcomes.proofs.Formed.{Formed, formed, length-ranges}
 
@@ -84,7 +85,8 @@ module _ (kind : Kind) {a b : Stored} (s : SoundSet kind a) (t : SoundSet kind b
       let y = ranges kind b in
       let c = common-means x y (set-ordered kind s) (set-ordered kind t) in
       both-hold (covers (common x y) k) (covers x k) (covers y k)
-      (sym (at-plain (common x y) k (common-plain x y (set-ordered kind s) (set-ordered kind t) (set-plain kind t))) ∙ c .holds k ∙ rw (at-plain x k (set-plain kind s), at-plain y k (set-plain kind t)))
+      (sym (at-plain (common x y) k (common-plain x y (set-ordered kind s) (set-ordered kind t) (set-plain kind t))) ∙ c .holds k
+      ∙ rw (at-plain x k (set-plain kind s), at-plain y k (set-plain kind t)))
 
   -- it is the same list either way, and so is what is written
   pub intersection-swaps : common (ranges kind a) (ranges kind b) ≡ common (ranges kind b) (ranges kind a)
@@ -95,32 +97,31 @@ module _ (kind : Kind) {a b : Stored} (s : SoundSet kind a) (t : SoundSet kind b
   intersected-swaps starts ends = rw intersection-swaps
 
   -- UNION: an instant is in it exactly when it is in one of the two. This says nothing of neighbours
-  pub union-points : (k : ℕ) → covers (unionOf (ranges kind a) (ranges kind b)) k ≡ (covers (ranges kind a) k || covers (ranges kind b) k)
-  unfolding unionOf
+  pub union-points : (k : ℕ) → covers (united (ranges kind a) (ranges kind b)) k ≡ (covers (ranges kind a) k || covers (ranges kind b) k)
   union-points k = holds-united k (ranges kind a) (ranges kind b) (set-ordered kind s) (set-ordered kind t)
 
   -- two neighbouring instants lie in one range of it exactly when one range of either set holds both
-  pub union-neighbours : (k : ℕ) → any (links k) (unionOf (ranges kind a) (ranges kind b)) ≡ (any (links k) (ranges kind a) || any (links k) (ranges kind b))
-  unfolding unionOf
+  pub union-neighbours : (k : ℕ) → any (links k) (united (ranges kind a) (ranges kind b)) ≡ (any (links k) (ranges kind a) || any (links k) (ranges kind b))
   union-neighbours k = links-united k (ranges kind a) (ranges kind b) (set-ordered kind s) (set-ordered kind t)
 
-  pub union-swaps : unionOf (ranges kind a) (ranges kind b) ≡ unionOf (ranges kind b) (ranges kind a)
-  unfolding unionOf
+  pub union-swaps : united (ranges kind a) (ranges kind b) ≡ united (ranges kind b) (ranges kind a)
   union-swaps = united-swap (ranges kind a) (ranges kind b) (set-ordered kind s) (set-ordered kind t) (set-plain kind s) (set-plain kind t)
 
   -- AT MOST 1,023 ranges, and at most 1,024, at 512 places a set
   pub intersection-few : length (common (ranges kind a) (ranges kind b)) ≤ length (a .starts) + length (b .starts) - 1
   intersection-few = omega (arith, length-common (ranges kind a) (ranges kind b) (set-spaced kind s) (set-spaced kind t), set-few kind s, set-few kind t)
 
-  pub union-few : length (unionOf (ranges kind a) (ranges kind b)) ≤ length (a .starts) + length (b .starts)
-  unfolding unionOf
+  pub union-few : length (united (ranges kind a) (ranges kind b)) ≤ length (a .starts) + length (b .starts)
   union-few = omega (arith, length-united (ranges kind a) (ranges kind b), set-few kind s, set-few kind t)
 
   -- TOTALS: those of the union and of the intersection add up to those of the two sets
-  pub totals-add : total (unionOf (ranges kind a) (ranges kind b)) + total (common (ranges kind a) (ranges kind b)) ≡ total (ranges kind a) + total (ranges kind b)
-  unfolding unionOf
+  pub totals-add : total (united (ranges kind a) (ranges kind b)) + total (common (ranges kind a) (ranges kind b))
+      ≡ total (ranges kind a) + total (ranges kind b)
   totals-add = total-both (ranges kind a) (ranges kind b) (set-ordered kind s) (set-ordered kind t) (set-plain kind s) (set-plain kind t)
 
 -- ONE OUTCOME of a list that is written: the answer, and both lent lists. A total has `one-answer`
-pub written-one : {r t : Counted} {ss es ss′ es′ : List ℤ} {w : Written} → record { answer = r; starts = ss; ends = es } ≡ w → record { answer = t; starts = ss′; ends = es′ } ≡ w → (r ≡ t) × (ss ≡ ss′) × (es ≡ es′)
-written-one a b = (ap (λ (w : Written). w .answer) (one-answer a b), ap (λ (w : Written). w .starts) (one-answer a b), ap (λ (w : Written). w .ends) (one-answer a b))
+pub written-one : {r t : Counted} {ss es ss′ es′ : List ℤ} {w : Written}
+    → record { answer = r; starts = ss; ends = es } ≡ w → record { answer = t; starts = ss′; ends = es′ } ≡ w → (r ≡ t) × (ss ≡ ss′) × (es ≡ es′)
+written-one a b =
+    let same = one-answer a b in
+    (ap (λ (w : Written). w .answer) same, ap (λ (w : Written). w .starts) same, ap (λ (w : Written). w .ends) same)

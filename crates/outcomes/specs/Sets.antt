@@ -7,7 +7,6 @@ use mathlib.Core.Bool.{Bool, true, _&&_, cond}
 use mathlib.Core.List.{List}
 use lib.Dec.{ltb}
 use lib.IntN.{ℤ}
-use Rattle.span.specs.Span.{Span}
 use Rattle.span.specs.Operations.{common, united, total}
 use Rattle.key.specs.Rank.{keys}
 use Rattle.key.specs.Range.{Kind}
@@ -26,10 +25,6 @@ pub record SoundSet (kind : Kind) (m : Stored) : Type 0 where
   pub sound : Sound kind m
   pub plain-too : plain m ≡ true
 
--- the union of two sets, as document 01 has it: spans that overlap become one, and spans that only touch stay apart
-unfoldable pub unionOf : List Span → List Span → List Span
-unionOf a b = united a b
-
 -- a number of keys, where a u64 holds it, and else 9
 unfoldable pub totalIs : ℕ → Totalled
 totalIs n = cond (ltb n keys) (Totalled.Total n) (Totalled.Refused 9)
@@ -45,9 +40,10 @@ module _ (kind : Kind) where
   unfoldable pub intersected : Stored → Stored → List ℤ → List ℤ → Written
   intersected a b starts ends = writing kind (common (ranges kind a) (ranges kind b)) starts ends
 
-  -- the points of either, ascending and disjoint
+  -- the points of either, ascending and disjoint, as document 01 has them: ranges that overlap become one, and ranges that only touch stay apart.
+  -- Two theorems of proofs/Sets say what `united` is: `union-points` which points it has, `union-neighbours` which two neighbouring points lie in one range
   unfoldable pub joining : Stored → Stored → List ℤ → List ℤ → Written
-  joining a b starts ends = writing kind (unionOf (ranges kind a) (ranges kind b)) starts ends
+  joining a b starts ends = writing kind (united (ranges kind a) (ranges kind b)) starts ends
 
   -- how many keys are covered
   unfoldable pub totalled : Stored → Totalled

@@ -28,7 +28,7 @@ use Rattle.outcomes.specs.Stored.{places, Stored, ranges, filled, storing, noug
 use Rattle.outcomes.specs.Outcomes.{Edited, leaving, editing, edited, cleared, Change, run, changes, firstPlace, placed}
 use Rattle.outcomes.specs.Outcomes.{yesNo, found, contained, met, metPart, uncovered, compared}
 use Rattle.outcomes.specs.Outcomes.{isEmpty, counting, rangeAt, lookup, containing, meeting, overlapping, gapsIn, equality, ordering, inserts, Entry}
-use Rattle.outcomes.specs.Sets.{plain, SoundSet, unionOf, intersected, joining, intersecting, uniting}
+use Rattle.outcomes.specs.Sets.{plain, SoundSet, intersected, joining, intersecting, uniting}
 use Rattle.outcomes.specs.declared.Counted.the-variants as Counted
 use Rattle.outcomes.proofs.Formed.{formed, shape, length-ranges, getD-ranges, sound-held}
 use Rattle.outcomes.proofs.Storing.{upto-ranges, sound-storing, length-storing}
@@ -380,7 +380,7 @@ module _ (kind : Kind) (rust : Functions) (transcribed : Transcribed kind rust) 
     union = λ starts ends. record {
       list = united (ranges kind a) (ranges kind b);
       gave = same .union-same (ranges kind a) (ranges kind b) (kept-set a s l) (kept-set b t w);
-      same = unfold uniting in unfold joining in unfold unionOf in rw (well a l, well b w, s .plain-too, t .plain-too);
+      same = unfold uniting in unfold joining in rw (well a l, well b w, s .plain-too, t .plain-too);
     };
     intersection = λ starts ends. record {
       list = common (ranges kind a) (ranges kind b);

@@ -15,7 +15,7 @@ ghost use Rattle.outcomes.specs.Sets.{formedSet, SoundSet};
 ghost use Rattle.two_sets.specs.InnerKind.{wide};
 
 // Where a walk is: the first `at` places are written, it is at places `i` and `j` of the two sets, and the range from `start` to `end` is open.
-pub struct Reached {
+pub struct Position {
     pub at: usize,
     pub i: usize,
     pub j: usize,

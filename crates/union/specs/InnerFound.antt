@@ -12,7 +12,7 @@ use Rattle.key.specs.Range.{kindOf}
 use Rattle.key.specs.declared.RangeKind.{RangeKind}
 use Rattle.range_list.specs.InnerColumns.{rows, rest}
 use Rattle.two_sets.specs.InnerKind.{wide}
-use Rattle.two_sets.specs.declared.Reached.{Reached}
+use Rattle.two_sets.specs.declared.Position.{Position}
 use Rattle.union.specs.declared.walk.Taken.{Taken}
 
 -- the union of the two sets
@@ -33,14 +33,14 @@ pub record Opened (kind : RangeKind) (s e : ℕ) (sa ea : List ℤ) (na i : ℕ)
   pub after-b : Ordered s (rest (kindOf kind) sb eb nb j)
 
 -- both, where the walk is
-abbrev pub openAt : RangeKind → List ℤ → List ℤ → ℕ → List ℤ → List ℤ → ℕ → Reached → List Span
+abbrev pub openAt : RangeKind → List ℤ → List ℤ → ℕ → List ℤ → List ℤ → ℕ → Position → List Span
 openAt kind sa ea na sb eb nb r = openFrom kind (rank (r .start)) (rank (r .end)) sa ea na (r .i) sb eb nb (r .j)
 
-abbrev pub OpenedAt : RangeKind → List ℤ → List ℤ → ℕ → List ℤ → List ℤ → ℕ → Reached → Type 0
+abbrev pub OpenedAt : RangeKind → List ℤ → List ℤ → ℕ → List ℤ → List ℤ → ℕ → Position → Type 0
 OpenedAt kind sa ea na sb eb nb r = Opened kind (rank (r .start)) (rank (r .end)) sa ea na (r .i) sb eb nb (r .j)
 
 -- the walk is there once the first range is taken: nothing is written, and the whole union is still to be
-pub record First (kind : RangeKind) (sa ea : List ℤ) (na : ℕ) (sb eb : List ℤ) (nb : ℕ) (r : Reached) : Type 0 where
+pub record First (kind : RangeKind) (sa ea : List ℤ) (na : ℕ) (sb eb : List ℤ) (nb : ℕ) (r : Position) : Type 0 where
   pub none-yet : r .at ≡ 0
   pub all : either kind sa ea na sb eb nb ≡ openAt kind sa ea na sb eb nb r
   pub opened : OpenedAt kind sa ea na sb eb nb r

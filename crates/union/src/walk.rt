@@ -2,7 +2,7 @@
 // Ranges that overlap become one. Ranges that only touch stay apart, as in the Rust.
 use key::RangeKind;
 use range_list::put;
-use two_sets::Reached;
+use two_sets::Position;
 use two_sets::meets;
 use two_sets::pick;
 ghost use mathlib.Core.Path.{_≡_};
@@ -80,7 +80,7 @@ pub fn first(
     starts_b: &[i64],
     ends_b: &[i64],
     count_b: usize,
-) -> Reached
+) -> Position
     requires { ⌜ Side (kindOf kind) (now «starts_a») (now «ends_a») «count_a»
         × Side (kindOf kind) (now «starts_b») (now «ends_b») «count_b» × (0 < «count_a» + «count_b») ⌝ }
     ensures { λ r. ⌜ First kind (now («starts_a» .entry)) (now («ends_a» .entry)) «count_a» (now («starts_b» .entry)) (now («ends_b» .entry)) «count_b» r ⌝ }
@@ -88,7 +88,7 @@ pub fn first(
     let t = next(starts_a, ends_a, count_a, 0, starts_b, ends_b, count_b, 0);
     let i = t.left as usize;
     let j = !t.left as usize;
-    Reached {
+    Position {
         at: 0,
         i,
         j,
@@ -106,7 +106,7 @@ pub fn counted_from(
     starts_b: &[i64],
     ends_b: &[i64],
     count_b: usize,
-    from: Reached,
+    from: Position,
 ) -> usize
     requires { ⌜ Side (kindOf kind) (now «starts_a») (now «ends_a») «count_a»
         × Side (kindOf kind) (now «starts_b») (now «ends_b») «count_b»
@@ -142,7 +142,7 @@ pub fn write_from(
     starts_b: &[i64],
     ends_b: &[i64],
     count_b: usize,
-    from: Reached,
+    from: Position,
     out_starts: &mut [i64],
     out_ends: &mut [i64],
 ) -> usize

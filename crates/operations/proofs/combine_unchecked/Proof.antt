@@ -7,7 +7,7 @@ use Rattle.key.specs.Range.{kindOf}
 use Rattle.range_list.proofs.Answering.{answers-short, enough, answers-done}
 use Rattle.two_sets.proofs.Doors.{side}
 use Rattle.two_sets.proofs.Writing.{from-first}
-use Rattle.operations.specs.InnerOperation.{found}
+use Rattle.operations.specs.InnerOperation.{foundBy}
 use Rattle.operations.proofs.Doors.{answered}
 use Rattle.operations.proofs.combine_unchecked.Statement.{statement}
 use Rattle.operations.proofs.combine_unchecked.Tie as tie
@@ -32,7 +32,7 @@ returns c =
 
 -- the ranges fit
 room : (c : tie.Else1) → let a = entry (c .before) .args in
-    length (found (a .operation) (a .kind) (a .starts-a .now) (a .ends-a .now) (a .count-a) (a .starts-b .now) (a .ends-b .now) (a .count-b))
+    length (foundBy (a .operation) (a .kind) (a .starts-a .now) (a .ends-a .now) (a .count-a) (a .starts-b .now) (a .ends-b .now) (a .count-b))
     ≤ c .before .before .shorter .result
 room c = c .before .fits2 .ensures .right (not-false _ (c .if1 .left))
 
