@@ -5,20 +5,20 @@ use mathlib.Core.Bool.{true, false}
 use mathlib.Core.List.{List, [], _∷_, _++_}
 use lib.IntN.{ℤ, pos, negsuc}
 use Rattle.span.specs.Span.{joins, tidy}
-use Rattle.key.specs.Rank.{place, bitRank}
+use Rattle.key.specs.Rank.{aboveLeast, bitRank}
 use Rattle.outcomes.specs.Stored.{spans, ranges, filled, zeros, noughts, unused, wellFormed}
 use Rattle.outcomes.specs.Outcomes.{Entry, entries}
-use Rattle.byte_form.specs.Bytes.{bytesOf, numberOf, rangeBytes, rangeIn}
+use Rattle.byte_form.specs.Bytes.{bytesOf, numberIn, rangeBytes, rangeIn}
 use Rattle.byte_form.specs.Layout.{rm01}
-use Rattle.byte_form.specs.Form.{entriesOf, rangesBytes, formOf, rangesIn, countIn, mapOf, mapIn, same, isForm}
+use Rattle.byte_form.specs.Form.{entriesOf, rangesBytes, formOf, rangesIn, countIn, mapOf, mapIn, sameBytes, isForm}
 
 -- what a well-formed map is, and what a form is
 unfoldable maps : Unit {0}
-unfolding joins tidy place bitRank spans ranges filled zeros noughts unused wellFormed entries
+unfolding joins tidy aboveLeast bitRank spans ranges filled zeros noughts unused wellFormed entries
 maps = tt
 
 unfoldable forms : Unit {0}
-unfolding bytesOf numberOf rangeBytes rangeIn entriesOf rangesBytes formOf rangesIn countIn mapOf mapIn same isForm
+unfolding bytesOf numberIn rangeBytes rangeIn entriesOf rangesBytes formOf rangesIn countIn mapOf mapIn sameBytes isForm
 forms = tt
 
 abbrev entry : ℤ → ℤ → ℕ → Entry

@@ -12,6 +12,7 @@ use lib.IntN.{ℤ, pos}
 use mir.Syntax.{w64}
 use mir.Val.{SFits}
 use mir.Facts.{sfits-lit}
+use Rattle.answers.specs.Answers.{done, noMap}
 use Rattle.span.proofs.Tests.{both}
 use Rattle.key.proofs.Answers.{never}
 use Rattle.outcomes.specs.Stored.{places, Stored, filled}
@@ -21,7 +22,7 @@ use Rattle.outcomes.proofs.Formed as Formed
 use Rattle.outcomes.proofs.Storing.{length-filled}
 use Rattle.byte_form.specs.Bytes.{u32Size, bytesOf, Bytes}
 use Rattle.byte_form.specs.Layout.{Layout, headOf, headSize, formSize}
-use Rattle.byte_form.specs.Form.{entriesOf, rangesBytes, formOf, rangesIn, countIn, mapOf, mapIn, same, isForm, reading, InMemory}
+use Rattle.byte_form.specs.Form.{entriesOf, rangesBytes, formOf, rangesIn, countIn, mapOf, mapIn, sameBytes, isForm, read, InMemory}
 use Rattle.byte_form.proofs.Laws.{length-bytes, number-bytes, bytes-number, bytes-take, bytes-drop}
 use Rattle.byte_form.proofs.Lawful.{Lawful}
 use Rattle.byte_form.proofs.Ranges.{length-ranges-in, length-ranges-bytes, ranges-back, ranges-again}
@@ -29,22 +30,22 @@ use Rattle.byte_form.proofs.Entries.{memory-entries, memory-fitting, en
 
 -- TWO LISTS OF BYTES
 
-pub same-is : (bs cs : List ℕ) → same bs cs ≡ true → bs ≡ cs
-unfolding same
+pub same-is : (bs cs : List ℕ) → sameBytes bs cs ≡ true → bs ≡ cs
+unfolding sameBytes
 same-is [] [] e = refl
 same-is [] (c ∷ cs) e = never e
 same-is (b ∷ bs) [] e = never e
-same-is (b ∷ bs) (c ∷ cs) e = let (h, t) = both (eqb b c) (same bs cs) e in rw (eqb-true b c h, same-is bs cs t)
+same-is (b ∷ bs) (c ∷ cs) e = let (h, t) = both (eqb b c) (sameBytes bs cs) e in rw (eqb-true b c h, same-is bs cs t)
 
-pub is-same : (bs : List ℕ) → same bs bs ≡ true
-unfolding same
+pub is-same : (bs : List ℕ) → sameBytes bs bs ≡ true
+unfolding sameBytes
 is-same [] = refl
 is-same (b ∷ bs) = and-yes (eq-eqb b b refl) (is-same bs)
 
 -- what a comparison of bytes answers, as a function of bytes says it
-pub told-same : (r : Bool) (a b : List ℕ) → (r ≡ true → a ≡ b) × (a ≡ b → r ≡ true) → same a b ≡ r
+pub told-same : (r : Bool) (a b : List ℕ) → (r ≡ true → a ≡ b) × (a ≡ b → r ≡ true) → sameBytes a b ≡ r
 told-same true a b (is, _) = rw (is refl) (is-same b)
-told-same false a b (_, is) = go (same a b) (λ e. is (same-is a b e))
+told-same false a b (_, is) = go (sameBytes a b) (λ e. is (same-is a b e))
   where
     go : (t : Bool) → (t ≡ true → false ≡ true) → t ≡ false
     go true f = sym (f refl)
@@ -97,7 +98,7 @@ module _ (layout : Layout) where
   pub form-yes : (bs : List ℕ) → isForm layout bs ≡ true → Form bs
   unfolding isForm
   form-yes bs e =
-      let (w, s) = both (formed (layout .kind) (mapIn layout bs)) (same bs (formOf layout (mapIn layout bs))) e in
+      let (w, s) = both (formed (layout .kind) (mapIn layout bs)) (sameBytes bs (formOf layout (mapIn layout bs))) e in
       record { well = w; bytes = sym (same-is bs (formOf layout (mapIn layout bs)) s) }
 
   pub yes-form : (bs : List ℕ) → Form bs → isForm layout bs ≡ true
@@ -179,8 +180,8 @@ module _ {layout : Layout} (law : Lawful layout) where
       }
 
   -- the reader accepts the form of a well-formed map, and gives that map
-  pub write-read : {m : Stored} (old : Stored) → InMemory m → formed (layout .kind) m ≡ true → reading layout old (formOf layout m) ≡ leaving 0 m
-  unfolding reading
+  pub write-read : {m : Stored} (old : Stored) → InMemory m → formed (layout .kind) m ≡ true → read layout old (formOf layout m) ≡ leaving done m
+  unfolding read
   write-read {m} old i w =
       let e = map-form i w in
       rw (yes-form layout (formOf layout m) (record { well = rw e w; bytes = rw e }), e)
@@ -192,20 +193,20 @@ module _ {layout : Layout} (law : Lawful layout) where
       record { memory = map-in-memory bs b (omega (arith, count-in-map layout bs)); well = f .well; bytes = f .bytes }
 
   -- it accepts nothing else: what it gives is a well-formed map whose form is the bytes that it read
-  pub read-write : {m : Stored} (old : Stored) (bs : List ℕ) → Bytes bs → reading layout old bs ≡ leaving 0 m → Read layout m bs
-  unfolding reading
+  pub read-write : {m : Stored} (old : Stored) (bs : List ℕ) → Bytes bs → read layout old bs ≡ leaving done m → Read layout m bs
+  unfolding read
   read-write {m} old bs b e = go (isForm layout bs) refl e
     where
-      go : (t : Bool) → isForm layout bs ≡ t → cond t (leaving 0 (mapIn layout bs)) (leaving 6 old) ≡ leaving 0 m → Read layout m bs
+      go : (t : Bool) → isForm layout bs ≡ t → cond t (leaving done (mapIn layout bs)) (leaving noMap old) ≡ leaving done m → Read layout m bs
       go true y e = let n : mapIn layout bs ≡ m = ap (λ (o : Edited). o .left) e in rw n at (accepted bs b y)
       go false y e = let z : _≡_ {A = ℕ} 6 0 = ap (λ (o : Edited). o .answer) e in absurd (omega arith)
 
   -- and bytes that are the form of no such map are refused with 6, the map as it was
-  pub read-refused : (old : Stored) (bs : List ℕ) → Bytes bs → ((m : Stored) → Read layout m bs → ⊥) → reading layout old bs ≡ leaving 6 old
-  unfolding reading
+  pub read-refused : (old : Stored) (bs : List ℕ) → Bytes bs → ((m : Stored) → Read layout m bs → ⊥) → read layout old bs ≡ leaving noMap old
+  unfolding read
   read-refused old bs b h = go (isForm layout bs) refl
     where
-      go : (t : Bool) → isForm layout bs ≡ t → cond t (leaving 0 (mapIn layout bs)) (leaving 6 old) ≡ leaving 6 old
+      go : (t : Bool) → isForm layout bs ≡ t → cond t (leaving done (mapIn layout bs)) (leaving noMap old) ≡ leaving noMap old
       go true y = absurd (h (mapIn layout bs) (accepted bs b y))
       go false y = refl
 

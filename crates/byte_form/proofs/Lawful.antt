@@ -9,7 +9,7 @@ use mir.Syntax.{w64}
 use mir.Val.{SFits, ofZ}
 use Rattle.key.proofs.Laws.{toZ-fit}
 use Rattle.outcomes.specs.Outcomes.{Entry}
-use Rattle.byte_form.specs.Bytes.{i64Size, numberOf, keyBytes, rangeBytes, rangeIn, Bytes}
+use Rattle.byte_form.specs.Bytes.{i64Size, numberIn, keyBytes, rangeBytes, rangeIn, Bytes}
 use Rattle.byte_form.specs.Layout.{Layout, rm01}
 use Rattle.byte_form.proofs.Laws.{length-bytes, key-back, key-again, bytes-take, bytes-drop}
 
@@ -68,5 +68,5 @@ rm01-lawful = record {
   again = range-again;
   fits = λ bs b.
       let rest = drop i64Size bs in
-      record { start = toZ-fit (numberOf (take i64Size bs)); end = toZ-fit (numberOf (take i64Size rest)); value = b (i64Size + i64Size) };
+      record { start = toZ-fit (numberIn (take i64Size bs)); end = toZ-fit (numberIn (take i64Size rest)); value = b (i64Size + i64Size) };
 }

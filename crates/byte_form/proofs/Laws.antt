@@ -14,8 +14,8 @@ use lib.Signed.{ltZ, nonNeg}
 use mir.Syntax.{w64}
 use mir.Val.{SFits, toZ, ofZ}
 use mir.Facts.{toZ-ofZ, ofZ-toZ, fits-ofZ}
-use Rattle.key.specs.Rank.{place, bitRank, rank}
-use Rattle.byte_form.specs.Bytes.{u32Size, i64Size, bytesOf, numberOf, keyBytes, keyOf, Bytes}
+use Rattle.key.specs.Rank.{aboveLeast, bitRank, rank}
+use Rattle.byte_form.specs.Bytes.{u32Size, i64Size, bytesOf, numberIn, keyBytes, keyOf, Bytes}
 
 -- NUMBERS
 
@@ -25,27 +25,27 @@ length-bytes zero n = refl
 length-bytes (suc k) n = ap suc (length-bytes k (n / 256))
 
 -- a number that fits is that of its bytes
-pub number-bytes : (k n : ℕ) → n < 256 ^ k → numberOf (bytesOf k n) ≡ n
-unfolding bytesOf numberOf
+pub number-bytes : (k n : ℕ) → n < 256 ^ k → numberIn (bytesOf k n) ≡ n
+unfolding bytesOf numberIn
 number-bytes zero n h = sym (le-antisymm (le-of-suc-le-suc h) zero-le)
 number-bytes (suc k) n h =
     let below : n / 256 < 256 ^ k = div-lt-iff-lt-mul (zero-lt-suc 255) .1 (subst (λ (x : ℕ). n < x) (pow-suc 256 k) h) in
-    let ih : numberOf (bytesOf k (n / 256)) ≡ n / 256 = number-bytes k (n / 256) below in
+    let ih : numberIn (bytesOf k (n / 256)) ≡ n / 256 = number-bytes k (n / 256) below in
     rw ih (mod-add-div n 256)
 
 -- bytes are those of their number
-pub bytes-number : (bs : List ℕ) → Bytes bs → bytesOf (length bs) (numberOf bs) ≡ bs
-unfolding bytesOf numberOf
+pub bytes-number : (bs : List ℕ) → Bytes bs → bytesOf (length bs) (numberIn bs) ≡ bs
+unfolding bytesOf numberIn
 bytes-number [] h = refl
 bytes-number (b ∷ bs) h =
     let ih = bytes-number bs (λ k. h (suc k)) in
     let l = h 0 in
-    let d : (b + 256 * numberOf bs) / 256 ≡ numberOf bs = omega arith in
-    let m : (b + 256 * numberOf bs) % 256 ≡ b = omega arith in
+    let d : (b + 256 * numberIn bs) / 256 ≡ numberIn bs = omega arith in
+    let m : (b + 256 * numberIn bs) % 256 ≡ b = omega arith in
     rw (d, m, ih)
 
-pub number-below : (bs : List ℕ) → Bytes bs → numberOf bs < 256 ^ length bs
-unfolding numberOf
+pub number-below : (bs : List ℕ) → Bytes bs → numberIn bs < 256 ^ length bs
+unfolding numberIn
 number-below [] h = zero-lt-suc 0
 number-below (b ∷ bs) h =
     let ih = number-below bs (λ k. h (suc k)) in
@@ -59,8 +59,8 @@ drop-step l at j h e = let s : suc at ≡ j = omega arith in drop-cons l at 0 h 
 
 -- the number of the four bytes at a place, one by one
 pub four : (l : List ℕ) (at : ℕ) → at + u32Size ≤ length l
-    → numberOf (take u32Size (drop at l)) ≡ getD l at 0 + getD l (at + 1) 0 * 256 + getD l (at + 2) 0 * 65536 + getD l (at + 3) 0 * 16777216
-unfolding numberOf
+    → numberIn (take u32Size (drop at l)) ≡ getD l at 0 + getD l (at + 1) 0 * 256 + getD l (at + 2) 0 * 65536 + getD l (at + 3) 0 * 16777216
+unfolding numberIn
 four l at h =
     rw (
       drop-step l at (at + 1) (omega arith) (omega arith),
@@ -72,8 +72,8 @@ four l at h =
 
 -- the number of eight bytes is that of two fours
 pub eight : (l : List ℕ) (at : ℕ) → at + i64Size ≤ length l
-    → numberOf (take i64Size (drop at l)) ≡ numberOf (take u32Size (drop at l)) + numberOf (take u32Size (drop (at + u32Size) l)) * 4294967296
-unfolding numberOf
+    → numberIn (take i64Size (drop at l)) ≡ numberIn (take u32Size (drop at l)) + numberIn (take u32Size (drop (at + u32Size) l)) * 4294967296
+unfolding numberIn
 eight l at h =
     rw (
       drop-step l at (at + 1) (omega arith) (omega arith),
@@ -96,10 +96,10 @@ eight-bytes n = let q : n / 4294967296 ≡ n / 256 / 256 / 256 / 256 = omega ari
 
 -- the bits of a negative key, as code computes them
 pub bits-negative : (z : ℤ) → SFits w64 z → ltZ (toZ w64 (ofZ w64 z)) (pos 0) ≡ true → rank z + 2 ^ 63 ≡ ofZ w64 z
-unfolding bitRank place
+unfolding bitRank aboveLeast
 bits-negative z f e = rw (toZ-ofZ f) (go z f (rw (toZ-ofZ f) at e))
   where
-    go : (z : ℤ) → SFits w64 z → ltZ z (pos 0) ≡ true → place z + 2 ^ 63 ≡ ofZ w64 z
+    go : (z : ℤ) → SFits w64 z → ltZ z (pos 0) ≡ true → aboveLeast z + 2 ^ 63 ≡ ofZ w64 z
     go (pos n) f e = absurd (omega (arith, ltb-true))
     go (negsuc n) f e = omega (arith, f .sfits)
 
@@ -125,9 +125,9 @@ key-back {z} f = rw (number-bytes i64Size (ofZ w64 z) (fits-ofZ f .fits)) (toZ-o
 -- its bytes are those of their key
 pub key-again : (bs : List ℕ) → Bytes bs → length bs ≡ i64Size → keyBytes (keyOf bs) ≡ bs
 key-again bs b e =
-    let l : numberOf bs < 2 ^ 64 = rw e at (number-below bs b) in
-    let n : bytesOf i64Size (numberOf bs) ≡ bs = rw e at (bytes-number bs b) in
-    rw (ofZ-toZ {w = w64} {n = numberOf bs} (record { fits = l })) n
+    let l : numberIn bs < 2 ^ 64 = rw e at (number-below bs b) in
+    let n : bytesOf i64Size (numberIn bs) ≡ bs = rw e at (bytes-number bs b) in
+    rw (ofZ-toZ {w = w64} {n = numberIn bs} (record { fits = l })) n
 
 -- a part of bytes is bytes
 pub bytes-drop : (n : ℕ) (bs : List ℕ) → Bytes bs → Bytes (drop n bs)

@@ -7,12 +7,13 @@ use mathlib.Core.List.{List}
 use borrow.Author.Tests.{le-ltb}
 use lib.ListN.{length, take, drop}
 use lib.Seq.{take-append-seam}
+use Rattle.answers.specs.Answers.{done}
 use Rattle.key.proofs.Answers.{one-answer}
 use Rattle.outcomes.specs.Stored.{Stored}
 use Rattle.outcomes.specs.Outcomes.{formed, leaving}
 use Rattle.outcomes.specs.declared.Count.{Count}
 use Rattle.byte_form.specs.Layout.{Layout}
-use Rattle.byte_form.specs.Form.{formOf, Output, put, writing, Wrote, reading, InMemory}
+use Rattle.byte_form.specs.Form.{formOf, Output, intoOutput, write, Wrote, read, InMemory}
 use Rattle.byte_form.proofs.Lawful.{Lawful}
 use Rattle.byte_form.proofs.Forms.{write-read}
 
@@ -21,13 +22,13 @@ write-one a b = (one-answer (a .number) (b .number), one-answer (a .out-is) (b .
 
 -- what stands first in an output that is long enough is the form
 pub written-form : (layout : Layout) (m : Stored) (out : List ℕ) → formed (layout .kind) m ≡ true → length (formOf layout m) ≤ length out
-    → take (length (formOf layout m)) (writing layout m out .out) ≡ formOf layout m
-unfolding writing put
+    → take (length (formOf layout m)) (write layout m out .out) ≡ formOf layout m
+unfolding write intoOutput
 written-form layout m out w h =
     let bs : List ℕ = formOf layout m in
     rw (w, le-ltb (length out) (length bs) h) (take-append-seam bs (drop (length bs) out))
 
 -- and from there the map is read back
 pub written-read : {layout : Layout} (law : Lawful layout) {m : Stored} (old : Stored) (out : List ℕ) → InMemory m → formed (layout .kind) m ≡ true
-    → length (formOf layout m) ≤ length out → reading layout old (take (length (formOf layout m)) (writing layout m out .out)) ≡ leaving 0 m
-written-read {layout} law {m} old out i w h = ap (reading layout old) (written-form layout m out w h) ∙ write-read law old i w
+    → length (formOf layout m) ≤ length out → read layout old (take (length (formOf layout m)) (write layout m out .out)) ≡ leaving done m
+written-read {layout} law {m} old out i w h = ap (read layout old) (written-form layout m out w h) ∙ write-read law old i w

@@ -21,9 +21,9 @@ bytesOf zero n = []
 bytesOf (suc k) n = n % 256 ∷ bytesOf k (n / 256)
 
 -- the number of some bytes
-unfoldable pub numberOf : List ℕ → ℕ
-numberOf [] = 0
-numberOf (b ∷ bs) = b + 256 * numberOf bs
+unfoldable pub numberIn : List ℕ → ℕ
+numberIn [] = 0
+numberIn (b ∷ bs) = b + 256 * numberIn bs
 
 -- an i64 as bytes: those of the 64 bits that hold it
 abbrev pub keyBytes : ℤ → List ℕ
@@ -31,7 +31,7 @@ keyBytes z = bytesOf i64Size (ofZ w64 z)
 
 -- the i64 of its bytes
 abbrev pub keyOf : List ℕ → ℤ
-keyOf bs = toZ w64 (numberOf bs)
+keyOf bs = toZ w64 (numberIn bs)
 
 -- ONE RANGE: start i64, end i64, value u8
 unfoldable pub rangeBytes : Entry → List ℕ

@@ -7,13 +7,14 @@ use mathlib.Core.List.{List, [], _∷_, _++_, map}
 use lib.Dec.{eqb, ltb}
 use lib.ListN.{length, getD, take, drop}
 use lib.IntN.{pos}
+use Rattle.answers.specs.Answers.{done, tooShort, notFormed, noMap}
 use Rattle.outcomes.specs.Stored.{places, Stored, filled, AllFit}
 use Rattle.outcomes.specs.Outcomes.{Entry, entries, formed, Edited, leaving}
-use Rattle.outcomes.specs.Numbers.{countOf}
+use Rattle.outcomes.specs.Numbers.{countedInC}
 use Rattle.outcomes.specs.declared.Count.{Count}
 use Rattle.outcomes.specs.declared.Counted.{Counted}
 use Rattle.outcomes.specs.declared.Counted.the-variants as Counted
-use Rattle.byte_form.specs.Bytes.{u32Size, numberOf}
+use Rattle.byte_form.specs.Bytes.{u32Size, numberIn}
 use Rattle.byte_form.specs.Layout.{Layout, headOf, headSize}
 
 -- the ranges that a map holds, place by place: those of its first `count` places
@@ -39,19 +40,19 @@ output r out = record { answer = r; out = out }
 
 -- what C and Rust see of it: the number and the count, and what the lent output holds
 pub record Wrote (r : Count) (out : List ℕ) (w : Output) : Type 0 where
-  pub number : r ≡ countOf (w .answer)
+  pub number : r ≡ countedInC (w .answer)
   pub out-is : out ≡ w .out
 
 -- bytes into the first places of a lent output, if it is long enough
-unfoldable pub put : List ℕ → List ℕ → Output
-put bs out = cond (ltb (length out) (length bs)) (output (Counted.Refused 3) out) (output (Counted.Count (length bs)) (bs ++ drop (length bs) out))
+unfoldable pub intoOutput : List ℕ → List ℕ → Output
+intoOutput bs out = cond (ltb (length out) (length bs)) (output (Counted.Refused tooShort) out) (output (Counted.Count (length bs)) (bs ++ drop (length bs) out))
 
 -- are two lists of bytes the same
-unfoldable pub same : List ℕ → List ℕ → Bool
-same [] [] = true
-same [] (c ∷ cs) = false
-same (b ∷ bs) [] = false
-same (b ∷ bs) (c ∷ cs) = eqb b c && same bs cs
+unfoldable pub sameBytes : List ℕ → List ℕ → Bool
+sameBytes [] [] = true
+sameBytes [] (c ∷ cs) = false
+sameBytes (b ∷ bs) [] = false
+sameBytes (b ∷ bs) (c ∷ cs) = eqb b c && sameBytes bs cs
 
 module _ (layout : Layout) where
   -- range after range
@@ -64,8 +65,8 @@ module _ (layout : Layout) where
   formOf m = headOf layout (m .count) ++ rangesBytes (entriesOf m)
 
   -- THE WRITER
-  unfoldable pub writing : Stored → List ℕ → Output
-  writing m out = cond (formed (layout .kind) m) (put (formOf m) out) (output (Counted.Refused 4) out)
+  unfoldable pub write : Stored → List ℕ → Output
+  write m out = cond (formed (layout .kind) m) (intoOutput (formOf m) out) (output (Counted.Refused notFormed) out)
 
   -- the first n ranges of some bytes
   unfoldable pub rangesIn : ℕ → List ℕ → List Entry
@@ -74,7 +75,7 @@ module _ (layout : Layout) where
 
   -- the count that bytes tell: it stands behind the mark
   unfoldable pub countIn : List ℕ → ℕ
-  countIn bs = numberOf (take u32Size (drop (length (layout .mark)) bs))
+  countIn bs = numberIn (take u32Size (drop (length (layout .mark)) bs))
 
   -- the only map that bytes can be the form of: that of the ranges that stand in them
   unfoldable pub mapIn : List ℕ → Stored
@@ -82,11 +83,11 @@ module _ (layout : Layout) where
 
   -- are bytes the form of a well-formed map
   unfoldable pub isForm : List ℕ → Bool
-  isForm bs = formed (layout .kind) (mapIn bs) && same bs (formOf (mapIn bs))
+  isForm bs = formed (layout .kind) (mapIn bs) && sameBytes bs (formOf (mapIn bs))
 
   -- THE READER. It overwrites its map, so it does not check it
-  unfoldable pub reading : Stored → List ℕ → Edited
-  reading m bs = cond (isForm bs) (leaving 0 (mapIn bs)) (leaving 6 m)
+  unfoldable pub read : Stored → List ℕ → Edited
+  read m bs = cond (isForm bs) (leaving done (mapIn bs)) (leaving noMap m)
 
 -- a map as memory holds it: all places, keys that are i64 and values that are u8
 pub record InMemory (m : Stored) : Type 0 where

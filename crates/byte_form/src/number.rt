@@ -5,7 +5,8 @@ ghost use lib.ListN.{length, take, drop};
 ghost use lib.Seq.{sets};
 ghost use mir.Syntax.{w64};
 ghost use mir.Val.{toZ, ofZ};
-ghost use Rattle.byte_form.specs.Bytes.{u32Size, i64Size, bytesOf, numberOf, keyBytes, keyOf};
+ghost use Rattle.lent.specs.Moments.{was, becomes};
+ghost use Rattle.byte_form.specs.Bytes.{u32Size, i64Size, bytesOf, numberIn, keyBytes, keyOf};
 
 // How many bytes a u32 is.
 pub const U32_SIZE: usize = 4;
@@ -43,7 +44,7 @@ fn low(n: u64) -> u8
 // Writes a number into the first 4 bytes.
 pub fn put_u32(out: &mut [u8], n: u64)
     requires { ⌜ u32Size ≤ length (now out) ⌝ }
-    ensures { λ _. ⌜ now (out .exit) ≡ sets (now (out .entry)) 0 (bytesOf u32Size n) ⌝ }
+    ensures { λ _. ⌜ becomes out ≡ sets (was out) 0 (bytesOf u32Size n) ⌝ }
 {
     let b = n / 256;
     let c = b / 256;
@@ -57,7 +58,7 @@ pub fn put_u32(out: &mut [u8], n: u64)
 // Writes a number into the first 8 bytes.
 fn put_u64(out: &mut [u8], n: u64)
     requires { ⌜ i64Size ≤ length (now out) ⌝ }
-    ensures { λ _. ⌜ now (out .exit) ≡ sets (now (out .entry)) 0 (bytesOf i64Size n) ⌝ }
+    ensures { λ _. ⌜ becomes out ≡ sets (was out) 0 (bytesOf i64Size n) ⌝ }
 {
     put_u32(out, n);
     put_u32(&mut out[U32_SIZE..], n / 4294967296);
@@ -66,7 +67,7 @@ fn put_u64(out: &mut [u8], n: u64)
 // Writes an i64 into its bytes, which come first.
 pub fn put_key(out: &mut [u8], a: i64)
     requires { ⌜ i64Size ≤ length (now out) ⌝ }
-    ensures { λ _. ⌜ now (out .exit) ≡ sets (now (out .entry)) 0 (keyBytes a) ⌝ }
+    ensures { λ _. ⌜ becomes out ≡ sets (was out) 0 (keyBytes a) ⌝ }
 {
     put_u64(out, bits_of(a));
 }
@@ -81,7 +82,7 @@ fn wide(b: u8) -> u64
 // Reads a number from the 4 bytes at `at`.
 pub fn u32_at(bytes: &[u8], at: usize) -> u64
     requires { ⌜ at + u32Size ≤ length (now bytes) ⌝ }
-    ensures { λ r. ⌜ (r ≡ numberOf (take u32Size (drop at (now (bytes .entry))))) × (r < 4294967296) ⌝ }
+    ensures { λ r. ⌜ (r ≡ numberIn (take u32Size (drop at (was bytes)))) × (r < 4294967296) ⌝ }
 {
     wide(bytes[at])
         + wide(bytes[at + 1]) * 256
@@ -92,7 +93,7 @@ pub fn u32_at(bytes: &[u8], at: usize) -> u64
 // Reads a number from the 8 bytes at `at`.
 fn u64_at(bytes: &[u8], at: usize) -> u64
     requires { ⌜ at + i64Size ≤ length (now bytes) ⌝ }
-    ensures { λ r. ⌜ r ≡ numberOf (take i64Size (drop at (now (bytes .entry)))) ⌝ }
+    ensures { λ r. ⌜ r ≡ numberIn (take i64Size (drop at (was bytes))) ⌝ }
 {
     u32_at(bytes, at) + u32_at(bytes, at + U32_SIZE) * 4294967296
 }
@@ -100,7 +101,7 @@ fn u64_at(bytes: &[u8], at: usize) -> u64
 // Reads an i64 from the bytes at `at`.
 pub fn key_at(bytes: &[u8], at: usize) -> i64
     requires { ⌜ at + i64Size ≤ length (now bytes) ⌝ }
-    ensures { λ r. ⌜ r ≡ keyOf (take i64Size (drop at (now (bytes .entry)))) ⌝ }
+    ensures { λ r. ⌜ r ≡ keyOf (take i64Size (drop at (was bytes))) ⌝ }
 {
     key_of(u64_at(bytes, at))
 }

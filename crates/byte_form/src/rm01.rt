@@ -6,11 +6,13 @@ use crate::number::key_at;
 use crate::number::put_key;
 use crate::number::put_u32;
 use crate::number::u32_at;
+use key::Value;
 use outcomes::PLACES;
 ghost use mathlib.Core.Path.{_≡_};
 ghost use Prim.Native.Nat.{_+_, _≤_, _<_};
 ghost use lib.ListN.{length, take, drop};
 ghost use lib.Seq.{sets};
+ghost use Rattle.lent.specs.Moments.{was, becomes};
 ghost use Rattle.key.specs.InnerDecides.{Decides};
 ghost use Rattle.outcomes.specs.Stored.{places};
 ghost use Rattle.byte_form.specs.Layout.{rm01, headOf, headSize, formSize};
@@ -50,16 +52,16 @@ pub fn form_size(count: usize) -> usize
 // Writes the mark and the count into the first bytes.
 pub fn put_head(out: &mut [u8], count: usize)
     requires { ⌜ headSize rm01 ≤ length (now out) ⌝ }
-    ensures { λ _. ⌜ now (out .exit) ≡ sets (now (out .entry)) 0 (headOf rm01 count) ⌝ }
+    ensures { λ _. ⌜ becomes out ≡ sets (was out) 0 (headOf rm01 count) ⌝ }
 {
     put_u32(out, MARK);
     put_u32(&mut out[U32_SIZE..], count as u64);
 }
 
 // Writes one range into its bytes.
-pub fn put_range(out: &mut [u8], start: i64, end: i64, value: u8)
+pub fn put_range(out: &mut [u8], start: i64, end: i64, value: Value)
     requires { ⌜ rm01 .size ≤ length (now out) ⌝ }
-    ensures { λ _. ⌜ now (out .exit) ≡ sets (now (out .entry)) 0 (rm01 .written (record { start = start; end = end; value = value })) ⌝ }
+    ensures { λ _. ⌜ becomes out ≡ sets (was out) 0 (rm01 .written (record { start = start; end = end; value = value })) ⌝ }
 {
     put_key(out, start);
     put_key(&mut out[END_AT..], end);
@@ -69,7 +71,7 @@ pub fn put_range(out: &mut [u8], start: i64, end: i64, value: u8)
 // Whether the mark stands first.
 pub fn has_mark(bytes: &[u8]) -> bool
     requires { ⌜ headSize rm01 ≤ length (now bytes) ⌝ }
-    ensures { λ r. ⌜ Decides r (take (length (rm01 .mark)) (now (bytes .entry)) ≡ rm01 .mark) ⌝ }
+    ensures { λ r. ⌜ Decides r (take (length (rm01 .mark)) (was bytes) ≡ rm01 .mark) ⌝ }
 {
     u32_at(bytes, 0) == MARK
 }
@@ -77,7 +79,7 @@ pub fn has_mark(bytes: &[u8]) -> bool
 // The count, which stands after the mark.
 pub fn count_in(bytes: &[u8]) -> u64
     requires { ⌜ headSize rm01 ≤ length (now bytes) ⌝ }
-    ensures { λ r. ⌜ (r ≡ countIn rm01 (now (bytes .entry))) × (r < 4294967296) ⌝ }
+    ensures { λ r. ⌜ (r ≡ countIn rm01 (was bytes)) × (r < 4294967296) ⌝ }
 {
     u32_at(bytes, U32_SIZE)
 }
@@ -85,7 +87,7 @@ pub fn count_in(bytes: &[u8]) -> u64
 // The start of the range whose bytes begin at `at`.
 pub fn start_at(bytes: &[u8], at: usize) -> i64
     requires { ⌜ at + rm01 .size ≤ length (now bytes) ⌝ }
-    ensures { λ r. ⌜ r ≡ rm01 .read (drop at (now (bytes .entry))) .start ⌝ }
+    ensures { λ r. ⌜ r ≡ rm01 .read (drop at (was bytes)) .start ⌝ }
 {
     key_at(bytes, at)
 }
@@ -93,7 +95,7 @@ pub fn start_at(bytes: &[u8], at: usize) -> i64
 // Its end.
 pub fn end_at(bytes: &[u8], at: usize) -> i64
     requires { ⌜ at + rm01 .size ≤ length (now bytes) ⌝ }
-    ensures { λ r. ⌜ r ≡ rm01 .read (drop at (now (bytes .entry))) .end ⌝ }
+    ensures { λ r. ⌜ r ≡ rm01 .read (drop at (was bytes)) .end ⌝ }
 {
     key_at(bytes, at + END_AT)
 }
@@ -101,7 +103,7 @@ pub fn end_at(bytes: &[u8], at: usize) -> i64
 // Its value.
 pub fn value_at(bytes: &[u8], at: usize) -> u8
     requires { ⌜ at + rm01 .size ≤ length (now bytes) ⌝ }
-    ensures { λ r. ⌜ r ≡ rm01 .read (drop at (now (bytes .entry))) .value ⌝ }
+    ensures { λ r. ⌜ r ≡ rm01 .read (drop at (was bytes)) .value ⌝ }
 {
     bytes[at + VALUE_AT]
 }

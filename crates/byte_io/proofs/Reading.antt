@@ -9,6 +9,7 @@ use mathlib.Core.List.{List, [], _∷_, _++_, map, append-nil, map-append}
 use lib.ListN.{length, getD, set, take, drop, replicate, length-append, length-map, length-replicate, List·getD-append, List·getD-map, drop-of-length-le}
 use lib.Seq.{sets, sets-eq, length-sets, drop-drop}
 use lib.IntN.{ℤ, pos}
+use Rattle.answers.specs.Answers.{done}
 use Rattle.key.specs.InnerDecides.{Decides}
 use Rattle.outcomes.specs.Stored.{places, Stored, stored, filled}
 use Rattle.outcomes.specs.Outcomes.{Entry, formed, leaving}
@@ -19,7 +20,7 @@ use Rattle.store.specs.InnerCheck.{Steps, Unused}
 use Rattle.store.proofs.Checked.{answers}
 use Rattle.byte_form.specs.Bytes.{Bytes}
 use Rattle.byte_form.specs.Layout.{Layout, headSize, formSize}
-use Rattle.byte_form.specs.Form.{rangesIn, countIn, mapOf, mapIn, isForm, reading}
+use Rattle.byte_form.specs.Form.{rangesIn, countIn, mapOf, mapIn, isForm, read}
 use Rattle.byte_form.proofs.Lawful.{Lawful}
 use Rattle.byte_form.proofs.Stores.{sets-append}
 use Rattle.byte_form.proofs.Ranges.{length-ranges-in}
@@ -170,8 +171,8 @@ module _ (layout : Layout) where
   -- the map that is there at the end
   pub reads-form : (old : Stored) (bs : List ℕ) (n : ℕ) {ss es ss₁ es₁ ss₂ es₂ : List ℤ} {vs vs₁ vs₂ : List ℕ} → isForm layout bs ≡ true
       → n ≡ countIn layout bs → Filled layout n bs ss es vs ss₁ es₁ vs₁ → Cleared n ss₁ es₁ vs₁ ss₂ es₂ vs₂
-      → leaving 0 (stored n ss₂ es₂ vs₂) ≡ reading layout old bs
-  unfolding reading mapIn mapOf
+      → leaving done (stored n ss₂ es₂ vs₂) ≡ read layout old bs
+  unfolding read mapIn mapOf
   reads-form old bs n {ss} {es} {vs = vs} y e f g =
       let c = g .all in
       let xs : List Entry = rangesOf layout n bs in

@@ -9,13 +9,14 @@ use borrow.Rule.Slice.PartMut.{midOf, putMid}
 use lib.ListN.{length, getD, take, drop}
 use lib.Seq.{sets, sets-eq, length-sets, take-suc, length-take-le}
 use lib.IntN.{ℤ, pos}
+use Rattle.answers.specs.Answers.{tooShort}
 use Rattle.outcomes.specs.Stored.{Stored, Sound}
 use Rattle.outcomes.specs.Outcomes.{Entry, entries}
 use Rattle.outcomes.specs.declared.Counted.the-variants as Counted
 use Rattle.outcomes.proofs.Formed.{sound-held}
 use Rattle.outcomes.proofs.Bulk.{length-entries, entry-at, getD-entries}
 use Rattle.byte_form.specs.Layout.{Layout, headOf, headSize, formSize}
-use Rattle.byte_form.specs.Form.{entriesOf, rangesBytes, formOf, output, put}
+use Rattle.byte_form.specs.Form.{entriesOf, rangesBytes, formOf, output, intoOutput}
 use Rattle.byte_form.proofs.Lawful.{Lawful}
 use Rattle.byte_form.proofs.Stores.{sets-append, put-mid}
 use Rattle.byte_form.proofs.Ranges.{length-ranges-bytes}
@@ -72,8 +73,8 @@ module _ {layout : Layout} (law : Lawful layout) where
     form-long = length-form law m ∙ ap (formSize layout) (length-entries-of m (sound .ends-as) (sound .values-as) (sound-held (layout .kind) m sound))
 
     -- the output is too short
-    pub puts-none : length l < formSize layout (m .count) → output (Counted.Refused 3) l ≡ put (formOf layout m) l
-    unfolding put
+    pub puts-none : length l < formSize layout (m .count) → output (Counted.Refused tooShort) l ≡ intoOutput (formOf layout m) l
+    unfolding intoOutput
     puts-none h = rw (lt-ltb (length l) (length (formOf layout m)) (omega (arith, form-long)))
 
     -- the head and the ranges are the form
@@ -86,8 +87,8 @@ module _ {layout : Layout} (law : Lawful layout) where
         ∙ sets-append l 0 (headOf layout (m .count)) rs (headSize layout) (omega (arith, length-head layout (m .count)))
 
     pub puts-all : {h o : List ℕ} → formSize layout (m .count) ≤ length l → h ≡ sets l 0 (headOf layout (m .count))
-        → o ≡ sets h (headSize layout) (rangesBytes layout (entriesOf m)) → output (Counted.Count (formSize layout (m .count))) o ≡ put (formOf layout m) l
-    unfolding put
+        → o ≡ sets h (headSize layout) (rangesBytes layout (entriesOf m)) → output (Counted.Count (formSize layout (m .count))) o ≡ intoOutput (formOf layout m) l
+    unfolding intoOutput
     puts-all r a b =
         let bs : List ℕ = formOf layout m in
         let z : 0 + length bs ≡ length bs = omega arith in

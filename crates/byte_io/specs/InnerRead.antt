@@ -11,14 +11,14 @@ use Rattle.byte_form.specs.Layout.{Layout, headSize, formSize}
 use Rattle.byte_form.specs.Form.{rangesIn, mapOf}
 
 -- three columns have all places
-pub record Columns (ss es : List ℤ) (vs : List ℕ) : Type 0 where
+pub record FullColumns (ss es : List ℤ) (vs : List ℕ) : Type 0 where
   pub starts : length ss ≡ places
   pub ends : length es ≡ places
   pub values : length vs ≡ places
 
 -- the columns, which have all places, with 0 in the places from n on
 pub record Cleared (n : ℕ) (ss es : List ℤ) (vs : List ℕ) (ss₁ es₁ : List ℤ) (vs₁ : List ℕ) : Type 0 where
-  pub all : Columns ss es vs
+  pub all : FullColumns ss es vs
   pub starts : ss₁ ≡ sets ss n (replicate (places - n) (pos 0))
   pub ends : es₁ ≡ sets es n (replicate (places - n) (pos 0))
   pub values : vs₁ ≡ sets vs n (replicate (places - n) 0)

@@ -8,7 +8,7 @@ use Rattle.outcomes.specs.Stored.{places}
 use Rattle.byte_form.specs.Layout.{Layout, formSize}
 
 -- the first n places are there in three columns, and so is their room among the bytes
-pub record Room (layout : Layout) (n : ℕ) (ss es : List ℤ) (vs bs : List ℕ) : Type 0 where
+pub record OutputRoom (layout : Layout) (n : ℕ) (ss es : List ℤ) (vs bs : List ℕ) : Type 0 where
   pub starts : n ≤ length ss
   pub ends : length es ≡ length ss
   pub values : length vs ≡ length ss

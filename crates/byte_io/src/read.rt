@@ -1,4 +1,6 @@
 // The reader of document 01's byte form. The bytes are checked first, where they stand; nothing is written before the answer is known.
+use answers::DONE;
+use answers::NO_MAP;
 use byte_form::rm01::HEAD_SIZE;
 use byte_form::rm01::RANGE_SIZE;
 use byte_form::rm01::count_in;
@@ -7,26 +9,24 @@ use byte_form::rm01::form_size;
 use byte_form::rm01::has_mark;
 use byte_form::rm01::start_at;
 use byte_form::rm01::value_at;
-use outcomes::DONE;
+use key::Value;
 use outcomes::PLACES;
 ghost use mathlib.Core.Path.{_≡_};
 ghost use Prim.Native.Nat.{_<_};
+ghost use Rattle.lent.specs.Moments.{was, becomes};
 ghost use Rattle.key.specs.InnerDecides.{Decides};
 ghost use Rattle.key.specs.Range.{halfOpen};
-ghost use Rattle.outcomes.specs.Stored.{lent};
+ghost use Rattle.outcomes.specs.Stored.{atEntry, atExit};
 ghost use Rattle.outcomes.specs.Outcomes.{leaving};
 ghost use Rattle.store.specs.InnerCheck.{Step, Steps};
 ghost use Rattle.byte_form.specs.Layout.{rm01};
-ghost use Rattle.byte_form.specs.Form.{isForm, reading};
+ghost use Rattle.byte_form.specs.Form.{isForm, read};
 ghost use Rattle.byte_io.specs.InnerRead.{Sized, Filled, Cleared, told};
-
-// The number of document 01's table for bytes that are not a written map.
-pub const NOT_WRITTEN: u8 = 6;
 
 // Whether the range at `k` is not empty, and the next one may follow it.
 fn step(bytes: &[u8], count: usize, k: usize) -> bool
     requires { ⌜ (k < count) × Sized rm01 count (now bytes) ⌝ }
-    ensures { λ r. ⌜ Decides r (Step halfOpen (told rm01 count (now (bytes .entry))) k) ⌝ }
+    ensures { λ r. ⌜ Decides r (Step halfOpen (told rm01 count (was bytes)) k) ⌝ }
 {
     let at = form_size(k);
     let start = start_at(bytes, at);
@@ -53,7 +53,7 @@ fn step(bytes: &[u8], count: usize, k: usize) -> bool
 // Whether all ranges are so.
 fn tidy(bytes: &[u8], count: usize) -> bool
     requires { ⌜ Sized rm01 count (now bytes) ⌝ }
-    ensures { λ r. ⌜ Decides r (Steps halfOpen (told rm01 count (now (bytes .entry)))) ⌝ }
+    ensures { λ r. ⌜ Decides r (Steps halfOpen (told rm01 count (was bytes))) ⌝ }
 {
     let mut k = 0;
     while k < count {
@@ -67,7 +67,7 @@ fn tidy(bytes: &[u8], count: usize) -> bool
 
 // Whether bytes are the form of a well-formed map.
 fn is_form(bytes: &[u8]) -> bool
-    ensures { λ r. ⌜ r ≡ isForm rm01 (now (bytes .entry)) ⌝ }
+    ensures { λ r. ⌜ r ≡ isForm rm01 (was bytes) ⌝ }
 {
     if bytes.len() < HEAD_SIZE {
         return false;
@@ -90,13 +90,13 @@ fn is_form(bytes: &[u8]) -> bool
 fn fill(
     starts: &mut [i64; PLACES],
     ends: &mut [i64; PLACES],
-    values: &mut [u8; PLACES],
+    values: &mut [Value; PLACES],
     bytes: &[u8],
     count: usize,
 )
     requires { ⌜ Sized rm01 count (now bytes) ⌝ }
-    ensures { λ _. ⌜ Filled rm01 count (now (bytes .entry)) (now (starts .entry)) (now (ends .entry)) (now (values .entry))
-        (now (starts .exit)) (now (ends .exit)) (now (values .exit)) ⌝ }
+    ensures { λ _. ⌜ Filled rm01 count (was bytes) (was starts) (was ends) (was values)
+        (becomes starts) (becomes ends) (becomes values) ⌝ }
 {
     let mut i = 0;
     while i < count {
@@ -112,11 +112,11 @@ fn fill(
 fn clear_rest(
     starts: &mut [i64; PLACES],
     ends: &mut [i64; PLACES],
-    values: &mut [u8; PLACES],
+    values: &mut [Value; PLACES],
     count: usize,
 )
-    ensures { λ _. ⌜ Cleared count (now (starts .entry)) (now (ends .entry)) (now (values .entry))
-        (now (starts .exit)) (now (ends .exit)) (now (values .exit)) ⌝ }
+    ensures { λ _. ⌜ Cleared count (was starts) (was ends) (was values)
+        (becomes starts) (becomes ends) (becomes values) ⌝ }
 {
     splice::clear_i64(starts, count, PLACES);
     splice::clear_i64(ends, count, PLACES);
@@ -128,14 +128,14 @@ pub fn read(
     count: &mut usize,
     starts: &mut [i64; PLACES],
     ends: &mut [i64; PLACES],
-    values: &mut [u8; PLACES],
+    values: &mut [Value; PLACES],
     bytes: &[u8],
 ) -> u8
-    ensures { λ r. ⌜ leaving r (lent (count .exit) (starts .exit) (ends .exit) (values .exit))
-        ≡ reading rm01 (lent (count .entry) (starts .entry) (ends .entry) (values .entry)) (now (bytes .entry)) ⌝ }
+    ensures { λ r. ⌜ leaving r (atExit count starts ends values)
+        ≡ read rm01 (atEntry count starts ends values) (was bytes) ⌝ }
 {
     if !is_form(bytes) {
-        return NOT_WRITTEN;
+        return NO_MAP;
     }
     let n = count_in(bytes) as usize;
     fill(starts, ends, values, bytes, n);

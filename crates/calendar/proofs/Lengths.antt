@@ -8,7 +8,7 @@ use mathlib.Core.List.{List, [], _∷_}
 use lib.Dec.{T, eqb, leb, eqb→eq, leb→le}
 use lib.ListN.{getD, List·getD-eq-default}
 use borrow.Author.Tests.{ne-eqb}
-use Rattle.calendar.specs.Calendar.{leap, yearLength, monthLength, total, yearsBefore, monthsBefore}
+use Rattle.calendar.specs.Calendar.{leap, yearLength, monthLength, sumOfFirst, yearsBefore, monthsBefore}
 use Rattle.calendar.specs.Years.{Known}
 use Rattle.calendar.proofs.Every.{every, at}
 
@@ -66,10 +66,10 @@ from-table y m h n = eqb→eq _ _ (subst (λ (t : Bool). T (t || eqb (getD (leng
 
 -- the years from 1970 to 2100 added up
 formula : ℕ → Bool
-formula n = eqb (total (λ (i : ℕ). yearLength (1970 + i)) n) (365 * n + (n + 1) / 4)
+formula n = eqb (sumOfFirst (λ (i : ℕ). yearLength (1970 + i)) n) (365 * n + (n + 1) / 4)
 
 formulas : T (every formula 131)
-unfolding formula total yearLength leap
+unfolding formula sumOfFirst yearLength leap
 formulas = tt
 
 pub years-before-is : (y : ℕ) → Known y → yearsBefore y ≡ 365 * (y - 1970) + (y - 1970 + 1) / 4
@@ -77,8 +77,8 @@ unfolding yearsBefore formula
 years-before-is y k = eqb→eq _ _ (at formula 131 formulas (y - 1970) (omega arith))
 
 -- the months of a year add up to it
-all-months : (b : Bool) → total (λ (m : ℕ). getD (lengths b) m 0) 13 ≡ cond b 366 365
-unfolding total
+all-months : (b : Bool) → sumOfFirst (λ (m : ℕ). getD (lengths b) m 0) 13 ≡ cond b 366 365
+unfolding sumOfFirst
 all-months true = refl
 all-months false = refl
 
@@ -88,11 +88,11 @@ year-of-months y = all-months (leap y)
 
 -- the months before the first, and before a later one
 pub no-months : (y m : ℕ) → m ≡ 0 → 0 ≡ monthsBefore y m
-unfolding monthsBefore total
+unfolding monthsBefore sumOfFirst
 no-months y m e = rw e
 
 pub more-months : (y m : ℕ) → 1 ≤ m → monthsBefore y (m - 1) + monthLength y (m - 1) ≡ monthsBefore y m
-unfolding monthsBefore total
+unfolding monthsBefore sumOfFirst
 more-months y zero h = absurd (omega arith)
 more-months y (suc m) h = let e : suc m - 1 ≡ m = omega arith in rw e
 
@@ -107,8 +107,8 @@ month-long y zero h i = absurd (omega arith)
 month-long y (suc m) h i = leb→le 28 (getD (lengths (leap y)) (suc m) 0) (at (λ (j : ℕ). leb 28 (getD (lengths (leap y)) (suc j) 0)) 12 (long (leap y)) m (omega arith))
 
 -- from the first of March to the first of November it is 35 weeks; the months before March and after November are at least 28 days long
-to-november : (b : Bool) → total (λ (m : ℕ). getD (lengths b) m 0) 11 ≡ total (λ (m : ℕ). getD (lengths b) m 0) 3 + 245
-unfolding total
+to-november : (b : Bool) → sumOfFirst (λ (m : ℕ). getD (lengths b) m 0) 11 ≡ sumOfFirst (λ (m : ℕ). getD (lengths b) m 0) 3 + 245
+unfolding sumOfFirst
 to-november true = refl
 to-november false = refl
 

@@ -7,7 +7,7 @@ use mathlib.Core.Bool.{true, false}
 use lib.Dec.{leb}
 use borrow.Author.Tests.{leb-true, le-leb, lt-ltb, le-ltb}
 use Rattle.calendar.specs.declared.Date.{Date}
-use Rattle.calendar.specs.Calendar.{date, leap, yearLength, monthLength, total, yearsBefore, monthsBefore, dayNumber, isDate, nextDate}
+use Rattle.calendar.specs.Calendar.{date, leap, yearLength, monthLength, sumOfFirst, yearsBefore, monthsBefore, dayNumber, isDate, nextDate}
 use Rattle.calendar.specs.Years.{Known}
 use Rattle.calendar.proofs.Every.{cases, both}
 use Rattle.calendar.proofs.Lengths.{month-there, month-long, year-of-months, years-before-is}
@@ -64,18 +64,18 @@ there d e =
 
 -- ADDING UP: one term more, a later sum is no less, and where a number lies among the sums there is one place for it
 module _ (lengths : ℕ → ℕ) where
-  pub total-suc : (n : ℕ) → total lengths (suc n) ≡ total lengths n + lengths n
-  unfolding total
+  pub total-suc : (n : ℕ) → sumOfFirst lengths (suc n) ≡ sumOfFirst lengths n + lengths n
+  unfolding sumOfFirst
   total-suc n = refl
 
-  pub total-more : (i k : ℕ) → total lengths i ≤ total lengths (i + k)
+  pub total-more : (i k : ℕ) → sumOfFirst lengths i ≤ sumOfFirst lengths (i + k)
   total-more i zero = let e : i + 0 ≡ i = omega arith in rw e (omega arith)
   total-more i (suc k) = let e : i + suc k ≡ suc (i + k) = omega arith in rw e (omega (arith, total-more i k, total-suc (i + k)))
 
-  pub total-mono : (i j : ℕ) → i ≤ j → total lengths i ≤ total lengths j
-  total-mono i j h = subst (λ (n : ℕ). total lengths i ≤ total lengths n) (let e : i + (j - i) ≡ j = omega arith in e) (total-more i (j - i))
+  pub total-mono : (i j : ℕ) → i ≤ j → sumOfFirst lengths i ≤ sumOfFirst lengths j
+  total-mono i j h = subst (λ (n : ℕ). sumOfFirst lengths i ≤ sumOfFirst lengths n) (let e : i + (j - i) ≡ j = omega arith in e) (total-more i (j - i))
 
-  pub total-place : (n i j : ℕ) → total lengths i ≤ n → n < total lengths (suc i) → total lengths j ≤ n → n < total lengths (suc j) → i ≡ j
+  pub total-place : (n i j : ℕ) → sumOfFirst lengths i ≤ n → n < sumOfFirst lengths (suc i) → sumOfFirst lengths j ≤ n → n < sumOfFirst lengths (suc j) → i ≡ j
   total-place n i j a b c d =
       elim (decLt i j) [
         | yes p ↦ absurd (omega (arith, total-mono (suc i) j (omega arith)))
@@ -95,11 +95,11 @@ unfolding yearsBefore
 years-suc y h =
     let e : suc y - 1970 ≡ suc (y - 1970) = omega arith in
     let f : 1970 + (y - 1970) ≡ y = omega arith in
-    ap (total (λ (n : ℕ). yearLength (1970 + n))) e ∙ total-suc (λ (n : ℕ). yearLength (1970 + n)) (y - 1970) ∙ ap (λ (x : ℕ). total (λ (n : ℕ). yearLength (1970 + n)) (y - 1970) + yearLength x) f
+    ap (sumOfFirst (λ (n : ℕ). yearLength (1970 + n))) e ∙ total-suc (λ (n : ℕ). yearLength (1970 + n)) (y - 1970) ∙ ap (λ (x : ℕ). sumOfFirst (λ (n : ℕ). yearLength (1970 + n)) (y - 1970) + yearLength x) f
 
 -- the day number of a year's first day, and that a date lies in its year and its month
 pub months-first : (y : ℕ) → monthsBefore y 1 ≡ 0
-unfolding monthsBefore total monthLength
+unfolding monthsBefore sumOfFirst monthLength
 months-first y = refl
 
 pub months-mono : (y i j : ℕ) → i ≤ j → monthsBefore y i ≤ monthsBefore y j

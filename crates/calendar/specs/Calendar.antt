@@ -22,17 +22,17 @@ unfoldable pub monthLength : ℕ → ℕ → ℕ
 monthLength y m = getD (0 ∷ 31 ∷ cond (leap y) 29 28 ∷ 31 ∷ 30 ∷ 31 ∷ 30 ∷ 31 ∷ 31 ∷ 30 ∷ 31 ∷ 30 ∷ 31 ∷ []) m 0
 
 -- the first n lengths added up
-unfoldable pub total : (ℕ → ℕ) → ℕ → ℕ
-total lengths zero = 0
-total lengths (suc n) = total lengths n + lengths n
+unfoldable pub sumOfFirst : (ℕ → ℕ) → ℕ → ℕ
+sumOfFirst lengths zero = 0
+sumOfFirst lengths (suc n) = sumOfFirst lengths n + lengths n
 
 -- the days of the years from 1970 on that come before a year
 unfoldable pub yearsBefore : ℕ → ℕ
-yearsBefore y = total (λ (n : ℕ). yearLength (1970 + n)) (y - 1970)
+yearsBefore y = sumOfFirst (λ (n : ℕ). yearLength (1970 + n)) (y - 1970)
 
 -- the days of the months of a year that come before a month
 unfoldable pub monthsBefore : ℕ → ℕ → ℕ
-monthsBefore y m = total (monthLength y) m
+monthsBefore y m = sumOfFirst (monthLength y) m
 
 -- a date's day number: 1970-01-01 is 0
 unfoldable pub dayNumber : Date → ℕ

@@ -9,8 +9,8 @@ use borrow.Author.Tests.{le-leb, lt-leb, eq-eqb, ne-eqb}
 use lib.Dec.{leb, eqb}
 use lib.ListN.{length, getD, take, drop, drop-of-length-le}
 use lib.Seq.{drop-cons, take-all}
-use Rattle.byte_form.specs.Form.{same}
-use Rattle.decimal.specs.Reading.{plain, readNumber}
+use Rattle.byte_form.specs.Form.{sameBytes}
+use Rattle.decimal.specs.Reading.{noLeadingZero, readNumber}
 use Rattle.decimal.specs.declared.Numeral.{Numeral}
 use Rattle.decimal.specs.declared.Numeral.the-variants as Numeral
 use Rattle.command.specs.Words.{digits, natural, decimal, atMost, numberOf}
@@ -45,19 +45,19 @@ unfolding digits
 digits-end text i h = rw (drop-of-length-le text {i = i} h)
 
 -- a text by its length and its first byte
-pub plain-none : (t : List ℕ) → length t ≡ 0 → plain t ≡ false
-unfolding plain
+pub plain-none : (t : List ℕ) → length t ≡ 0 → noLeadingZero t ≡ false
+unfolding noLeadingZero
 plain-none [] e = refl
 plain-none (b ∷ t) e = absurd (omega arith)
 
-pub plain-one : (t : List ℕ) → length t ≡ 1 → plain t ≡ true
-unfolding plain
+pub plain-one : (t : List ℕ) → length t ≡ 1 → noLeadingZero t ≡ true
+unfolding noLeadingZero
 plain-one [] e = absurd (omega arith)
 plain-one (b ∷ []) e = refl
 plain-one (b ∷ c ∷ t) e = absurd (omega arith)
 
-pub plain-first : (t : List ℕ) → (length t ≡ 0 → ⊥) → (length t ≡ 1 → ⊥) → plain t ≡ not (eqb (getD t 0 0) 48)
-unfolding plain
+pub plain-first : (t : List ℕ) → (length t ≡ 0 → ⊥) → (length t ≡ 1 → ⊥) → noLeadingZero t ≡ not (eqb (getD t 0 0) 48)
+unfolding noLeadingZero
 plain-first [] f g = absurd (f refl)
 plain-first (b ∷ []) f g = absurd (g refl)
 plain-first (b ∷ c ∷ t) f g = refl
@@ -74,7 +74,7 @@ no-minus [] f g = absurd (f refl)
 no-minus (b ∷ t) f g = rw (ne-eqb b 45 g)
 
 pub a-minus : (t : List ℕ) → (length t ≡ 0 → ⊥) → getD t 0 0 ≡ 45
-    → decimal t ≡ (natural (take (length t - 1) (drop 1 t)) && not (same (take (length t - 1) (drop 1 t)) (48 ∷ [])))
+    → decimal t ≡ (natural (take (length t - 1) (drop 1 t)) && not (sameBytes (take (length t - 1) (drop 1 t)) (48 ∷ [])))
 unfolding decimal
 a-minus [] f e = absurd (f refl)
 a-minus (b ∷ t) f e = rw (eq-eqb b 45 e, take-all (suc (length t) - 1) t (omega arith))

@@ -3,13 +3,13 @@ use Prim.Native.Nat.{ℕ, min}
 use mathlib.Core.Bool.{Bool, true, false, not, _&&_, cond}
 use mathlib.Core.List.{List, [], _∷_}
 use lib.Dec.{eqb, leb}
-use Rattle.byte_form.specs.Form.{same}
-use Rattle.decimal.specs.Reading.{plain, readNumber, readSigned}
+use Rattle.byte_form.specs.Form.{sameBytes}
+use Rattle.decimal.specs.Reading.{noLeadingZero, readNumber, readSigned}
 use Rattle.decimal.specs.declared.Numeral.{Numeral}
 use Rattle.decimal.specs.declared.Numeral.the-variants as Numeral
 use Rattle.decimal.specs.declared.Signed.{Signed}
 use Rattle.decimal.specs.declared.Signed.the-variants as Signed
-use Rattle.filling.specs.Filling.{ascii, filled}
+use Rattle.filling.specs.Filling.{ascii, filledIn}
 use Rattle.command.specs.declared.Command.{Command}
 use Rattle.command.specs.declared.Command.the-variants as Command
 use Rattle.command.specs.declared.View.{View}
@@ -44,12 +44,12 @@ digits (b ∷ t) = (leb 48 b && leb b 57) && digits t
 
 -- is a text a decimal number of any size: one or more digits, no zero before others
 abbrev pub natural : List ℕ → Bool
-natural t = plain t && digits t
+natural t = noLeadingZero t && digits t
 
 -- the same with a minus before it or none; -0 is no number
 unfoldable pub decimal : List ℕ → Bool
 decimal [] = false
-decimal (b ∷ t) = cond (eqb b 45) (natural t && not (same t (48 ∷ []))) (natural (b ∷ t))
+decimal (b ∷ t) = cond (eqb b 45) (natural t && not (sameBytes t (48 ∷ []))) (natural (b ∷ t))
 
 -- a number that is at most `most`, which stands for every decimal number that is greater or negative
 abbrev pub atMost : ℕ → Bool → Numeral → Numeral
@@ -82,16 +82,16 @@ queryIn Signed.Not e = Command.Other
 -- THE COMMAND of some words
 abbrev pub commandOf : List (List ℕ) → Command
 commandOf [] = Command.Ranges
-commandOf (w ∷ []) = cond (same w rangesWord) Command.Ranges (cond (same w makeWord) Command.Make (cond (same w helpWord) Command.Help Command.Other))
+commandOf (w ∷ []) = cond (sameBytes w rangesWord) Command.Ranges (cond (sameBytes w makeWord) Command.Make (cond (sameBytes w helpWord) Command.Help Command.Other))
 commandOf (w ∷ a ∷ []) = Command.Other
 commandOf (w ∷ a ∷ b ∷ []) = Command.Other
 commandOf (w ∷ a ∷ b ∷ c ∷ []) = Command.Other
 commandOf (w ∷ a ∷ b ∷ c ∷ d ∷ []) =
-    cond (same w dayWord) (datedBy View.Report a b c d) (cond (same w graphWord) (datedBy View.Graph a b c d) Command.Other)
+    cond (sameBytes w dayWord) (datedBy View.Report a b c d) (cond (sameBytes w graphWord) (datedBy View.Graph a b c d) Command.Other)
 commandOf (w ∷ a ∷ b ∷ c ∷ d ∷ e ∷ []) =
-    cond (same w queryWord) (queryIn (readSigned a) (readSigned b)) (cond (same w graphWord && same e svgWord) (datedBy View.Picture a b c d) Command.Other)
+    cond (sameBytes w queryWord) (queryIn (readSigned a) (readSigned b)) (cond (sameBytes w graphWord && sameBytes e svgWord) (datedBy View.Picture a b c d) Command.Other)
 commandOf (w ∷ a ∷ b ∷ c ∷ d ∷ e ∷ f ∷ ws) = Command.Other
 
 -- A REFUSAL: its number, and a newline
 unfoldable pub refusalText : ℕ → List ℕ
-refusalText n = filled (ascii "{\n") (n ∷ [])
+refusalText n = filledIn (ascii "{\n") (n ∷ [])

@@ -8,6 +8,7 @@ use decimal::Signed;
 use number::number_of;
 ghost use mathlib.Core.Path.{_≡_};
 ghost use mathlib.Core.List.{[], _∷_};
+ghost use Rattle.lent.specs.Moments.{was};
 ghost use Rattle.decimal.specs.Reading.{readSigned};
 ghost use Rattle.command.specs.Words.{datedBy, queryIn, commandOf};
 
@@ -34,7 +35,7 @@ const SMALL: u64 = 255;
 const YEAR: u64 = 65535;
 
 fn dated_by(view: View, zone: &[u8], year: &[u8], month: &[u8], day: &[u8]) -> Command
-    ensures { λ r. ⌜ r ≡ datedBy view (now (zone .entry)) (now (year .entry)) (now (month .entry)) (now (day .entry)) ⌝ }
+    ensures { λ r. ⌜ r ≡ datedBy view (was zone) (was year) (was month) (was day) ⌝ }
 {
     let Numeral::Is(z) = number_of(SMALL, zone) else {
         return Command::Other;
@@ -52,7 +53,7 @@ fn dated_by(view: View, zone: &[u8], year: &[u8], month: &[u8], day: &[u8]) -> C
 }
 
 fn query_in(start: &[u8], end: &[u8]) -> Command
-    ensures { λ r. ⌜ r ≡ queryIn (readSigned (now (start .entry))) (readSigned (now (end .entry))) ⌝ }
+    ensures { λ r. ⌜ r ≡ queryIn (readSigned (was start)) (readSigned (was end)) ⌝ }
 {
     let Signed::Is(s) = decimal::read_i64(start) else {
         return Command::Other;
@@ -65,7 +66,7 @@ fn query_in(start: &[u8], end: &[u8]) -> Command
 
 // The command of one word.
 pub fn one(word: &[u8]) -> Command
-    ensures { λ r. ⌜ r ≡ commandOf (now (word .entry) ∷ []) ⌝ }
+    ensures { λ r. ⌜ r ≡ commandOf (was word ∷ []) ⌝ }
 {
     if same(word, b"ranges") {
         return Command::Ranges;
@@ -81,7 +82,7 @@ pub fn one(word: &[u8]) -> Command
 
 // That of five.
 pub fn five(word: &[u8], a: &[u8], b: &[u8], c: &[u8], d: &[u8]) -> Command
-    ensures { λ r. ⌜ r ≡ commandOf (now (word .entry) ∷ now (a .entry) ∷ now (b .entry) ∷ now (c .entry) ∷ now (d .entry) ∷ []) ⌝ }
+    ensures { λ r. ⌜ r ≡ commandOf (was word ∷ was a ∷ was b ∷ was c ∷ was d ∷ []) ⌝ }
 {
     if same(word, b"day") {
         return dated_by(View::Report, a, b, c, d);
@@ -94,7 +95,7 @@ pub fn five(word: &[u8], a: &[u8], b: &[u8], c: &[u8], d: &[u8]) -> Command
 
 // That of six.
 pub fn six(word: &[u8], a: &[u8], b: &[u8], c: &[u8], d: &[u8], e: &[u8]) -> Command
-    ensures { λ r. ⌜ r ≡ commandOf (now (word .entry) ∷ now (a .entry) ∷ now (b .entry) ∷ now (c .entry) ∷ now (d .entry) ∷ now (e .entry) ∷ []) ⌝ }
+    ensures { λ r. ⌜ r ≡ commandOf (was word ∷ was a ∷ was b ∷ was c ∷ was d ∷ was e ∷ []) ⌝ }
 {
     if same(word, b"query") {
         return query_in(a, b);

@@ -5,6 +5,7 @@ ghost use mathlib.Core.Path.{_≡_};
 ghost use mathlib.Core.Bool.{_&&_};
 ghost use Prim.Native.Nat.{min};
 ghost use lib.Dec.{leb};
+ghost use Rattle.lent.specs.Moments.{was};
 ghost use Rattle.command.specs.Words.{digits, natural, decimal, numberOf};
 
 fn lesser(a: u64, b: u64) -> u64
@@ -15,7 +16,7 @@ fn lesser(a: u64, b: u64) -> u64
 
 // Whether all bytes are digits.
 fn are_digits(text: &[u8]) -> bool
-    ensures { λ r. ⌜ r ≡ digits (now (text .entry)) ⌝ }
+    ensures { λ r. ⌜ r ≡ digits (was text) ⌝ }
 {
     let mut i = 0;
     while i < text.len() {
@@ -32,7 +33,7 @@ fn are_digits(text: &[u8]) -> bool
 
 // Whether a text is one or more digits, with no zero before others.
 fn is_natural(text: &[u8]) -> bool
-    ensures { λ r. ⌜ r ≡ natural (now (text .entry)) ⌝ }
+    ensures { λ r. ⌜ r ≡ natural (was text) ⌝ }
 {
     if text.len() == 0 {
         return false;
@@ -48,7 +49,7 @@ fn is_natural(text: &[u8]) -> bool
 
 // Whether a text is a decimal number, however large.
 fn is_decimal(text: &[u8]) -> bool
-    ensures { λ r. ⌜ r ≡ decimal (now (text .entry)) ⌝ }
+    ensures { λ r. ⌜ r ≡ decimal (was text) ⌝ }
 {
     if text.len() == 0 {
         return false;
@@ -65,7 +66,7 @@ fn is_decimal(text: &[u8]) -> bool
 
 // The number that a word is, or `most` for every other decimal number.
 pub fn number_of(most: u64, word: &[u8]) -> Numeral
-    ensures { λ r. ⌜ r ≡ numberOf most (now (word .entry)) ⌝ }
+    ensures { λ r. ⌜ r ≡ numberOf most (was word) ⌝ }
 {
     let read = decimal::read_u64(word);
     match read {

@@ -9,7 +9,7 @@ use lib.ListN.{length, getD, take}
 use lib.Seq.{ext-getD}
 use lib.IntN.{ℤ, pos}
 use Rattle.span.specs.Span.{Span, span}
-use Rattle.span.specs.Operations.{flat, lex, order, flipped}
+use Rattle.span.specs.Operations.{flat, lex, spanOrder, flipped}
 use Rattle.span.proofs.Order.{order-refl, order-same, order-flip, order-trans}
 use Rattle.key.specs.Rank.{rank}
 use Rattle.key.specs.Range.{Kind, halfOpen, inclusive, kindOf}
@@ -18,7 +18,7 @@ use Rattle.key.specs.declared.RangeKind.the-variants as RangeKind
 use Rattle.key.proofs.Laws.{rank-inj}
 use Rattle.key.proofs.Lawful.{Lawful}
 use Rattle.outcomes.specs.Stored.{Stored, stored, ranges, AllFit, Spare}
-use Rattle.outcomes.specs.Outcomes.{Entry, entries, compared}
+use Rattle.outcomes.specs.Outcomes.{Entry, entries, orderSound}
 use Rattle.outcomes.proofs.Formed.{Formed, Shaped, length-ranges, getD-ranges}
 use Rattle.outcomes.proofs.Bulk.{range, entries-ranges}
 use Rattle.compare.proofs.Walk.{placeOf}
@@ -30,16 +30,16 @@ abbrev pub Ascends : Kind → Type 0
 Ascends kind = (e e′ : ℤ) → ltb (kind .past e) (kind .past e′) ≡ ltb (rank e) (rank e′)
 
 module _ (kind : Kind) (up : Ascends kind) where
-  entries-order : (xs ys : List Entry) → order (map (range kind) xs) (map (range kind) ys) ≡ order (map (range halfOpen) xs) (map (range halfOpen) ys)
-  unfolding order flat lex
+  entries-order : (xs ys : List Entry) → spanOrder (map (range kind) xs) (map (range kind) ys) ≡ spanOrder (map (range halfOpen) xs) (map (range halfOpen) ys)
+  unfolding spanOrder flat lex
   entries-order [] [] = refl
   entries-order [] (y ∷ ys) = refl
   entries-order (x ∷ xs) [] = refl
   entries-order (x ∷ xs) (y ∷ ys) = rw (up (x .end) (y .end), up (y .end) (x .end), entries-order xs ys)
 
   -- maps of this kind compare as maps of half-open ranges do
-  pub compared-kind : (a b : Stored) → compared kind a b ≡ compared halfOpen a b
-  unfolding compared ranges
+  pub compared-kind : (a b : Stored) → orderSound kind a b ≡ orderSound halfOpen a b
+  unfolding orderSound ranges
   compared-kind a b =
       rw (
         entries-ranges kind (a .count) (a .starts) (a .ends) (a .values),
@@ -56,10 +56,10 @@ pub inclusive-ascends : Ascends inclusive
 inclusive-ascends e e′ = rw compare·suc-suc
 
 -- so one piece of code serves both kinds
-pub one-order : (a b : Stored) → compared inclusive a b ≡ compared halfOpen a b
+pub one-order : (a b : Stored) → orderSound inclusive a b ≡ orderSound halfOpen a b
 one-order = compared-kind inclusive inclusive-ascends
 
-pub either-order : (k : RangeKind) (a b : Stored) → compared (kindOf k) a b ≡ compared halfOpen a b
+pub either-order : (k : RangeKind) (a b : Stored) → orderSound (kindOf k) a b ≡ orderSound halfOpen a b
 either-order RangeKind.HalfOpen a b = refl
 either-order RangeKind.Inclusive a b = one-order a b
 
@@ -107,20 +107,20 @@ module _ (kind : Kind) (law : Lawful kind) (n : ℕ) (a b : Stored) (g : Good ki
 
 module _ (kind : Kind) where
   -- equal maps come out equal, and no others do
-  pub compared-refl : (a : Stored) → compared kind a a ≡ Ordering·eq
-  unfolding compared
+  pub compared-refl : (a : Stored) → orderSound kind a a ≡ Ordering·eq
+  unfolding orderSound
   compared-refl a = order-refl (ranges kind a)
 
-  pub compared-same : Lawful kind → (n : ℕ) (a b : Stored) → Good kind n a → Good kind n b → compared kind a b ≡ Ordering·eq → a ≡ b
-  unfolding compared
+  pub compared-same : Lawful kind → (n : ℕ) (a b : Stored) → Good kind n a → Good kind n b → orderSound kind a b ≡ Ordering·eq → a ≡ b
+  unfolding orderSound
   compared-same law n a b g h e = ranges-same kind law n a b g h (order-same (ranges kind a) (ranges kind b) e)
 
   -- the two ways round are opposite
-  pub compared-flip : (a b : Stored) → compared kind b a ≡ flipped (compared kind a b)
-  unfolding compared
+  pub compared-flip : (a b : Stored) → orderSound kind b a ≡ flipped (orderSound kind a b)
+  unfolding orderSound
   compared-flip a b = order-flip (ranges kind a) (ranges kind b)
 
   -- less is transitive
-  pub compared-trans : (a b c : Stored) → compared kind a b ≡ Ordering·lt → compared kind b c ≡ Ordering·lt → compared kind a c ≡ Ordering·lt
-  unfolding compared
+  pub compared-trans : (a b c : Stored) → orderSound kind a b ≡ Ordering·lt → orderSound kind b c ≡ Ordering·lt → orderSound kind a c ≡ Ordering·lt
+  unfolding orderSound
   compared-trans a b c = order-trans (ranges kind a) (ranges kind b) (ranges kind c)

@@ -9,10 +9,10 @@ use lib.ListN.{length, getD, drop, drop-of-length-le}
 use lib.Seq.{drop-cons}
 use lib.IntN.{pos}
 use Rattle.span.specs.Span.{Span}
-use Rattle.span.specs.Operations.{flat, lex, order}
-use Rattle.key.specs.Range.{Kind, halfOpen, rangeOf}
+use Rattle.span.specs.Operations.{flat, lex, spanOrder}
+use Rattle.key.specs.Range.{Kind, halfOpen, spanOf}
 use Rattle.outcomes.specs.Stored.{Stored, ranges}
-use Rattle.outcomes.specs.Outcomes.{compared, comparedBy}
+use Rattle.outcomes.specs.Outcomes.{orderSound, comparedBy}
 use Rattle.outcomes.specs.declared.Compared.{Compared}
 use Rattle.outcomes.specs.declared.Compared.the-variants as Compared
 use Rattle.outcomes.proofs.Formed.{Shaped, length-ranges, getD-ranges}
@@ -32,8 +32,8 @@ pick-else false true z o = refl
 pick-else false false z o = refl
 
 -- the first spans decide; where they do not, the others do
-pub order-cons : (x y : Span) (xs ys : List Span) → order (x ∷ xs) (y ∷ ys) ≡ orElse (order (x ∷ []) (y ∷ [])) (order xs ys)
-unfolding order flat lex
+pub order-cons : (x y : Span) (xs ys : List Span) → spanOrder (x ∷ xs) (y ∷ ys) ≡ orElse (spanOrder (x ∷ []) (y ∷ [])) (spanOrder xs ys)
+unfolding spanOrder flat lex
 order-cons x y xs ys =
     let los = ltb (x .lo) (y .lo) in
     let los′ = ltb (y .lo) (x .lo) in
@@ -48,7 +48,7 @@ order-cons x y xs ys =
 
 -- the range at place k
 abbrev pub placeOf : Kind → Stored → ℕ → Span
-placeOf kind m k = rangeOf kind (getD (m .starts) k (pos 0)) (getD (m .ends) k (pos 0)) (getD (m .values) k 0)
+placeOf kind m k = spanOf kind (getD (m .starts) k (pos 0)) (getD (m .ends) k (pos 0)) (getD (m .values) k 0)
 
 -- what the comparison requires of each map
 abbrev pub Columns : Stored → Type 0
@@ -75,41 +75,41 @@ module _ (m : Stored) (h : Columns m) (k : ℕ) where
 
 -- how the places from k on compare
 abbrev pub onward : Stored → Stored → ℕ → Ordering
-onward a b k = order (drop k (ranges halfOpen a)) (drop k (ranges halfOpen b))
+onward a b k = spanOrder (drop k (ranges halfOpen a)) (drop k (ranges halfOpen b))
 
-pub all-left : (a b : Stored) → compared halfOpen a b ≡ onward a b 0
-unfolding compared
+pub all-left : (a b : Stored) → orderSound halfOpen a b ≡ onward a b 0
+unfolding orderSound
 all-left a b = refl
 
 -- all places before k were equal
-module _ (a b : Stored) (h : Columns a) (h′ : Columns b) (k : ℕ) (so-far : compared halfOpen a b ≡ onward a b k) where
-  pub first-left : k < a .count → b .count ≤ k → Compared.Greater ≡ comparedBy (compared halfOpen a b)
-  unfolding order flat lex
+module _ (a b : Stored) (h : Columns a) (h′ : Columns b) (k : ℕ) (so-far : orderSound halfOpen a b ≡ onward a b k) where
+  pub first-left : k < a .count → b .count ≤ k → Compared.Greater ≡ comparedBy (orderSound halfOpen a b)
+  unfolding spanOrder flat lex
   first-left l l′ = rw (so-far, some-left a h k l, none-left b h′ k l′)
 
-  pub second-left : a .count ≤ k → k < b .count → Compared.Less ≡ comparedBy (compared halfOpen a b)
-  unfolding order flat lex
+  pub second-left : a .count ≤ k → k < b .count → Compared.Less ≡ comparedBy (orderSound halfOpen a b)
+  unfolding spanOrder flat lex
   second-left l l′ = rw (so-far, none-left a h k l, some-left b h′ k l′)
 
-  pub neither-left : a .count ≤ k → b .count ≤ k → Compared.Equal ≡ comparedBy (compared halfOpen a b)
-  unfolding order flat lex
+  pub neither-left : a .count ≤ k → b .count ≤ k → Compared.Equal ≡ comparedBy (orderSound halfOpen a b)
+  unfolding spanOrder flat lex
   neither-left l l′ = rw (so-far, none-left a h k l, none-left b h′ k l′)
 
   -- of the places at k the code learns r
-  module _ (l : k < a .count) (l′ : k < b .count) {r : Compared} (e : r ≡ comparedBy (order (placeOf halfOpen a k ∷ []) (placeOf halfOpen b k ∷ []))) where
-    both-left : compared halfOpen a b ≡ orElse (order (placeOf halfOpen a k ∷ []) (placeOf halfOpen b k ∷ [])) (onward a b (k + 1))
+  module _ (l : k < a .count) (l′ : k < b .count) {r : Compared} (e : r ≡ comparedBy (spanOrder (placeOf halfOpen a k ∷ []) (placeOf halfOpen b k ∷ []))) where
+    both-left : orderSound halfOpen a b ≡ orElse (spanOrder (placeOf halfOpen a k ∷ []) (placeOf halfOpen b k ∷ [])) (onward a b (k + 1))
     both-left = so-far ∙ rw (some-left a h k l, some-left b h′ k l′) (order-cons _ _ _ _)
 
-    pub passed : r ≡ Compared.Equal → compared halfOpen a b ≡ onward a b (k + 1)
-    passed f = both-left ∙ go (order (placeOf halfOpen a k ∷ []) (placeOf halfOpen b k ∷ [])) (sym e ∙ f)
+    pub passed : r ≡ Compared.Equal → orderSound halfOpen a b ≡ onward a b (k + 1)
+    passed f = both-left ∙ go (spanOrder (placeOf halfOpen a k ∷ []) (placeOf halfOpen b k ∷ [])) (sym e ∙ f)
       where
         go : (o : Ordering) → comparedBy o ≡ Compared.Equal → orElse o (onward a b (k + 1)) ≡ onward a b (k + 1)
         go Ordering·lt f = cc
         go Ordering·eq f = refl
         go Ordering·gt f = cc
 
-    pub decided : (r ≡ Compared.Equal → ⊥) → r ≡ comparedBy (compared halfOpen a b)
-    decided f = rw both-left (go (order (placeOf halfOpen a k ∷ []) (placeOf halfOpen b k ∷ [])) e)
+    pub decided : (r ≡ Compared.Equal → ⊥) → r ≡ comparedBy (orderSound halfOpen a b)
+    decided f = rw both-left (go (spanOrder (placeOf halfOpen a k ∷ []) (placeOf halfOpen b k ∷ [])) e)
       where
         go : (o : Ordering) → r ≡ comparedBy o → r ≡ comparedBy (orElse o (onward a b (k + 1)))
         go Ordering·lt e = e

@@ -6,11 +6,11 @@ use lib.IntN.{pos, negsuc}
 use Rattle.decimal.specs.declared.Numeral.the-variants as Numeral
 use Rattle.decimal.specs.declared.Signed.the-variants as Signed
 use Rattle.decimal.specs.Decimal.{digitsText, spelled, decimalText, signedText}
-use Rattle.decimal.specs.Reading.{plain, nextOf, readOn, readNumber, asNatural, asNegative, readSigned}
+use Rattle.decimal.specs.Reading.{noLeadingZero, nextOf, readOn, readNumber, asNatural, asNegative, readSigned}
 
 -- all that computes here
 unfoldable all : Unit {0}
-unfolding digitsText spelled decimalText signedText plain nextOf readOn readNumber asNatural asNegative readSigned
+unfolding digitsText spelled decimalText signedText noLeadingZero nextOf readOn readNumber asNatural asNegative readSigned
 all = tt
 
 -- TEXTS

@@ -9,7 +9,7 @@ use mathlib.Core.List.{List, [], _∷_, _++_}
 use borrow.Author.Tests.{lt-ltb, le-ltb}
 use lib.ListN.{length, getD, take, length-append}
 use lib.Seq.{take-at, getD-at}
-use Rattle.decimal.specs.Decimal.{longest, digit, digitsText, spelled, decimalText}
+use Rattle.decimal.specs.Decimal.{longestNumber, digit, digitsText, spelled, decimalText}
 
 -- one digit less
 fewer : (k n : ℕ) → n < 10 ^ suc k → n / 10 < 10 ^ k
@@ -66,7 +66,7 @@ length-decimal (suc k) n h b =
       | no p ↦ rw (decimal-more n (omega arith) b) (omega (arith, length-append (decimalText (n / 10)) (digit (n % 10) ∷ [])))
     ]
 
-pub length-u64 : (n : ℕ) → n < 2 ^ 64 → length (decimalText n) ≤ longest
+pub length-u64 : (n : ℕ) → n < 2 ^ 64 → length (decimalText n) ≤ longestNumber
 length-u64 n h = length-decimal 19 n (omega arith) (omega arith)
 
 pub length-u32 : (n : ℕ) → n < 2 ^ 32 → length (decimalText n) ≤ 10

@@ -16,7 +16,7 @@ use Rattle.decimal.specs.declared.Numeral.{Numeral}
 use Rattle.decimal.specs.declared.Numeral.the-variants as Numeral
 use Rattle.decimal.specs.declared.Signed.the-variants as Signed
 use Rattle.decimal.specs.Decimal.{digit, minus, decimalText, signedText}
-use Rattle.decimal.specs.Reading.{plain, nextOf, readOn, readNumber, asNatural, asNegative, readSigned}
+use Rattle.decimal.specs.Reading.{noLeadingZero, nextOf, readOn, readNumber, asNatural, asNegative, readSigned}
 use Rattle.decimal.proofs.Digits.{decimal-one, decimal-more, each-number}
 
 -- ONE BYTE
@@ -123,18 +123,18 @@ first-digit = each-number Begins one more
         ap (λ (t : List ℕ). getD t 0 0) (decimal-more n h b) ∙ first-append 48 (decimalText (n / 10)) (digit (n % 10) ∷ []) i in
         (omega arith, λ p. omega arith)
 
-pub plain-two : (b c : ℕ) (t : List ℕ) → plain (b ∷ c ∷ t) ≡ not (eqb b 48)
-unfolding plain
+pub plain-two : (b c : ℕ) (t : List ℕ) → noLeadingZero (b ∷ c ∷ t) ≡ not (eqb b 48)
+unfolding noLeadingZero
 plain-two b c t = refl
 
-plain-above : (t : List ℕ) → 48 < getD t 0 0 → plain t ≡ true
-unfolding plain
+plain-above : (t : List ℕ) → 48 < getD t 0 0 → noLeadingZero t ≡ true
+unfolding noLeadingZero
 plain-above [] h = absurd (omega arith)
 plain-above (b ∷ []) h = refl
 plain-above (b ∷ c ∷ t) h = rw (ne-eqb b 48 (λ e. omega arith))
 
-plain-decimal : (n : ℕ) → n < 10 ^ 20 → plain (decimalText n) ≡ true
-unfolding plain
+plain-decimal : (n : ℕ) → n < 10 ^ 20 → noLeadingZero (decimalText n) ≡ true
+unfolding noLeadingZero
 plain-decimal n b = elim (decLt n 10) [
   | yes p ↦ rw (decimal-one n p)
   | no p ↦ plain-above (decimalText n) (first-digit n b .1 (omega arith))
@@ -208,7 +208,7 @@ first-is b x =
     decimal-one (b - 48) (omega arith) ∙ ap (λ (d : ℕ). d ∷ []) k
 
 -- nothing stands behind the first digit, or it is no 0
-says-first : (b n : ℕ) (t : List ℕ) → plain (b ∷ t) ≡ true → readOn (Numeral.Is 0) (b ∷ t) ≡ Numeral.Is n → Says (b ∷ t) n
+says-first : (b n : ℕ) (t : List ℕ) → noLeadingZero (b ∷ t) ≡ true → readOn (Numeral.Is 0) (b ∷ t) ≡ Numeral.Is n → Says (b ∷ t) n
 says-first b n [] p e =
     let x = first-taken b n [] e in
     let z : Numeral.Is (b - 48) ≡ Numeral.Is n = sym (on-none (Numeral.Is (b - 48))) ∙ x .1 in
@@ -234,11 +234,11 @@ never-signed : {z : ℤ} {X : Type 0} → Signed.Not ≡ Signed.Is z → X
 never-signed {z} e = let o : _≡_ {A = ℕ} 0 1 = cc in absurd (omega arith)
 
 says : (t : List ℕ) (n : ℕ) → readNumber t ≡ Numeral.Is n → Says t n
-unfolding readNumber plain
+unfolding readNumber noLeadingZero
 says [] n e = never-read e
-says (b ∷ t) n e = go (plain (b ∷ t)) refl e
+says (b ∷ t) n e = go (noLeadingZero (b ∷ t)) refl e
   where
-    go : (p : Bool) → plain (b ∷ t) ≡ p → cond p (readOn (Numeral.Is 0) (b ∷ t)) Numeral.Not ≡ Numeral.Is n → Says (b ∷ t) n
+    go : (p : Bool) → noLeadingZero (b ∷ t) ≡ p → cond p (readOn (Numeral.Is 0) (b ∷ t)) Numeral.Not ≡ Numeral.Is n → Says (b ∷ t) n
     go true p e = says-first b n t p e
     go false p e = never-read e
 

@@ -18,34 +18,34 @@ use Rattle.decimal.specs.declared.Numeral.{Numeral}
 use Rattle.decimal.specs.declared.Numeral.the-variants as Numeral
 use Rattle.decimal.specs.declared.Signed.the-variants as Signed
 use Rattle.decimal.specs.Decimal.{minus}
-use Rattle.decimal.specs.Reading.{plain, nextOf, readOn, readNumber, asNatural, asNegative, readSigned}
+use Rattle.decimal.specs.Reading.{noLeadingZero, nextOf, readOn, readNumber, asNatural, asNegative, readSigned}
 use Rattle.decimal.proofs.Reading.{plain-two, on-one, on-none, signed-none, signed-minus, signed-other}
 
 -- PLAIN TEXT
 
-pub plain-empty : (t : List ℕ) → length t ≡ 0 → plain t ≡ false
-unfolding plain
+pub plain-empty : (t : List ℕ) → length t ≡ 0 → noLeadingZero t ≡ false
+unfolding noLeadingZero
 plain-empty [] h = refl
 plain-empty (b ∷ t) h = absurd (omega arith)
 
-pub plain-one : (t : List ℕ) → length t ≡ 1 → plain t ≡ true
-unfolding plain
+pub plain-one : (t : List ℕ) → length t ≡ 1 → noLeadingZero t ≡ true
+unfolding noLeadingZero
 plain-one [] h = absurd (omega arith)
 plain-one (b ∷ []) h = refl
 plain-one (b ∷ c ∷ t) h = absurd (omega arith)
 
-pub plain-longer : (t : List ℕ) → 2 ≤ length t → plain t ≡ not (eqb (getD t 0 0) 48)
+pub plain-longer : (t : List ℕ) → 2 ≤ length t → noLeadingZero t ≡ not (eqb (getD t 0 0) 48)
 plain-longer [] h = absurd (omega arith)
 plain-longer (b ∷ []) h = absurd (omega arith)
 plain-longer (b ∷ c ∷ t) h = plain-two b c t
 
 -- BYTE AFTER BYTE
 
-pub number-plain : (t : List ℕ) → plain t ≡ true → readNumber t ≡ readOn (Numeral.Is 0) t
+pub number-plain : (t : List ℕ) → noLeadingZero t ≡ true → readNumber t ≡ readOn (Numeral.Is 0) t
 unfolding readNumber
 number-plain t p = rw p
 
-pub number-not : (t : List ℕ) → plain t ≡ false → readNumber t ≡ Numeral.Not
+pub number-not : (t : List ℕ) → noLeadingZero t ≡ false → readNumber t ≡ Numeral.Not
 unfolding readNumber
 number-not t p = rw p
 

@@ -6,8 +6,8 @@ use lib.Dec.{ltb}
 use lib.IntN.{ℤ, pos, negsuc}
 
 -- no text of a number of 64 bits is longer, its sign counted: laws length-u64 and length-signed
-abbrev pub longest : ℕ
-longest = 20
+abbrev pub longestNumber : ℕ
+longestNumber = 20
 
 -- the byte of a digit
 abbrev pub digit : ℕ → ℕ

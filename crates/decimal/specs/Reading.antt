@@ -11,10 +11,10 @@ use Rattle.decimal.specs.declared.Signed.the-variants as Signed
 use Rattle.decimal.specs.Decimal.{digit, minus}
 
 -- a text is not empty, and no zero stands before other bytes
-unfoldable pub plain : List ℕ → Bool
-plain [] = false
-plain (b ∷ []) = true
-plain (b ∷ c ∷ t) = not (eqb b (digit 0))
+unfoldable pub noLeadingZero : List ℕ → Bool
+noLeadingZero [] = false
+noLeadingZero (b ∷ []) = true
+noLeadingZero (b ∷ c ∷ t) = not (eqb b (digit 0))
 
 -- a number with one byte more behind it: a number where the byte is a digit and the number is below 2 ^ 64
 unfoldable pub nextOf : Numeral → ℕ → Numeral
@@ -29,7 +29,7 @@ readOn a (b ∷ t) = readOn (nextOf a b) t
 
 -- the number below 2 ^ 64 that a text says
 unfoldable pub readNumber : List ℕ → Numeral
-readNumber t = cond (plain t) (readOn (Numeral.Is 0) t) Numeral.Not
+readNumber t = cond (noLeadingZero t) (readOn (Numeral.Is 0) t) Numeral.Not
 
 -- a number as an i64
 unfoldable pub asNatural : Numeral → Signed

@@ -4,9 +4,10 @@ use text::put_right;
 ghost use Prim.Native.Nat.{_+_, _<_, _≤_, max};
 ghost use mathlib.Core.Path.{_≡_};
 ghost use lib.ListN.{length};
+ghost use Rattle.lent.specs.Moments.{was, becomes};
 ghost use Rattle.text.specs.Text.{Adds, rightOf};
-ghost use Rattle.decimal.specs.Decimal.{longest, digit, digitsText, decimalText, signedText};
-ghost use Rattle.decimal.specs.Reading.{plain, nextOf, readNumber, asNatural, asNegative, readSigned};
+ghost use Rattle.decimal.specs.Decimal.{longestNumber, digit, digitsText, decimalText, signedText};
+ghost use Rattle.decimal.specs.Reading.{noLeadingZero, nextOf, readNumber, asNatural, asNegative, readSigned};
 
 // What a text is as a u64.
 pub enum Numeral {
@@ -42,7 +43,7 @@ fn digit_byte(d: u64) -> u8
 // The last k digits of a number, with zeros before it where it has fewer. The last digit is put first.
 pub fn put_digits(out: &mut [u8], at: usize, k: usize, n: u64) -> usize
     requires { ⌜ at + k ≤ length (now out) ⌝ }
-    ensures { λ r. ⌜ Adds (digitsText k n) (now (out .entry)) at (now (out .exit)) r ⌝ }
+    ensures { λ r. ⌜ Adds (digitsText k n) (was out) at (becomes out) r ⌝ }
 {
     let mut i = k;
     let mut rest = n;
@@ -70,23 +71,23 @@ fn places(n: u64) -> usize
 // A number, where there is room for it.
 fn put_number(out: &mut [u8], at: usize, n: u64) -> usize
     requires { ⌜ at + length (decimalText n) ≤ length (now out) ⌝ }
-    ensures { λ r. ⌜ Adds (decimalText n) (now (out .entry)) at (now (out .exit)) r ⌝ }
+    ensures { λ r. ⌜ Adds (decimalText n) (was out) at (becomes out) r ⌝ }
 {
     put_digits(out, at, places(n), n)
 }
 
 // A number.
 pub fn put_u64(out: &mut [u8], at: usize, n: u64) -> usize
-    requires { ⌜ at + longest ≤ length (now out) ⌝ }
-    ensures { λ r. ⌜ Adds (decimalText n) (now (out .entry)) at (now (out .exit)) r ⌝ }
+    requires { ⌜ at + longestNumber ≤ length (now out) ⌝ }
+    ensures { λ r. ⌜ Adds (decimalText n) (was out) at (becomes out) r ⌝ }
 {
     put_number(out, at, n)
 }
 
 // A number with a sign. The rank of a key tells how far it is from 0, and nothing overflows there.
 pub fn put_i64(out: &mut [u8], at: usize, n: i64) -> usize
-    requires { ⌜ at + longest ≤ length (now out) ⌝ }
-    ensures { λ r. ⌜ Adds (signedText n) (now (out .entry)) at (now (out .exit)) r ⌝ }
+    requires { ⌜ at + longestNumber ≤ length (now out) ⌝ }
+    ensures { λ r. ⌜ Adds (signedText n) (was out) at (becomes out) r ⌝ }
 {
     let rank = key::rank_of(n);
     if rank < ZERO {
@@ -98,8 +99,8 @@ pub fn put_i64(out: &mut [u8], at: usize, n: i64) -> usize
 
 // A number at the right of its columns. One that is wider than they are stands whole.
 pub fn put_u64_right(out: &mut [u8], at: usize, width: usize, n: u64) -> usize
-    requires { ⌜ at + max width longest ≤ length (now out) ⌝ }
-    ensures { λ r. ⌜ Adds (rightOf width (decimalText n)) (now (out .entry)) at (now (out .exit)) r ⌝ }
+    requires { ⌜ at + max width longestNumber ≤ length (now out) ⌝ }
+    ensures { λ r. ⌜ Adds (rightOf width (decimalText n)) (was out) at (becomes out) r ⌝ }
 {
     let mut digits = [0u8; LONGEST];
     let k = put_u64(&mut digits, 0, n);
@@ -108,8 +109,8 @@ pub fn put_u64_right(out: &mut [u8], at: usize, width: usize, n: u64) -> usize
 
 // The same with a sign.
 pub fn put_i64_right(out: &mut [u8], at: usize, width: usize, n: i64) -> usize
-    requires { ⌜ at + max width longest ≤ length (now out) ⌝ }
-    ensures { λ r. ⌜ Adds (rightOf width (signedText n)) (now (out .entry)) at (now (out .exit)) r ⌝ }
+    requires { ⌜ at + max width longestNumber ≤ length (now out) ⌝ }
+    ensures { λ r. ⌜ Adds (rightOf width (signedText n)) (was out) at (becomes out) r ⌝ }
 {
     let mut text = [0u8; LONGEST];
     let k = put_i64(&mut text, 0, n);
@@ -120,7 +121,7 @@ pub fn put_i64_right(out: &mut [u8], at: usize, width: usize, n: i64) -> usize
 
 // Whether a text is not empty, and no zero stands before other bytes.
 fn is_plain(text: &[u8]) -> bool
-    ensures { λ r. ⌜ r ≡ plain (now (text .entry)) ⌝ }
+    ensures { λ r. ⌜ r ≡ noLeadingZero (was text) ⌝ }
 {
     if text.len() == 0 {
         return false;
@@ -150,7 +151,7 @@ fn next(n: u64, byte: u8) -> Numeral
 
 // The number below 2 ^ 64 that a text says.
 pub fn read_u64(text: &[u8]) -> Numeral
-    ensures { λ r. ⌜ r ≡ readNumber (now (text .entry)) ⌝ }
+    ensures { λ r. ⌜ r ≡ readNumber (was text) ⌝ }
 {
     if !is_plain(text) {
         return Numeral::Not;
@@ -198,7 +199,7 @@ fn negative(a: Numeral) -> Signed
 
 // The i64 that a text says.
 pub fn read_i64(text: &[u8]) -> Signed
-    ensures { λ r. ⌜ r ≡ readSigned (now (text .entry)) ⌝ }
+    ensures { λ r. ⌜ r ≡ readSigned (was text) ⌝ }
 {
     if text.len() == 0 {
         return Signed::Not;

@@ -8,7 +8,7 @@ use mathlib.Core.List.{List, [], _∷_}
 use borrow.Author.Tests.{eq-eqb, ne-eqb}
 use Rattle.span.specs.Span.{Span}
 use Rattle.span.specs.Labels.{relabelled, equals, those}
-use Rattle.span.specs.Operations.{within, total}
+use Rattle.span.specs.Operations.{within, spanTotal}
 use Rattle.span.proofs.Total.{total-those}
 use Rattle.key.proofs.Answers.{never}
 use Rattle.duty.specs.Duty.{isOffDuty, isSleeperBerth, isDriving, isOnDuty, isStatus, secondsOf, unrecordedOf, strange, totalsOf, tallying}
@@ -113,15 +113,15 @@ module _ (p : ℕ → Bool) (n : ℕ) (bound : (v : ℕ) → n ≤ v → p v ≡
   of-label : (v a : ℕ) → sumOver p (λ (s : ℕ). cond (equals s v) a 0) n ≡ cond (p v) a 0
   of-label v a = elim (decLt v n) [ yes i ↦ sum-one p v a n i | no i ↦ rw (bound v (omega arith)) (sum-past p v a n (omega arith)) ]
 
-  total-by-status : (m : List Span) → sumOver p (λ (s : ℕ). total (those (equals s) m)) n ≡ total (those p m)
-  unfolding relabelled total
+  total-by-status : (m : List Span) → sumOver p (λ (s : ℕ). spanTotal (those (equals s) m)) n ≡ spanTotal (those p m)
+  unfolding relabelled spanTotal
   total-by-status [] = sum-nothing p n
   total-by-status (x ∷ xs) =
       let a = x .hi - x .lo in
       let rest = total-by-status xs in
-      sum-same p (λ (s : ℕ). total (those (equals s) (x ∷ xs))) (λ (s : ℕ). cond (equals s (x .label)) a 0 + total (those (equals s) xs)) n
+      sum-same p (λ (s : ℕ). spanTotal (those (equals s) (x ∷ xs))) (λ (s : ℕ). cond (equals s (x .label)) a 0 + spanTotal (those (equals s) xs)) n
       (λ s. total-those (equals s) x xs)
-      ∙ sum-plus p (λ (s : ℕ). cond (equals s (x .label)) a 0) (λ (s : ℕ). total (those (equals s) xs)) n
+      ∙ sum-plus p (λ (s : ℕ). cond (equals s (x .label)) a 0) (λ (s : ℕ). spanTotal (those (equals s) xs)) n
       ∙ rw (of-label (x .label) a, rest) (sym (total-those p x xs))
 
   pub seconds-by-status : (lo hi : ℕ) (m : List Span) → sumOver p (λ (s : ℕ). secondsOf (equals s) lo hi m) n ≡ secondsOf p lo hi m

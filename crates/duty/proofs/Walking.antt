@@ -10,6 +10,7 @@ use lib.Dec.{eqb}
 use lib.ListN.{length, getD, set, take, drop, length-set, take-append-drop, drop-of-length-le, List·getD-eq-default}
 use lib.Seq.{drop-cons, getD-set-same, getD-set-other, length-take-le, getD-take, take-take}
 use lib.IntN.{ℤ, pos}
+use Rattle.answers.specs.Answers.{badStatus}
 use Rattle.span.specs.Span.{Span, span, Ordered, Upto}
 use Rattle.span.specs.Labels.{equals}
 use Rattle.span.specs.Operations.{within}
@@ -29,8 +30,8 @@ use Rattle.store.proofs.Seeking.{reached-after, ends-ascend}
 use Rattle.duty.specs.Duty.{isOffDuty, isSleeperBerth, isDriving, isOnDuty, isStatus, secondsOf, unrecordedOf, strange, totalsOf, tallying}
 use Rattle.duty.specs.declared.Tallied.{Tallied}
 use Rattle.duty.specs.declared.Tallied.the-variants as Tallied
-use Rattle.duty.specs.InnerWalk.{limit, tableLength, sumOver, gatheredOf, gathering, sumOf, completing, tallyOf, walked}
-use Rattle.duty.specs.InnerCounting.{Statuses, part, Met, Apart, Inside, empty, credited, Joined, Room, Added}
+use Rattle.duty.specs.InnerWalk.{u32Limit, tableLength, sumOver, gatheredOf, gathering, tallySum, completing, tallyOf, walkFinds}
+use Rattle.duty.specs.InnerCounting.{Statuses, part, Met, EachApart, Inside, noSeconds, credited, Joined, TableRoom, Added}
 use Rattle.duty.specs.declared.Tally.{Tally}
 use Rattle.duty.specs.declared.Walked.{Walked}
 use Rattle.duty.specs.declared.Walked.the-variants as Walked
@@ -56,7 +57,7 @@ pub completing-is : (t : Tally) (n : ℕ)
       «sleeper_berth» = t .«sleeper_berth»;
       driving = t .driving;
       «on_duty» = t .«on_duty»;
-      unrecorded = n - sumOf t;
+      unrecorded = n - tallySum t;
     } ≡ completing t n
 unfolding completing
 completing-is t n = refl
@@ -72,10 +73,10 @@ upto-take c (suc p) d [] f = tt
 upto-take c (suc p) d (x ∷ xs) f = (f 0 (omega arith) (omega arith), upto-take c p d xs (λ j i b. f (suc j) (omega arith) (omega arith)))
 
 -- A TABLE: of no seconds
-pub empty-has : (d : ℕ) → getD empty d 0 ≡ 0
+pub empty-has : (d : ℕ) → getD noSeconds d 0 ≡ 0
 empty-has d = all-same 0 tableLength d
 
-pub nothing-added : {s : ℕ} (d : ℕ) → s ≡ 0 → getD empty d 0 ≡ getD empty d 0 + s
+pub nothing-added : {s : ℕ} (d : ℕ) → s ≡ 0 → getD noSeconds d 0 ≡ getD noSeconds d 0 + s
 nothing-added d e = omega arith
 
 -- with more of one status
@@ -157,18 +158,18 @@ module _ {ss es : List ℤ} {vs : List ℕ} {lo hi a b : ℕ} (m : Met ss es vs 
   }
 
   -- one that ends by the start of the next, which is there too, where none begins before lo: its seconds are its length, which a u32 holds
-  pub whole-secs : Apart ss es a b → Inside ss lo a b → (k : ℕ) → a ≤ k → k + 1 < b
+  pub whole-secs : EachApart ss es a b → Inside ss lo a b → (k : ℕ) → a ≤ k → k + 1 < b
       → rank (getD es k (pos 0)) - rank (getD ss k (pos 0)) ≡ secs k
   whole-secs apart inside k h i = omega (arith, m .meet (k + 1) (omega arith) i, apart k h i, inside k h (omega arith))
 
-  pub whole-fits : Apart ss es a b → Inside ss lo a b → (k : ℕ) → a ≤ k → k + 1 < b
-      → (rank (getD ss k (pos 0)) ≤ rank (getD es k (pos 0))) × (rank (getD es k (pos 0)) - rank (getD ss k (pos 0)) < limit)
+  pub whole-fits : EachApart ss es a b → Inside ss lo a b → (k : ℕ) → a ≤ k → k + 1 < b
+      → (rank (getD ss k (pos 0)) ≤ rank (getD es k (pos 0))) × (rank (getD es k (pos 0)) - rank (getD ss k (pos 0)) < u32Limit)
   whole-fits apart inside k h i =
       let e = m .meet k h (omega arith) in
       (omega arith, omega (arith, m .meet (k + 1) (omega arith) i, apart k h i, inside k h (omega arith), m .short))
 
   -- all but the first begin in the window
-  pub second-inside : Apart ss es a b → Inside ss lo (a + 1) b
+  pub second-inside : EachApart ss es a b → Inside ss lo (a + 1) b
   second-inside apart zero h i = absurd (omega arith)
   second-inside apart (suc k) h i =
       let e : suc k ≡ k + 1 = omega arith in
@@ -221,7 +222,7 @@ pub going-turned : {ss es : List ℤ} {vs : List ℕ} {lo hi a b : ℕ} {w : ℕ
 going-turned l g = record { past = g .past; within = g .within; long = l; sums = λ d. omega (arith, g .sums d) }
 
 module _ {ss es : List ℤ} {vs : List ℕ} {lo hi a b : ℕ} (m : Met ss es vs lo hi a b) (s : Statuses vs a b)
-    {w : ℕ → ℕ} (room : (d : ℕ) → w d < limit) {t u : List ℕ} {k : ℕ} (g : Going ss es vs lo hi a b w t u k) where
+    {w : ℕ → ℕ} (room : (d : ℕ) → w d < u32Limit) {t u : List ℕ} {k : ℕ} (g : Going ss es vs lo hi a b w t u k) where
   pub going-end : b ≤ k → (d : ℕ) → getD t d 0 + getD u d 0 ≡ w d
   going-end h d = omega (arith, g .sums d, seconds-end m d k h)
 
@@ -230,7 +231,7 @@ module _ {ss es : List ℤ} {vs : List ℕ} {lo hi a b : ℕ} (m : Met ss es vs 
     going-status = omega (arith, status-upto (getD vs k 0) (s k i (g .past)))
 
     -- n is what the code adds, and t′ the table that it leaves
-    pub going-room : {n : ℕ} → n ≡ secs m k → getD t (getD vs k 0) 0 + n < limit
+    pub going-room : {n : ℕ} → n ≡ secs m k → getD t (getD vs k 0) 0 + n < u32Limit
     going-room e =
         let own = rw (eq-eqb (getD vs k 0) (getD vs k 0) refl) at (seconds-step m (getD vs k 0) k i) in
         omega (arith, e, own, g .sums (getD vs k 0), room (getD vs k 0))
@@ -247,7 +248,7 @@ module _ {ss es : List ℤ} {vs : List ℕ} {lo hi a b : ℕ} (m : Met ss es vs 
 
 -- THE WINDOW of a sound map: the places from the first that ends past lo up to the first that begins from hi on
 module _ {m : Stored} (sound : Sound halfOpen m) {from to : ℕ} {start end : ℤ} (first : Reached halfOpen (m .count) (m .ends) start from)
-    (next : FirstPast halfOpen (m .count) (m .starts) from end to) (real : rank start < rank end) (short : rank end - rank start < limit) where
+    (next : FirstPast halfOpen (m .count) (m .starts) from end to) (real : rank start < rank end) (short : rank end - rank start < u32Limit) where
   abbrev lo : ℕ
   lo = rank start
 
@@ -272,7 +273,7 @@ module _ {m : Stored} (sound : Sound halfOpen m) {from to : ℕ} {start end : �
         omega (arith, e, next .before k i h, steps k (omega (arith, next .within)) .full);
   }
 
-  pub apart : Apart (m .starts) (m .ends) from to
+  pub apart : EachApart (m .starts) (m .ends) from to
   apart k h i = steps k (omega (arith, next .within)) .past (omega (arith, next .within))
 
   abbrev met-part : List Span
@@ -313,19 +314,19 @@ module _ {m : Stored} (sound : Sound halfOpen m) {from to : ℕ} {start end : �
       ∙ within-ended lo hi (take from (take to xs)) (drop from (take to xs)) (rw front ended)
       ∙ ap (λ (n : List Span). within lo hi (drop from n)) back
 
-  pub table-room : Room lo hi met-part empty
+  pub table-room : TableRoom lo hi met-part noSeconds
   table-room s = omega (arith, empty-has s, seconds-alike (equals s) lo hi xs met-part alike, seconds-most (equals s) lo hi xs real (good sound .tidy .ordered))
 
   -- what the table has of the statuses that pass a test
-  table-of-test : (t : List ℕ) (p : ℕ → Bool) → ((v : ℕ) → tableLength ≤ v → p v ≡ false) → Added lo hi met-part empty t
+  table-of-test : (t : List ℕ) (p : ℕ → Bool) → ((v : ℕ) → tableLength ≤ v → p v ≡ false) → Added lo hi met-part noSeconds t
       → gatheredOf p t ≡ secondsOf p lo hi xs
   table-of-test t p bound h =
       sum-same p (λ (s : ℕ). getD t s 0) (λ (s : ℕ). secondsOf (equals s) lo hi xs) tableLength
       (λ s. omega (arith, h s, empty-has s, seconds-alike (equals s) lo hi xs met-part alike))
       ∙ seconds-by-status p tableLength bound lo hi xs
 
-  pub table-is : (t : List ℕ) → Statuses (m .values) from to → Added lo hi met-part empty t → Walked.Counted (gathering t) ≡ walked lo hi xs
-  unfolding walked tallyOf gathering
+  pub table-is : (t : List ℕ) → Statuses (m .values) from to → Added lo hi met-part noSeconds t → Walked.Counted (gathering t) ≡ walkFinds lo hi xs
+  unfolding walkFinds tallyOf gathering
   table-is t s h =
       let e : strange lo hi xs ≡ false = strange-alike lo hi xs met-part alike ∙ calm met s in
       rw e
@@ -336,8 +337,8 @@ module _ {m : Stored} (sound : Sound halfOpen m) {from to : ℕ} {start end : �
       (table-of-test t isDriving (λ v i. past-table v i .drives) h)
       (table-of-test t isOnDuty (λ v i. past-table v i .on) h)))
 
-  pub strange-is : (Statuses (m .values) from to → ⊥) → Walked.Strange ≡ walked lo hi xs
-  unfolding walked
+  pub strange-is : (Statuses (m .values) from to → ⊥) → Walked.Strange ≡ walkFinds lo hi xs
+  unfolding walkFinds
   strange-is f = let e : strange lo hi xs ≡ true = strange-alike lo hi xs met-part alike ∙ strange-there met f in rw e
 
 -- THE DOOR: of what the walk finds, what is answered
@@ -345,12 +346,12 @@ module _ (m : Stored) (s e : ℤ) where
   abbrev all : List Span
   all = ranges halfOpen m
 
-  pub found-strange : Walked.Strange ≡ walked (rank s) (rank e) all → Tallied.Refused 10 ≡ tallying m s e
-  unfolding walked tallying
+  pub found-strange : Walked.Strange ≡ walkFinds (rank s) (rank e) all → Tallied.Refused badStatus ≡ tallying m s e
+  unfolding walkFinds tallying
   found-strange w = go (strange (rank s) (rank e) all) w
     where
       go : (t : Bool) → Walked.Strange ≡ cond t Walked.Strange (Walked.Counted (tallyOf (rank s) (rank e) all))
-          → Tallied.Refused 10 ≡ cond t (Tallied.Refused 10) (Tallied.Seconds (totalsOf (rank s) (rank e) all))
+          → Tallied.Refused badStatus ≡ cond t (Tallied.Refused badStatus) (Tallied.Seconds (totalsOf (rank s) (rank e) all))
       go true w = refl
       go false w = cc
 
@@ -359,8 +360,8 @@ module _ (m : Stored) (s e : ℤ) where
     pub calm : strange (rank s) (rank e) all ≡ false
     pub tally-is : t ≡ tallyOf (rank s) (rank e) all
 
-  pub found-counted : {t : Tally} → Walked.Counted t ≡ walked (rank s) (rank e) all → Found t
-  unfolding walked
+  pub found-counted : {t : Tally} → Walked.Counted t ≡ walkFinds (rank s) (rank e) all → Found t
+  unfolding walkFinds
   found-counted {t} w = go (strange (rank s) (rank e) all) refl w
     where
       go : (b : Bool) → strange (rank s) (rank e) all ≡ b → Walked.Counted t ≡ cond b Walked.Strange (Walked.Counted (tallyOf (rank s) (rank e) all)) → Found t
@@ -368,13 +369,13 @@ module _ (m : Stored) (s e : ℤ) where
       go false c w = record { calm = c; tally-is = cc }
 
   module _ (sound : Sound halfOpen m) (real : rank s < rank e) {t : Tally} (f : Found t) where
-    pub counted-room : sumOf t ≤ rank e - rank s
+    pub counted-room : tallySum t ≤ rank e - rank s
     unfolding tallyOf
     counted-room = rw (f .tally-is) (omega (arith, duties-sum (rank s) (rank e) all real (good sound .tidy .ordered) (f .calm)))
 
     pub counted-is : Tallied.Seconds (completing t (rank e - rank s)) ≡ tallying m s e
     unfolding tallying completing totalsOf tallyOf
     counted-is =
-        let left : rank e - rank s - sumOf (tallyOf (rank s) (rank e) all) ≡ unrecordedOf (rank s) (rank e) all =
+        let left : rank e - rank s - tallySum (tallyOf (rank s) (rank e) all) ≡ unrecordedOf (rank s) (rank e) all =
         omega (arith, duties-sum (rank s) (rank e) all real (good sound .tidy .ordered) (f .calm)) in
         rw (f .calm, f .tally-is, left)

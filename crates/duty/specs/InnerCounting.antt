@@ -12,7 +12,7 @@ use Rattle.key.specs.Rank.{rank}
 use Rattle.key.specs.Range.{halfOpen}
 use Rattle.outcomes.specs.Stored.{spans}
 use Rattle.duty.specs.Duty.{isStatus, secondsOf}
-use Rattle.duty.specs.InnerWalk.{limit, tableLength}
+use Rattle.duty.specs.InnerWalk.{u32Limit, tableLength}
 
 -- WHICH PLACES: the values at those from a up to b are statuses
 abbrev pub Statuses : List ℕ → ℕ → ℕ → Type 0
@@ -33,20 +33,20 @@ pub record Met (ss es : List ℤ) (vs : List ℕ) (lo hi a b : ℕ) : Type 0 whe
   pub starts-hold : b ≤ length ss
   pub ends-as : length es ≡ length ss
   pub values-as : length vs ≡ length ss
-  pub short : hi - lo < limit
+  pub short : hi - lo < u32Limit
   pub meet : (k : ℕ) → a ≤ k → k < b → max (rank (getD ss k (pos 0))) lo < min (rank (getD es k (pos 0))) hi
 
 -- each ends by the start of the next
-abbrev pub Apart : List ℤ → List ℤ → ℕ → ℕ → Type 0
-Apart ss es a b = (k : ℕ) → a ≤ k → k + 1 < b → rank (getD es k (pos 0)) ≤ rank (getD ss (k + 1) (pos 0))
+abbrev pub EachApart : List ℤ → List ℤ → ℕ → ℕ → Type 0
+EachApart ss es a b = (k : ℕ) → a ≤ k → k + 1 < b → rank (getD es k (pos 0)) ≤ rank (getD ss (k + 1) (pos 0))
 
 -- none begins before lo
 abbrev pub Inside : List ℤ → ℕ → ℕ → ℕ → Type 0
 Inside ss lo a b = (k : ℕ) → a ≤ k → k < b → lo ≤ rank (getD ss k (pos 0))
 
 -- TABLES: one of no seconds
-abbrev pub empty : List ℕ
-empty = replicate tableLength 0
+abbrev pub noSeconds : List ℕ
+noSeconds = replicate tableLength 0
 
 -- one with n seconds more of the status v
 abbrev pub credited : List ℕ → ℕ → ℕ → List ℕ
@@ -54,15 +54,15 @@ credited t v n = set t v (getD t v 0 + n)
 
 -- a u32 holds each number of two tables as one
 abbrev pub Both : List ℕ → List ℕ → Type 0
-Both t u = (s : ℕ) → getD t s 0 + getD u s 0 < limit
+Both t u = (s : ℕ) → getD t s 0 + getD u s 0 < u32Limit
 
 -- and the table r is that
 abbrev pub Joined : List ℕ → List ℕ → List ℕ → Type 0
 Joined t u r = (s : ℕ) → getD r s 0 ≡ getD t s 0 + getD u s 0
 
 -- a u32 holds what a table has with the seconds of these ranges from lo up to hi
-abbrev pub Room : ℕ → ℕ → List Span → List ℕ → Type 0
-Room lo hi xs t = (s : ℕ) → getD t s 0 + secondsOf (equals s) lo hi xs < limit
+abbrev pub TableRoom : ℕ → ℕ → List Span → List ℕ → Type 0
+TableRoom lo hi xs t = (s : ℕ) → getD t s 0 + secondsOf (equals s) lo hi xs < u32Limit
 
 -- and the table r has that
 abbrev pub Added : ℕ → ℕ → List Span → List ℕ → List ℕ → Type 0

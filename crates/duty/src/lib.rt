@@ -1,22 +1,22 @@
 // The seconds of each duty between two keys of a half-open map. They are counted by status, and then gathered.
+use answers::BAD_STATUS;
 use key::RangeKind;
+use key::Value;
 use store::search::first_past;
 use store::search::reaching;
 ghost use mathlib.Core.Path.{_≡_};
 ghost use Prim.Native.Nat.{_+_, _-_, _≤_, _<_, min, max};
 ghost use lib.ListN.{length, getD};
+ghost use Rattle.lent.specs.Moments.{was, becomes};
 ghost use Rattle.key.specs.InnerDecides.{Decides};
 ghost use Rattle.key.specs.Rank.{rank};
 ghost use Rattle.key.specs.Range.{halfOpen};
-ghost use Rattle.outcomes.specs.Stored.{Sound, stored, ranges};
+ghost use Rattle.outcomes.specs.Stored.{Sound, stored, ranges, atEntryWith};
 ghost use Rattle.store.specs.InnerSearch.{Reached};
 ghost use Rattle.duty.specs.Duty.{tallying};
-ghost use Rattle.duty.specs.InnerWalk.{limit, tableLength, gathering, sumOf, completing, walked};
-ghost use Rattle.duty.specs.InnerCounting.{Statuses, Amiss, Met, Apart, Inside, part};
-ghost use Rattle.duty.specs.InnerCounting.{empty, credited, Both, Joined, Room, Added};
-
-// The number of document 01's table for a status outside 1 to 4.
-pub const STRANGE: u8 = 10;
+ghost use Rattle.duty.specs.InnerWalk.{u32Limit, tableLength, gathering, tallySum, completing, walkFinds};
+ghost use Rattle.duty.specs.InnerCounting.{Statuses, Amiss, Met, EachApart, Inside, part};
+ghost use Rattle.duty.specs.InnerCounting.{noSeconds, credited, Both, Joined, TableRoom, Added};
 
 // The seconds of each duty, and those that are unrecorded.
 pub struct Totals {
@@ -51,7 +51,7 @@ enum Walked {
 
 // The seconds from one key up to another. They are few, so the difference of the keys never wraps.
 fn seconds(from: i64, to: i64) -> u32
-    requires { ⌜ (rank from ≤ rank to) × (rank to - rank from < limit) ⌝ }
+    requires { ⌜ (rank from ≤ rank to) × (rank to - rank from < u32Limit) ⌝ }
     ensures { λ r. ⌜ r ≡ rank to - rank from ⌝ }
 {
     (to - from) as u32
@@ -59,7 +59,7 @@ fn seconds(from: i64, to: i64) -> u32
 
 // The seconds of the range first..last that lie from `start` up to `end`.
 fn shared(first: i64, last: i64, start: i64, end: i64) -> u32
-    requires { ⌜ (max (rank first) (rank start) ≤ min (rank last) (rank end)) × (rank end - rank start < limit) ⌝ }
+    requires { ⌜ (max (rank first) (rank start) ≤ min (rank last) (rank end)) × (rank end - rank start < u32Limit) ⌝ }
     ensures { λ r. ⌜ r ≡ min (rank last) (rank end) - max (rank first) (rank start) ⌝ }
 {
     let from = key::max(first, start);
@@ -68,7 +68,7 @@ fn shared(first: i64, last: i64, start: i64, end: i64) -> u32
 }
 
 // 0 if a value is a status, else 1.
-fn amiss(value: u8) -> u8
+fn amiss(value: Value) -> u8
     ensures { λ r. ⌜ Amiss value r ⌝ }
 {
     if value == 0 {
@@ -81,9 +81,9 @@ fn amiss(value: u8) -> u8
 }
 
 // Whether the values from the place `from` up to the place `to` are all statuses. With no early return the loop takes several places at a time.
-fn statuses(values: &[u8], from: usize, to: usize) -> bool
+fn statuses(values: &[Value], from: usize, to: usize) -> bool
     requires { ⌜ (from ≤ to) × (to ≤ length (now values)) ⌝ }
-    ensures { λ r. ⌜ Decides r (Statuses (now (values .entry)) from to) ⌝ }
+    ensures { λ r. ⌜ Decides r (Statuses (was values) from to) ⌝ }
 {
     let mut seen = 0;
     let mut k = from;
@@ -98,9 +98,9 @@ fn statuses(values: &[u8], from: usize, to: usize) -> bool
 }
 
 // Adds seconds to the status `value`, in a table of seconds by status.
-fn credit(t: &mut [u32; TABLE_LENGTH], value: u8, n: u32)
-    requires { ⌜ (value < tableLength) × (getD (now t) value 0 + n < limit) ⌝ }
-    ensures { λ _. ⌜ now (t .exit) ≡ credited (now (t .entry)) value n ⌝ }
+fn credit(t: &mut [u32; TABLE_LENGTH], value: Value, n: u32)
+    requires { ⌜ (value < tableLength) × (getD (now t) value 0 + n < u32Limit) ⌝ }
+    ensures { λ _. ⌜ becomes t ≡ credited (was t) value n ⌝ }
 {
     let status = value as usize;
     t[status] += n;
@@ -125,14 +125,14 @@ fn clipped(
     table: [u32; TABLE_LENGTH],
     starts: &[i64],
     ends: &[i64],
-    values: &[u8],
+    values: &[Value],
     from: usize,
     to: usize,
     start: i64,
     end: i64,
 ) -> [u32; TABLE_LENGTH]
-    requires { ⌜ Met (now starts) (now ends) (now values) (rank start) (rank end) from to × Statuses (now values) from to × Room (rank start) (rank end) (part (now starts) (now ends) (now values) from to) table ⌝ }
-    ensures { λ r. ⌜ Added (rank start) (rank end) (part (now (starts .entry)) (now (ends .entry)) (now (values .entry)) from to) table r ⌝ }
+    requires { ⌜ Met (now starts) (now ends) (now values) (rank start) (rank end) from to × Statuses (now values) from to × TableRoom (rank start) (rank end) (part (now starts) (now ends) (now values) from to) table ⌝ }
+    ensures { λ r. ⌜ Added (rank start) (rank end) (part (was starts) (was ends) (was values) from to) table r ⌝ }
 {
     let mut t = table;
     let mut k = from;
@@ -150,14 +150,14 @@ fn whole(
     table: [u32; TABLE_LENGTH],
     starts: &[i64],
     ends: &[i64],
-    values: &[u8],
+    values: &[Value],
     from: usize,
     to: usize,
     start: i64,
     end: i64,
 ) -> [u32; TABLE_LENGTH]
-    requires { ⌜ Met (now starts) (now ends) (now values) (rank start) (rank end) from to × Statuses (now values) from to × Apart (now starts) (now ends) from to × Inside (now starts) (rank start) from to × Room (rank start) (rank end) (part (now starts) (now ends) (now values) from to) table ⌝ }
-    ensures { λ r. ⌜ Added (rank start) (rank end) (part (now (starts .entry)) (now (ends .entry)) (now (values .entry)) from to) table r ⌝ }
+    requires { ⌜ Met (now starts) (now ends) (now values) (rank start) (rank end) from to × Statuses (now values) from to × EachApart (now starts) (now ends) from to × Inside (now starts) (rank start) from to × TableRoom (rank start) (rank end) (part (now starts) (now ends) (now values) from to) table ⌝ }
+    ensures { λ r. ⌜ Added (rank start) (rank end) (part (was starts) (was ends) (was values) from to) table r ⌝ }
 {
     let mut t = table;
     let mut u = [0; TABLE_LENGTH];
@@ -177,14 +177,14 @@ fn whole(
 fn table_of(
     starts: &[i64],
     ends: &[i64],
-    values: &[u8],
+    values: &[Value],
     from: usize,
     to: usize,
     start: i64,
     end: i64,
 ) -> [u32; TABLE_LENGTH]
-    requires { ⌜ Met (now starts) (now ends) (now values) (rank start) (rank end) from to × Statuses (now values) from to × Apart (now starts) (now ends) from to × Room (rank start) (rank end) (part (now starts) (now ends) (now values) from to) empty ⌝ }
-    ensures { λ r. ⌜ Added (rank start) (rank end) (part (now (starts .entry)) (now (ends .entry)) (now (values .entry)) from to) empty r ⌝ }
+    requires { ⌜ Met (now starts) (now ends) (now values) (rank start) (rank end) from to × Statuses (now values) from to × EachApart (now starts) (now ends) from to × TableRoom (rank start) (rank end) (part (now starts) (now ends) (now values) from to) noSeconds ⌝ }
+    ensures { λ r. ⌜ Added (rank start) (rank end) (part (was starts) (was ends) (was values) from to) noSeconds r ⌝ }
 {
     let t = [0; TABLE_LENGTH];
     if from == to {
@@ -210,7 +210,7 @@ fn gathered(t: [u32; TABLE_LENGTH]) -> Tally
 
 // A tally, and what is left of the window as unrecorded.
 fn completed(t: Tally, seconds: u32) -> Totals
-    requires { ⌜ sumOf t ≤ seconds ⌝ }
+    requires { ⌜ tallySum t ≤ seconds ⌝ }
     ensures { λ r. ⌜ r ≡ completing t seconds ⌝ }
 {
     let recorded = t.off_duty + t.sleeper_berth + t.driving + t.on_duty;
@@ -229,13 +229,13 @@ fn walk(
     count: usize,
     starts: &[i64],
     ends: &[i64],
-    values: &[u8],
+    values: &[Value],
     from: usize,
     start: i64,
     end: i64,
 ) -> Walked
-    requires { ⌜ Sound halfOpen (stored count (now starts) (now ends) (now values)) × Reached halfOpen count (now ends) start from × (rank start < rank end) × (rank end - rank start < limit) ⌝ }
-    ensures { λ r. ⌜ r ≡ walked (rank start) (rank end) (ranges halfOpen (stored count (now (starts .entry)) (now (ends .entry)) (now (values .entry)))) ⌝ }
+    requires { ⌜ Sound halfOpen (stored count (now starts) (now ends) (now values)) × Reached halfOpen count (now ends) start from × (rank start < rank end) × (rank end - rank start < u32Limit) ⌝ }
+    ensures { λ r. ⌜ r ≡ walkFinds (rank start) (rank end) (ranges halfOpen (atEntryWith count starts ends values)) ⌝ }
 {
     let to = first_past(RangeKind::HalfOpen, starts, from, count, end);
     if !statuses(values, from, to) {
@@ -250,17 +250,17 @@ pub fn between(
     count: usize,
     starts: &[i64],
     ends: &[i64],
-    values: &[u8],
+    values: &[Value],
     start: i64,
     end: i64,
 ) -> Tallied
-    requires { ⌜ Sound halfOpen (stored count (now starts) (now ends) (now values)) × (rank start < rank end) × (rank end - rank start < limit) ⌝ }
-    ensures { λ r. ⌜ r ≡ tallying (stored count (now (starts .entry)) (now (ends .entry)) (now (values .entry))) start end ⌝ }
+    requires { ⌜ Sound halfOpen (stored count (now starts) (now ends) (now values)) × (rank start < rank end) × (rank end - rank start < u32Limit) ⌝ }
+    ensures { λ r. ⌜ r ≡ tallying (atEntryWith count starts ends values) start end ⌝ }
 {
     let from = reaching(RangeKind::HalfOpen, ends, count, start);
     let w = walk(count, starts, ends, values, from, start, end);
     match w {
         Walked::Counted(t) => Tallied::Seconds(completed(t, seconds(start, end))),
-        Walked::Strange => Tallied::Refused(STRANGE),
+        Walked::Strange => Tallied::Refused(BAD_STATUS),
     }
 }

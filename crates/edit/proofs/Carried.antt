@@ -10,13 +10,14 @@ use lib.Dec.{ltb}
 use lib.ListN.{length, take, drop, length-append, length-drop}
 use lib.Seq.{take-take, length-take-le}
 use lib.IntN.{ℤ, pos}
+use Rattle.answers.specs.Answers.{done, emptyRange, tooMany}
 use Rattle.span.specs.Span.{Span, given}
 use Rattle.key.specs.Rank.{rank, keyAt}
 use Rattle.key.specs.Range.{Kind}
 use Rattle.key.proofs.Lawful.{Lawful}
 use Rattle.splice.specs.InnerSplice.{spliced}
 use Rattle.outcomes.specs.Stored.{Stored, stored, spans, ranges, filled, storing, AllFit, Sound}
-use Rattle.outcomes.specs.Outcomes.{leaving, editing}
+use Rattle.outcomes.specs.Outcomes.{leaving, editSound}
 use Rattle.outcomes.proofs.Formed.{length-spans}
 use Rattle.outcomes.proofs.Storing.{map-take, map-drop, drop-take, starts-back, ends-back, values-back}
 use Rattle.splice.specs.InnerReplace.{newStarts, newEnds, newValues, newCount}
@@ -26,7 +27,7 @@ use Rattle.edit.specs.declared.Change.{Change}
 use Rattle.edit.proofs.Places.{columns}
 
 -- the two ends of a plan: there is no room, or each column is spliced
-pub no-room : (m : Stored) (p : Replacement) → length (m .starts) < newCount (m .count) p → leaving 2 m ≡ carried m p
+pub no-room : (m : Stored) (p : Replacement) → length (m .starts) < newCount (m .count) p → leaving tooMany m ≡ carried m p
 unfolding carried
 no-room m p h = rw (lt-ltb (length (m .starts)) (newCount (m .count) p) h)
 
@@ -34,7 +35,7 @@ pub carried-out : (m : Stored) (p : Replacement) {ss es : List ℤ} {vs : List �
     → ss ≡ spliced (m .starts) (p .from) (p .to) (m .count) (newStarts p) (pos 0)
     → es ≡ spliced (m .ends) (p .from) (p .to) (m .count) (newEnds p) (pos 0)
     → vs ≡ spliced (m .values) (p .from) (p .to) (m .count) (newValues p) 0
-    → leaving 0 (stored (newCount (m .count) p) ss es vs) ≡ carried m p
+    → leaving done (stored (newCount (m .count) p) ss es vs) ≡ carried m p
 unfolding carried
 carried-out m p h starts ends values = rw (le-ltb (length (m .starts)) (newCount (m .count) p) h, starts, ends, values)
 
@@ -120,18 +121,18 @@ module _ (kind : Kind) (law : Lawful kind) (m : Stored) (cols : ColumnsOf m) (p 
       let t : length (take (p .from) (take (m .count) ys)) ≡ p .from = length-take-le (p .from) (take (m .count) ys) (omega (arith, plan .apt)) in
       rw (← whole, length-append, length-append, t, b, len-starts) (omega (arith, length-drop (p .to) (take (m .count) ys)))
 
-  pub carried-given : carried m p ≡ cond (ltb n (length left)) (leaving 2 m) (leaving 0 (storing kind n left))
+  pub carried-given : carried m p ≡ cond (ltb n (length left)) (leaving tooMany m) (leaving done (storing kind n left))
   unfolding carried storing
   carried-given = rw (starts-col, ends-col, values-col, length-left)
 
 -- the edits of a sound map
-pub edit-refused : (kind : Kind) (n : ℕ) (m : Stored) (s e : ℤ) (new : Option ℕ) → kind .past e ≤ rank s → leaving 1 m ≡ editing kind n m s e new
-unfolding editing
+pub edit-refused : (kind : Kind) (n : ℕ) (m : Stored) (s e : ℤ) (new : Option ℕ) → kind .past e ≤ rank s → leaving emptyRange m ≡ editSound kind n m s e new
+unfolding editSound
 edit-refused kind n m s e new h = rw (le-leb (kind .past e) (rank s) h)
 
 pub edit-carried : (kind : Kind) (law : Lawful kind) (m : Stored) → Sound kind m → {change : Change} (p : Replacement) → HasKey kind change
-    → Planned kind m change p → carried m p ≡ editing kind (length (m .starts)) m (change .start) (change .end) (asked change)
-unfolding editing
+    → Planned kind m change p → carried m p ≡ editSound kind (length (m .starts)) m (change .start) (change .end) (asked change)
+unfolding editSound
 edit-carried kind law m sound {change} p h plan =
     carried-given kind law m (columns kind law m sound) p (sound .starts-fit) (sound .ends-fit) plan
     ∙ rw (lt-leb (kind .past (change .end)) (rank (change .start)) h)

@@ -10,15 +10,15 @@ use lib.IntN.{pos}
 use Rattle.span.specs.Span.{Span}
 use Rattle.span.proofs.Pieces.{places-tidy}
 use Rattle.key.specs.Rank.{rank}
-use Rattle.key.specs.Range.{Kind, rangeOf}
+use Rattle.key.specs.Range.{Kind, spanOf}
 use Rattle.key.proofs.Lawful.{Lawful}
 use Rattle.outcomes.specs.Stored.{Stored, ranges, Sound}
 use Rattle.outcomes.proofs.Formed.{shape, good, length-ranges, getD-ranges}
-use Rattle.splice.specs.InnerSplice.{Spare}
+use Rattle.splice.specs.InnerSplice.{Filler}
 use Rattle.edit.specs.InnerPlan.{nowhere, Touching, ColumnsOf}
 
 -- what holds nothing from a place on is filled up with nothing there
-spare-of : {A : Type 0} (l : List A) (count : ℕ) (z : A) → ((k : ℕ) → count ≤ k → getD l k z ≡ z) → Spare l count z
+spare-of : {A : Type 0} (l : List A) (count : ℕ) (z : A) → ((k : ℕ) → count ≤ k → getD l k z ≡ z) → Filler l count z
 spare-of l count z f =
     ext-getD z (drop count l) (replicate (length l - count) z) (length-drop count l ∙ sym (length-replicate (length l - count) z))
     (λ i b. getD-drop count l i z ∙ f (count + i) (omega arith) ∙ sym (getD-replicate (length l - count) i z z (omega (arith, length-drop count l))))
@@ -30,7 +30,7 @@ module _ (kind : Kind) (law : Lawful kind) (m : Stored) (sound : Sound kind m) w
   pub len : length xs ≡ m .count
   len = length-ranges kind (length (m .starts)) m (shape sound) (good sound .held)
 
-  pub at-place : (k : ℕ) → k < m .count → getD xs k nowhere ≡ rangeOf kind (getD (m .starts) k (pos 0)) (getD (m .ends) k (pos 0)) (getD (m .values) k 0)
+  pub at-place : (k : ℕ) → k < m .count → getD xs k nowhere ≡ spanOf kind (getD (m .starts) k (pos 0)) (getD (m .ends) k (pos 0)) (getD (m .values) k 0)
   at-place k h = getD-ranges kind (length (m .starts)) m (shape sound) (good sound .held) k nowhere h
 
   full : (k : ℕ) → k < m .count → getD xs k nowhere .lo < getD xs k nowhere .hi

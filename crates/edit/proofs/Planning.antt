@@ -17,7 +17,7 @@ use Rattle.span.proofs.Holding.{ordered-left, ordered-right}
 use Rattle.span.proofs.Pieces.{middle, middle-none, middle-cut, left-clear, left-kept, left-joined, right-clear, right-kept, right-joined}
 use Rattle.span.proofs.Local.{EndsBefore, leftEdge, rightEdge, given-local}
 use Rattle.key.specs.Rank.{rank}
-use Rattle.key.specs.Range.{Kind, rangeOf}
+use Rattle.key.specs.Range.{Kind, spanOf}
 use Rattle.key.specs.InnerDecides.{Decides}
 use Rattle.key.proofs.Answers.{never, holds, fails, not-full}
 use Rattle.key.proofs.Lawful.{Lawful}
@@ -129,7 +129,7 @@ module _ (xs : List Span) (lo hi : ℕ) (new : Option ℕ) (from to : ℕ) (ns :
 
 -- the span of an entry
 abbrev entrySpan : Kind → Entry → Span
-entrySpan kind x = rangeOf kind (x .start) (x .end) (x .value)
+entrySpan kind x = spanOf kind (x .start) (x .end) (x .value)
 
 -- a span put in front, if it is kept
 abbrev with : Bool → Span → List Span → List Span

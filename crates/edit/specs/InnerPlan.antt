@@ -9,6 +9,7 @@ use lib.ListN.{length, getD, take, drop}
 use lib.IntN.{ℤ, pos}
 use mir.Syntax.{w64}
 use mir.Val.{SFits}
+use Rattle.answers.specs.Answers.{done, tooMany}
 use Rattle.span.specs.Span.{Span, span, given}
 use Rattle.key.specs.Rank.{rank, keys}
 use Rattle.key.specs.Range.{Kind}
@@ -97,8 +98,8 @@ kept true x xs = x ∷ xs
 kept false x xs = xs
 
 -- a part put in front, if it is kept
-abbrev pub ahead : Part → List Entry → List Entry
-ahead x xs = kept (x .kept) (entry (x .start) (x .end) (x .value)) xs
+abbrev pub inFront : Part → List Entry → List Entry
+inFront x xs = kept (x .kept) (entry (x .start) (x .end) (x .value)) xs
 
 -- the entries that come
 abbrev pub coming : Replacement → List Entry
@@ -143,8 +144,8 @@ ColumnsOf m = Columns (m .count) (m .starts) (m .ends) (m .values)
 -- the map in which the places are replaced, or 2 where it has too few
 unfoldable pub carried : Stored → Replacement → Edited
 carried m p =
-    cond (ltb (length (m .starts)) (newCount (m .count) p)) (leaving 2 m)
-    (leaving 0 (stored (newCount (m .count) p)
+    cond (ltb (length (m .starts)) (newCount (m .count) p)) (leaving tooMany m)
+    (leaving done (stored (newCount (m .count) p)
     (spliced (m .starts) (p .from) (p .to) (m .count) (newStarts p) (pos 0))
     (spliced (m .ends) (p .from) (p .to) (m .count) (newEnds p) (pos 0))
     (spliced (m .values) (p .from) (p .to) (m .count) (newValues p) 0)))

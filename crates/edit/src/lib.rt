@@ -4,7 +4,9 @@
 mod plan;
 mod sides;
 
+use answers::EMPTY_RANGE;
 use key::RangeKind;
+use key::Value;
 use key::full;
 use outcomes::Outcome;
 use outcomes::PLACES;
@@ -17,9 +19,10 @@ ghost use mathlib.Core.Path.{_≡_};
 ghost use mathlib.Core.Option.{some, none};
 ghost use Prim.Native.Nat.{_<_, _≤_};
 ghost use lib.ListN.{length};
+ghost use Rattle.lent.specs.Moments.{was};
 ghost use Rattle.key.specs.Range.{kindOf};
-ghost use Rattle.outcomes.specs.Stored.{places, stored, lent, Sound};
-ghost use Rattle.outcomes.specs.Outcomes.{leaving, editing};
+ghost use Rattle.outcomes.specs.Stored.{places, stored, lent, Sound, atEntry, atEntryWith, atExit};
+ghost use Rattle.outcomes.specs.Outcomes.{leaving, editSound};
 ghost use Rattle.outcomes.specs.InnerOutcome.{Leaves};
 ghost use Rattle.edit.specs.InnerPlan.{HasKey, Meets, Overlaid, Planned, asked};
 
@@ -28,7 +31,7 @@ pub struct Change {
     pub start: i64,
     pub end: i64,
     pub comes: bool,
-    pub value: u8,
+    pub value: Value,
 }
 
 // The places from `from` up to `to` are those that a change meets or touches. A range that ends with `below` just touches it, and so does one that
@@ -47,11 +50,11 @@ fn touched(
     count: usize,
     starts: &[i64],
     ends: &[i64],
-    values: &[u8],
+    values: &[Value],
     change: Change,
 ) -> Met
     requires { ⌜ Sound (kindOf kind) (stored count (now starts) (now ends) (now values)) × HasKey (kindOf kind) change ⌝ }
-    ensures { λ r. ⌜ Meets (kindOf kind) (stored count (now (starts .entry)) (now (ends .entry)) (now (values .entry))) change r ⌝ }
+    ensures { λ r. ⌜ Meets (kindOf kind) (atEntryWith count starts ends values) change r ⌝ }
 {
     let start = change.start;
     let end = change.end;
@@ -68,9 +71,15 @@ fn touched(
 }
 
 // The plan of a change that meets or touches some place: what goes beyond it on either side is joined or kept.
-fn plan_over(starts: &[i64], ends: &[i64], values: &[u8], met: Met, change: Change) -> Replacement
+fn plan_over(
+    starts: &[i64],
+    ends: &[i64],
+    values: &[Value],
+    met: Met,
+    change: Change,
+) -> Replacement
     requires { ⌜ (met .from < met .to) × (met .to ≤ length (now starts)) × (met .to ≤ length (now ends)) × (met .to ≤ length (now values)) ⌝ }
-    ensures { λ r. ⌜ Overlaid (now (starts .entry)) (now (ends .entry)) (now (values .entry)) met change r ⌝ }
+    ensures { λ r. ⌜ Overlaid (was starts) (was ends) (was values) met change r ⌝ }
 {
     let from = met.from;
     let to = met.to;
@@ -115,11 +124,11 @@ fn plan_of(
     count: usize,
     starts: &[i64],
     ends: &[i64],
-    values: &[u8],
+    values: &[Value],
     change: Change,
 ) -> Replacement
     requires { ⌜ Sound (kindOf kind) (stored count (now starts) (now ends) (now values)) × HasKey (kindOf kind) change ⌝ }
-    ensures { λ r. ⌜ Planned (kindOf kind) (stored count (now (starts .entry)) (now (ends .entry)) (now (values .entry))) change r ⌝ }
+    ensures { λ r. ⌜ Planned (kindOf kind) (atEntryWith count starts ends values) change r ⌝ }
 {
     let start = change.start;
     let end = change.end;
@@ -151,18 +160,18 @@ fn edit(
     count: &mut usize,
     starts: &mut [i64],
     ends: &mut [i64],
-    values: &mut [u8],
+    values: &mut [Value],
     change: Change,
 ) -> u8
     requires { ⌜ Sound (kindOf kind) (lent count starts ends values) ⌝ }
-    ensures { λ r. ⌜ leaving r (lent (count .exit) (starts .exit) (ends .exit) (values .exit))
-        ≡ editing (kindOf kind) (length (now (starts .entry))) (lent (count .entry) (starts .entry) (ends .entry) (values .entry))
+    ensures { λ r. ⌜ leaving r (atExit count starts ends values)
+        ≡ editSound (kindOf kind) (length (was starts)) (atEntry count starts ends values)
         (change .start) (change .end) (asked change) ⌝ }
 {
     let start = change.start;
     let end = change.end;
     if !full(kind, start, end) {
-        return outcomes::EMPTY_RANGE;
+        return EMPTY_RANGE;
     }
     let plan = plan_of(kind, *count, starts, ends, values, change);
     crate::plan::carry_out(count, starts, ends, values, plan)
@@ -174,14 +183,14 @@ pub fn insert(
     count: &mut usize,
     starts: &mut [i64; PLACES],
     ends: &mut [i64; PLACES],
-    values: &mut [u8; PLACES],
+    values: &mut [Value; PLACES],
     start: i64,
     end: i64,
-    value: u8,
+    value: Value,
 ) -> Outcome
     requires { ⌜ Sound (kindOf kind) (lent count starts ends values) ⌝ }
-    ensures { λ r. ⌜ Leaves r (lent (count .exit) (starts .exit) (ends .exit) (values .exit))
-        (editing (kindOf kind) places (lent (count .entry) (starts .entry) (ends .entry) (values .entry)) start end (some value)) ⌝ }
+    ensures { λ r. ⌜ Leaves r (atExit count starts ends values)
+        (editSound (kindOf kind) places (atEntry count starts ends values) start end (some value)) ⌝ }
 {
     let change = Change {
         start: start,
@@ -198,13 +207,13 @@ pub fn remove(
     count: &mut usize,
     starts: &mut [i64; PLACES],
     ends: &mut [i64; PLACES],
-    values: &mut [u8; PLACES],
+    values: &mut [Value; PLACES],
     start: i64,
     end: i64,
 ) -> Outcome
     requires { ⌜ Sound (kindOf kind) (lent count starts ends values) ⌝ }
-    ensures { λ r. ⌜ Leaves r (lent (count .exit) (starts .exit) (ends .exit) (values .exit))
-        (editing (kindOf kind) places (lent (count .entry) (starts .entry) (ends .entry) (values .entry)) start end none) ⌝ }
+    ensures { λ r. ⌜ Leaves r (atExit count starts ends values)
+        (editSound (kindOf kind) places (atEntry count starts ends values) start end none) ⌝ }
 {
     let nothing = Change {
         start: start,

@@ -1,27 +1,30 @@
 // A plan is made from what comes, and carried out.
 use crate::Met;
+use answers::DONE;
+use answers::TOO_MANY;
+use key::Value;
 use splice::Entry;
 use splice::Replacement;
 ghost use mathlib.Core.Path.{_≡_};
 ghost use mathlib.Core.List.{[]};
 ghost use Prim.Native.Nat.{suc, _≤_};
-ghost use Rattle.outcomes.specs.Stored.{lent};
+ghost use Rattle.outcomes.specs.Stored.{lent, atEntry, atExit};
 ghost use Rattle.outcomes.specs.Outcomes.{leaving};
 ghost use Rattle.splice.specs.InnerReplace.{Apt};
-ghost use Rattle.edit.specs.InnerPlan.{Brings, coming, ahead, carried, ColumnsOf};
+ghost use Rattle.edit.specs.InnerPlan.{Brings, coming, inFront, carried, ColumnsOf};
 
 // A range, and whether the plan keeps it.
 pub struct Part {
     pub kept: bool,
     pub start: i64,
     pub end: i64,
-    pub value: u8,
+    pub value: Value,
 }
 
 // A plan by which one more range comes, before the others, if it is kept.
 fn in_front(part: Part, p: Replacement) -> Replacement
     requires { ⌜ p .n ≤ 2 ⌝ }
-    ensures { λ r. ⌜ Brings r (p .from) (p .to) (suc (p .n)) (ahead part (coming p)) ⌝ }
+    ensures { λ r. ⌜ Brings r (p .from) (p .to) (suc (p .n)) (inFront part (coming p)) ⌝ }
 {
     let kept = part.kept;
     if !kept {
@@ -46,7 +49,7 @@ fn in_front(part: Part, p: Replacement) -> Replacement
 
 // The plan by which the new range comes between what is left on the two sides; each of the three only if it is kept.
 pub fn bring(met: Met, left: Part, new: Part, right: Part) -> Replacement
-    ensures { λ r. ⌜ Brings r (met .from) (met .to) 3 (ahead left (ahead new (ahead right []))) ⌝ }
+    ensures { λ r. ⌜ Brings r (met .from) (met .to) 3 (inFront left (inFront new (inFront right []))) ⌝ }
 {
     let unused = Entry {
         start: 0,
@@ -71,12 +74,12 @@ pub fn carry_out(
     count: &mut usize,
     starts: &mut [i64],
     ends: &mut [i64],
-    values: &mut [u8],
+    values: &mut [Value],
     p: Replacement,
 ) -> u8
     requires { ⌜ ColumnsOf (lent count starts ends values) × Apt (now count) p ⌝ }
-    ensures { λ r. ⌜ leaving r (lent (count .exit) (starts .exit) (ends .exit) (values .exit))
-        ≡ carried (lent (count .entry) (starts .entry) (ends .entry) (values .entry)) p ⌝ }
+    ensures { λ r. ⌜ leaving r (atExit count starts ends values)
+        ≡ carried (atEntry count starts ends values) p ⌝ }
 {
     let held = *count;
     let from = p.from;
@@ -84,9 +87,9 @@ pub fn carry_out(
     let n = p.n;
     let next = from + n + (held - to);
     if starts.len() < next {
-        return outcomes::TOO_MANY;
+        return TOO_MANY;
     }
     splice::splice(held, starts, ends, values, p);
     *count = next;
-    0
+    DONE
 }

@@ -1,6 +1,7 @@
 // What a change touches, and what it leaves of the first and the last range that it meets or touches.
 use crate::Change;
 use key::RangeKind;
+use key::Value;
 ghost use mathlib.Core.Path.{_≡_};
 ghost use mathlib.Core.Bool.{true};
 ghost use Rattle.key.specs.InnerDecides.{Decides};
@@ -28,7 +29,7 @@ pub fn greatest_start(kind: RangeKind, end: i64) -> i64
 }
 
 // Whether a value comes, and is this one.
-fn same(old: u8, change: Change) -> bool
+fn same(old: Value, change: Change) -> bool
     ensures { λ r. ⌜ Decides r (Same old (asked change)) ⌝ }
 {
     let comes = change.comes;
@@ -50,7 +51,7 @@ pub struct Side {
 
 // An old range that goes beyond the change on a side is joined where the values are equal, and what is beyond is kept where they are not.
 // `own` is the change's key on that side, `far` the old range's. Both sides ask this: they differ in the test and the keys alone.
-pub fn join_or_keep(beyond: bool, old: u8, change: Change, own: i64, far: i64) -> Side
+pub fn join_or_keep(beyond: bool, old: Value, change: Change, own: i64, far: i64) -> Side
     ensures { λ r. ⌜ Beside (beyond ≡ true) old (asked change) own far (r .kept) (r .key) ⌝ }
 {
     if !beyond {

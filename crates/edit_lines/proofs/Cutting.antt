@@ -12,7 +12,7 @@ use Rattle.bytes.specs.Bytes.{slice, indexAfter, indexOf}
 use Rattle.edit_lines.specs.Making.{wordsLine}
 use Rattle.edit_lines.specs.InnerStep.{SpaceAt}
 use Rattle.edit_lines.specs.declared.Line.the-variants as Line
-use Rattle.edit_lines.specs.Parts.{ahead, parts, linesOf, wordsOf}
+use Rattle.edit_lines.specs.Parts.{ahead, partsAt, linesOf, wordsOf}
 
 -- what a search of a whole text from a place on finds
 pub found : (text : List ℕ) (from b : ℕ) → from + indexOf b (slice from (length text) text) ≡ from + indexOf b (drop from text)
@@ -21,17 +21,17 @@ found text from b = rw (take-length text)
 
 -- a byte in front of a text of which the first part is known
 module _ (b : ℕ) (e : List (List ℕ)) (x : ℕ) (xs : List ℕ) where
-  one-more : (t : Bool) → (t ≡ false → parts b e xs ≡ take (indexOf b xs) xs ∷ parts b e (drop (suc (indexOf b xs)) xs))
-      → cond t ([] ∷ parts b e xs) (ahead x (parts b e xs))
-      ≡ take (indexAfter t (indexOf b xs)) (x ∷ xs) ∷ parts b e (drop (suc (indexAfter t (indexOf b xs))) (x ∷ xs))
+  one-more : (t : Bool) → (t ≡ false → partsAt b e xs ≡ take (indexOf b xs) xs ∷ partsAt b e (drop (suc (indexOf b xs)) xs))
+      → cond t ([] ∷ partsAt b e xs) (ahead x (partsAt b e xs))
+      ≡ take (indexAfter t (indexOf b xs)) (x ∷ xs) ∷ partsAt b e (drop (suc (indexAfter t (indexOf b xs))) (x ∷ xs))
   unfolding indexAfter ahead
   one-more true rest = refl
   one-more false rest = rw (rest refl)
 
 -- where the byte stands in the text, the part before it is the first
 pub parts-more : (b : ℕ) (e : List (List ℕ)) (xs : List ℕ) → indexOf b xs < length xs
-    → parts b e xs ≡ take (indexOf b xs) xs ∷ parts b e (drop (suc (indexOf b xs)) xs)
-unfolding parts indexOf indexAfter
+    → partsAt b e xs ≡ take (indexOf b xs) xs ∷ partsAt b e (drop (suc (indexOf b xs)) xs)
+unfolding partsAt indexOf indexAfter
 parts-more b e [] h = absurd (omega arith)
 parts-more b e (x ∷ xs) h = let ih = parts-more b e xs in one-more b e x xs (eqb x b) (λ t. ih (behind (eqb x b) t h))
   where
@@ -41,7 +41,7 @@ parts-more b e (x ∷ xs) h = let ih = parts-more b e xs in one-more b e x xs (e
 
 -- a text that has a byte has a first line, be it the last or not
 pub lines-more : (xs : List ℕ) → 0 < length xs → linesOf xs ≡ take (indexOf 10 xs) xs ∷ linesOf (drop (suc (indexOf 10 xs)) xs)
-unfolding parts indexOf indexAfter ahead
+unfolding partsAt indexOf indexAfter ahead
 lines-more [] h = absurd (omega arith)
 lines-more (x ∷ []) h = go (eqb x 10)
   where
@@ -52,7 +52,7 @@ lines-more (x ∷ y ∷ ys) h = let ih = lines-more (y ∷ ys) (omega arith) in 
 
 -- a line in which no space stands is one word
 pub words-last : (xs : List ℕ) → indexOf 32 xs ≡ length xs → wordsOf xs ≡ xs ∷ []
-unfolding parts indexOf indexAfter ahead
+unfolding partsAt indexOf indexAfter ahead
 words-last [] h = refl
 words-last (x ∷ xs) h = let ih = words-last xs in go (eqb x 32) ih h
   where
@@ -66,7 +66,7 @@ module _ (b : ℕ) (text : List ℕ) (from r : ℕ) (is : r ≡ from + indexOf b
   index-is : indexOf b (drop from text) ≡ r - from
   index-is = omega (arith, is, found text from b)
 
-  behind-is : (e : List (List ℕ)) → parts b e (drop (suc (indexOf b (drop from text))) (drop from text)) ≡ parts b e (drop (r + 1) text)
+  behind-is : (e : List (List ℕ)) → partsAt b e (drop (suc (indexOf b (drop from text))) (drop from text)) ≡ partsAt b e (drop (r + 1) text)
   behind-is e =
       let n : from + suc (indexOf b (drop from text)) ≡ r + 1 = omega (arith, is, found text from b) in
       rw (drop-drop (suc (indexOf b (drop from text))) from text, n)
@@ -77,7 +77,7 @@ line-more text from r is h = lines-more (drop from text) (simp length-drop (omeg
 
 -- a line has a word
 words-some : (xs : List ℕ) → (p : List ℕ) × ((ps : List (List ℕ)) × (wordsOf xs ≡ p ∷ ps))
-unfolding parts ahead
+unfolding partsAt ahead
 words-some [] = ([], ([], refl))
 words-some (x ∷ xs) = let (p, (ps, e)) = words-some xs in go (eqb x 32) p ps e
   where

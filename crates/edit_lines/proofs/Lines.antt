@@ -13,22 +13,22 @@ use lib.ListN.{length, take, drop, drop-of-length-le}
 use Rattle.bytes.specs.Bytes.{slice, indexOf}
 use Rattle.key.specs.Range.{halfOpen}
 use Rattle.outcomes.specs.Stored.{Stored}
-use Rattle.outcomes.specs.Outcomes.{Change, edited}
+use Rattle.outcomes.specs.Outcomes.{Change, edit}
 use Rattle.outcomes.specs.InnerOutcome.{outcomeOf, Leaves}
 use Rattle.outcomes.specs.declared.Outcome.{Outcome}
-use Rattle.edit_lines.specs.Parts.{parts, linesOf}
+use Rattle.edit_lines.specs.Parts.{partsAt, linesOf}
 use Rattle.edit_lines.specs.Making.{lineOf, changeOf, Making, making, lineDone, makes}
-use Rattle.edit_lines.specs.InnerStep.{toldOf}
+use Rattle.edit_lines.specs.InnerStep.{madeBy}
 use Rattle.edit_lines.specs.declared.Made.{Made}
 use Rattle.edit_lines.specs.declared.Made.the-variants as Made
 use Rattle.edit_lines.proofs.Cutting.{line-more}
 
 -- a line that is an edit, by how the edit went and what it leaves
-pub edit-done : (n : ℕ) (m : Stored) (c : Change) {went : Outcome} {r : Made} {left : Stored} → Leaves went left (edited halfOpen m (c .start) (c .end) (c .new))
-    → r ≡ toldOf n went → making r left ≡ lineDone n m (some c) (making Made.Done)
-edit-done n m c is told = let one = edited halfOpen m (c .start) (c .end) (c .new) in rw (told, is .outcome, is .map-is) (go (one .answer) (one .left))
+pub edit-done : (n : ℕ) (m : Stored) (c : Change) {went : Outcome} {r : Made} {left : Stored} → Leaves went left (edit halfOpen m (c .start) (c .end) (c .new))
+    → r ≡ madeBy n went → making r left ≡ lineDone n m (some c) (making Made.Done)
+edit-done n m c is told = let one = edit halfOpen m (c .start) (c .end) (c .new) in rw (told, is .outcome, is .map-is) (go (one .answer) (one .left))
   where
-    go : (a : ℕ) (left : Stored) → making (toldOf n (outcomeOf a)) left ≡ cond (eqb a 0) (making Made.Done left) (making (Made.Refused n a) left)
+    go : (a : ℕ) (left : Stored) → making (madeBy n (outcomeOf a)) left ≡ cond (eqb a 0) (making Made.Done left) (making (Made.Refused n a) left)
     go zero left = refl
     go (suc a) left = rw (ne-eqb (suc a) 0 (λ e. omega arith))
 
@@ -47,7 +47,7 @@ module _ (n : ℕ) (m : Stored) (behind : Stored → Making) where
   -- a line that is done: what is behind it goes on
   pub line-goes : (c : Option Change) {m₁ : Stored} → making Made.Done m₁ ≡ lineDone n m c (making Made.Done) → lineDone n m c behind ≡ behind m₁
   line-goes none e = absurd (let z : _≡_ {A = Bool} false true = ap (λ (r : Making). stopped (r .told)) e in let y : _≡_ {A = ℕ} 0 1 = cc in omega arith)
-  line-goes (some c) {m₁} e = let one = edited halfOpen m (c .start) (c .end) (c .new) in goes (eqb (one .answer) 0) (one .answer) (one .left) m₁ e
+  line-goes (some c) {m₁} e = let one = edit halfOpen m (c .start) (c .end) (c .new) in goes (eqb (one .answer) 0) (one .answer) (one .left) m₁ e
 
   stops : (t : Bool) (a : ℕ) (r : Made) (left m₁ : Stored) → stopped r ≡ true → making r m₁ ≡ cond t (making Made.Done left) (making (Made.Refused n a) left)
       → cond t (behind left) (making (Made.Refused n a) left) ≡ making r m₁
@@ -58,7 +58,7 @@ module _ (n : ℕ) (m : Stored) (behind : Stored → Making) where
   pub line-stops : (c : Option Change) {r : Made} {m₁ : Stored} → stopped r ≡ true → making r m₁ ≡ lineDone n m c (making Made.Done)
       → lineDone n m c behind ≡ making r m₁
   line-stops none s e = sym e
-  line-stops (some c) {r} {m₁} s e = let one = edited halfOpen m (c .start) (c .end) (c .new) in stops (eqb (one .answer) 0) (one .answer) r (one .left) m₁ s e
+  line-stops (some c) {r} {m₁} s e = let one = edit halfOpen m (c .start) (c .end) (c .new) in stops (eqb (one .answer) 0) (one .answer) r (one .left) m₁ s e
 
 has-stopped : (r : Made) → (r ≡ Made.Done → ⊥) → stopped r ≡ true
 has-stopped Made.Done h = absurd (h refl)
@@ -95,5 +95,5 @@ module _ (text : List ℕ) (from n r : ℕ) (m : Stored) (is : r ≡ from + inde
 
 -- at the end of a text no line is left
 pub no-line : (text : List ℕ) (from n : ℕ) (m : Stored) → length text ≤ from → makes n m (linesOf (drop from text)) ≡ making Made.Done m
-unfolding makes parts
+unfolding makes partsAt
 no-line text from n m h = rw (drop-of-length-le text {i = from} h)

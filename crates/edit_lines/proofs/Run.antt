@@ -1,4 +1,4 @@
--- A text of edits makes what these edits make: `run` of document 01's maps, up to the first refusal. And lines as document 01 and docs/PROGRAM.md have them.
+-- A text of edits makes what these edits make: `edits` of document 01's maps, up to the first refusal. And lines as document 01 and docs/PROGRAM.md have them.
 use Prim.Native.Nat.{ℕ, suc}
 use mathlib.Core.Path.{_≡_, refl}
 use mathlib.Core.Bool.{Bool, true, false, cond}
@@ -8,11 +8,11 @@ use lib.Dec.{eqb}
 use lib.IntN.{pos, negsuc}
 use Rattle.key.specs.Range.{halfOpen}
 use Rattle.outcomes.specs.Stored.{Stored}
-use Rattle.outcomes.specs.Outcomes.{Edited, Change, edited, cleared, run}
-use Rattle.byte_form.specs.Form.{same}
-use Rattle.decimal.specs.Reading.{plain, nextOf, readOn, readNumber, asNatural, asNegative, readSigned}
+use Rattle.outcomes.specs.Outcomes.{Edited, Change, edit, clear, edits}
+use Rattle.byte_form.specs.Form.{sameBytes}
+use Rattle.decimal.specs.Reading.{noLeadingZero, nextOf, readOn, readNumber, asNatural, asNegative, readSigned}
 use Rattle.filling.specs.Filling.{ascii}
-use Rattle.edit_lines.specs.Parts.{ahead, parts, linesOf}
+use Rattle.edit_lines.specs.Parts.{ahead, partsAt, linesOf}
 use Rattle.edit_lines.specs.Making.{lineOf, changeOf, Making, making, makes, madeOf}
 use Rattle.edit_lines.specs.declared.Line.the-variants as Line
 use Rattle.edit_lines.specs.declared.Made.{Made}
@@ -33,27 +33,27 @@ pub record Same (r : Making) (o : Edited) : Type 0 where
   pub answer : answerOf (r .told) ≡ o .answer
   pub left : r .left ≡ o .left
 
-same-lines : (n : ℕ) (m : Stored) {ls : List (List ℕ)} {cs : List Change} → Edits ls cs → Same (makes n m ls) (run halfOpen m cs)
-unfolding makes run
+same-lines : (n : ℕ) (m : Stored) {ls : List (List ℕ)} {cs : List Change} → Edits ls cs → Same (makes n m ls) (edits halfOpen m cs)
+unfolding makes edits
 same-lines n m none = record { answer = refl; left = refl }
 same-lines n m (more {ls = ls} {c = c} {cs = cs} is rest) =
-    let one = edited halfOpen m (c .start) (c .end) (c .new) in
+    let one = edit halfOpen m (c .start) (c .end) (c .new) in
     let ih = same-lines (suc n) (one .left) rest in
     rw is (go one ih (eqb (one .answer) 0))
   where
-    go : (one : Edited) → Same (makes (suc n) (one .left) ls) (run halfOpen (one .left) cs) → (t : Bool)
-        → Same (cond t (makes (suc n) (one .left) ls) (making (Made.Refused (suc n) (one .answer)) (one .left))) (cond t (run halfOpen (one .left) cs) one)
+    go : (one : Edited) → Same (makes (suc n) (one .left) ls) (edits halfOpen (one .left) cs) → (t : Bool)
+        → Same (cond t (makes (suc n) (one .left) ls) (making (Made.Refused (suc n) (one .answer)) (one .left))) (cond t (edits halfOpen (one .left) cs) one)
     go one ih true = ih
     go one ih false = record { answer = refl; left = refl }
 
 -- MAKE IS RUN
-pub make-run : (text : List ℕ) {cs : List Change} → Edits (linesOf text) cs → Same (madeOf text) (run halfOpen (cleared halfOpen) cs)
+pub make-run : (text : List ℕ) {cs : List Change} → Edits (linesOf text) cs → Same (madeOf text) (edits halfOpen (clear halfOpen) cs)
 unfolding madeOf
-make-run text is = same-lines 0 (cleared halfOpen) is
+make-run text is = same-lines 0 (clear halfOpen) is
 
 -- `unfolding all` opens every definition that a case computes with
 unfoldable all : Unit {0}
-unfolding ahead parts same plain nextOf readOn readNumber asNatural asNegative readSigned lineOf
+unfolding ahead partsAt sameBytes noLeadingZero nextOf readOn readNumber asNatural asNegative readSigned lineOf
 all = tt
 
 pub an-insert : lineOf (ascii "insert -5 5 255") ≡ Line.Insert (negsuc 4) (pos 5) 255

@@ -10,9 +10,9 @@ use Rattle.edit_lines.specs.declared.Made.{Made}
 use Rattle.edit_lines.specs.declared.Made.the-variants as Made
 
 -- how line n went, by its edit
-abbrev pub toldOf : ℕ → Outcome → Made
-toldOf n Outcome.Done = Made.Done
-toldOf n (Outcome.Refused a) = Made.Refused n a
+abbrev pub madeBy : ℕ → Outcome → Made
+madeBy n Outcome.Done = Made.Done
+madeBy n (Outcome.Refused a) = Made.Refused n a
 
 -- where the first space of a text is, or the text's length
 pub record SpaceAt (text : List ℕ) (r : ℕ) : Type 0 where

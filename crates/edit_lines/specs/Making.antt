@@ -4,16 +4,17 @@ use mathlib.Core.Bool.{cond}
 use mathlib.Core.List.{List, [], _∷_}
 use mathlib.Core.Option.{Option, some, none}
 use lib.Dec.{eqb, ltb}
+use Rattle.answers.specs.Answers.{done}
 use Rattle.key.specs.Range.{halfOpen}
 use Rattle.outcomes.specs.Stored.{Stored}
-use Rattle.outcomes.specs.Outcomes.{Change, edited, cleared}
-use Rattle.byte_form.specs.Form.{same}
+use Rattle.outcomes.specs.Outcomes.{Change, edit, clear}
+use Rattle.byte_form.specs.Form.{sameBytes}
 use Rattle.decimal.specs.Reading.{readNumber, readSigned}
 use Rattle.decimal.specs.declared.Numeral.{Numeral}
 use Rattle.decimal.specs.declared.Numeral.the-variants as Numeral
 use Rattle.decimal.specs.declared.Signed.{Signed}
 use Rattle.decimal.specs.declared.Signed.the-variants as Signed
-use Rattle.filling.specs.Filling.{ascii, filled}
+use Rattle.filling.specs.Filling.{ascii, filledIn}
 use Rattle.edit_lines.specs.Parts.{linesOf, wordsOf}
 use Rattle.edit_lines.specs.declared.Line.{Line}
 use Rattle.edit_lines.specs.declared.Line.the-variants as Line
@@ -46,8 +47,8 @@ abbrev pub wordsLine : List (List ℕ) → Line
 wordsLine [] = Line.Neither
 wordsLine (w ∷ []) = Line.Neither
 wordsLine (w ∷ s ∷ []) = Line.Neither
-wordsLine (w ∷ s ∷ e ∷ []) = cond (same w removeWord) (removeOf (readSigned s) (readSigned e)) Line.Neither
-wordsLine (w ∷ s ∷ e ∷ v ∷ []) = cond (same w insertWord) (insertOf (readSigned s) (readSigned e) (readNumber v)) Line.Neither
+wordsLine (w ∷ s ∷ e ∷ []) = cond (sameBytes w removeWord) (removeOf (readSigned s) (readSigned e)) Line.Neither
+wordsLine (w ∷ s ∷ e ∷ v ∷ []) = cond (sameBytes w insertWord) (insertOf (readSigned s) (readSigned e) (readNumber v)) Line.Neither
 wordsLine (w ∷ s ∷ e ∷ v ∷ x ∷ xs) = Line.Neither
 
 -- THE LINE that bytes are
@@ -72,8 +73,8 @@ making r m = record { told = r; left = m }
 abbrev pub lineDone : ℕ → Stored → Option Change → (Stored → Making) → Making
 lineDone n m none behind = making (Made.NotAnEdit n) m
 lineDone n m (some c) behind =
-    let one = edited halfOpen m (c .start) (c .end) (c .new) in
-    cond (eqb (one .answer) 0) (behind (one .left)) (making (Made.Refused n (one .answer)) (one .left))
+    let one = edit halfOpen m (c .start) (c .end) (c .new) in
+    cond (eqb (one .answer) done) (behind (one .left)) (making (Made.Refused n (one .answer)) (one .left))
 
 -- lines in order; n stand before them
 unfoldable pub makes : ℕ → Stored → List (List ℕ) → Making
@@ -82,10 +83,10 @@ makes n m (l ∷ ls) = lineDone (suc n) m (changeOf (lineOf l)) (λ (left : Stor
 
 -- WHAT A TEXT MAKES, from nothing
 unfoldable pub madeOf : List ℕ → Making
-madeOf text = makes 0 (cleared halfOpen) (linesOf text)
+madeOf text = makes 0 (clear halfOpen) (linesOf text)
 
 -- what is said of a text that makes nothing: its line, and the answer of document 01's table or that it is no edit
 unfoldable pub toldText : Made → List ℕ
 toldText Made.Done = []
-toldText (Made.Refused n a) = filled (ascii "line {: {\n") (n ∷ a ∷ [])
-toldText (Made.NotAnEdit n) = filled (ascii "line {: not an edit\n") (n ∷ [])
+toldText (Made.Refused n a) = filledIn (ascii "line {: {\n") (n ∷ a ∷ [])
+toldText (Made.NotAnEdit n) = filledIn (ascii "line {: not an edit\n") (n ∷ [])

@@ -10,14 +10,14 @@ ahead x [] = (x ∷ []) ∷ []
 ahead x (p ∷ ps) = (x ∷ p) ∷ ps
 
 -- the parts that a byte parts a text into. `nothing` is what an end with no byte behind it is: no part, or an empty one
-unfoldable pub parts : ℕ → List (List ℕ) → List ℕ → List (List ℕ)
-parts b nothing [] = nothing
-parts b nothing (x ∷ xs) = let ps = parts b nothing xs in cond (eqb x b) ([] ∷ ps) (ahead x ps)
+unfoldable pub partsAt : ℕ → List (List ℕ) → List ℕ → List (List ℕ)
+partsAt b nothing [] = nothing
+partsAt b nothing (x ∷ xs) = let ps = partsAt b nothing xs in cond (eqb x b) ([] ∷ ps) (ahead x ps)
 
 -- THE LINES of a text: each ends at a newline, and the last may end without one
 abbrev pub linesOf : List ℕ → List (List ℕ)
-linesOf text = parts 10 [] text
+linesOf text = partsAt 10 [] text
 
 -- THE WORDS of a line: one space stands between two
 abbrev pub wordsOf : List ℕ → List (List ℕ)
-wordsOf line = parts 32 ([] ∷ []) line
+wordsOf line = partsAt 32 ([] ∷ []) line

@@ -4,12 +4,14 @@ mod words;
 
 use bytes::scan::find;
 use key::RangeKind;
+use key::Value;
 use outcomes::Outcome;
 use outcomes::PLACES;
 ghost use mathlib.Core.Path.{_≡_};
 ghost use Prim.Native.Nat.{_+_, _≤_, min};
-ghost use Rattle.outcomes.specs.Stored.{lent};
-ghost use Rattle.edit_lines.specs.InnerStep.{toldOf};
+ghost use Rattle.lent.specs.Moments.{was};
+ghost use Rattle.outcomes.specs.Stored.{atEntry, atExit};
+ghost use Rattle.edit_lines.specs.InnerStep.{madeBy};
 ghost use Rattle.edit_lines.specs.Parts.{linesOf};
 ghost use Rattle.edit_lines.specs.Making.{lineOf, changeOf, making, lineDone, makes, madeOf};
 
@@ -31,7 +33,7 @@ const NEWLINE: u8 = 10;
 
 // How line `n` went, by its edit.
 fn told(n: usize, went: Outcome) -> Made
-    ensures { λ r. ⌜ r ≡ toldOf n went ⌝ }
+    ensures { λ r. ⌜ r ≡ madeBy n went ⌝ }
 {
     match went {
         Outcome::Done => Made::Done,
@@ -46,11 +48,11 @@ fn line_done(
     count: &mut usize,
     starts: &mut [i64; PLACES],
     ends: &mut [i64; PLACES],
-    values: &mut [u8; PLACES],
+    values: &mut [Value; PLACES],
 ) -> Made
-    ensures { λ r. ⌜ making r (lent (count .exit) (starts .exit) (ends .exit) (values .exit))
-        ≡ lineDone n (lent (count .entry) (starts .entry) (ends .entry) (values .entry))
-        (changeOf (lineOf (now (line .entry)))) (making Made.Done) ⌝ }
+    ensures { λ r. ⌜ making r (atExit count starts ends values)
+        ≡ lineDone n (atEntry count starts ends values)
+        (changeOf (lineOf (was line))) (making Made.Done) ⌝ }
 {
     let is = words::line_of(line);
     match is {
@@ -80,10 +82,10 @@ fn lines_done(
     count: &mut usize,
     starts: &mut [i64; PLACES],
     ends: &mut [i64; PLACES],
-    values: &mut [u8; PLACES],
+    values: &mut [Value; PLACES],
 ) -> Made
-    ensures { λ r. ⌜ making r (lent (count .exit) (starts .exit) (ends .exit) (values .exit))
-        ≡ makes 0 (lent (count .entry) (starts .entry) (ends .entry) (values .entry)) (linesOf (now (text .entry))) ⌝ }
+    ensures { λ r. ⌜ making r (atExit count starts ends values)
+        ≡ makes 0 (atEntry count starts ends values) (linesOf (was text)) ⌝ }
 {
     let mut from = 0;
     let mut n = 0;
@@ -105,9 +107,9 @@ pub fn make(
     count: &mut usize,
     starts: &mut [i64; PLACES],
     ends: &mut [i64; PLACES],
-    values: &mut [u8; PLACES],
+    values: &mut [Value; PLACES],
 ) -> Made
-    ensures { λ r. ⌜ making r (lent (count .exit) (starts .exit) (ends .exit) (values .exit)) ≡ madeOf (now (text .entry)) ⌝ }
+    ensures { λ r. ⌜ making r (atExit count starts ends values) ≡ madeOf (was text) ⌝ }
 {
     map_ops::change::clear(count, starts, ends, values);
     lines_done(text, count, starts, ends, values)

@@ -1,6 +1,7 @@
 // What is said of a text that makes nothing.
 use crate::Made;
 use filling::fill;
+ghost use Rattle.lent.specs.Moments.{was, becomes};
 ghost use Rattle.filling.specs.Filling.{AddsWithin};
 ghost use Rattle.edit_lines.specs.Making.{toldText};
 
@@ -9,7 +10,7 @@ pub const TOLD_ROOM: usize = 50;
 
 // It is put at the start of lent bytes, and its length is answered: 0 of a text that was done.
 pub fn told_text(made: Made, out: &mut [u8; TOLD_ROOM]) -> usize
-    ensures { λ r. ⌜ AddsWithin 50 (toldText made) (now (out .entry)) 0 (now (out .exit)) r ⌝ }
+    ensures { λ r. ⌜ AddsWithin 50 (toldText made) (was out) 0 (becomes out) r ⌝ }
 {
     match made {
         Made::Done => 0,

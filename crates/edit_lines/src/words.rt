@@ -8,6 +8,7 @@ ghost use mathlib.Core.Path.{_≡_};
 ghost use Prim.Native.Nat.{_≤_};
 ghost use mathlib.Core.List.{[], _∷_};
 ghost use lib.ListN.{length};
+ghost use Rattle.lent.specs.Moments.{was};
 ghost use Rattle.edit_lines.specs.Parts.{wordsOf};
 ghost use Rattle.edit_lines.specs.Making.{wordsLine, lineOf};
 ghost use Rattle.edit_lines.specs.InnerStep.{SpaceAt};
@@ -16,14 +17,14 @@ const SPACE: u8 = 32;
 
 // The place of the first space, or the length where there is none.
 fn space_of(text: &[u8]) -> usize
-    ensures { λ r. ⌜ SpaceAt (now (text .entry)) r ⌝ }
+    ensures { λ r. ⌜ SpaceAt (was text) r ⌝ }
 {
     find(text, 0, text.len(), SPACE)
 }
 
 // A line of three words.
 fn remove_of(word: &[u8], start: &[u8], end: &[u8]) -> Line
-    ensures { λ r. ⌜ r ≡ wordsLine (now (word .entry) ∷ now (start .entry) ∷ now (end .entry) ∷ []) ⌝ }
+    ensures { λ r. ⌜ r ≡ wordsLine (was word ∷ was start ∷ was end ∷ []) ⌝ }
 {
     if !same(word, b"remove") {
         return Line::Neither;
@@ -39,7 +40,7 @@ fn remove_of(word: &[u8], start: &[u8], end: &[u8]) -> Line
 
 // A line of four words.
 fn insert_of(word: &[u8], start: &[u8], end: &[u8], value: &[u8]) -> Line
-    ensures { λ r. ⌜ r ≡ wordsLine (now (word .entry) ∷ now (start .entry) ∷ now (end .entry) ∷ now (value .entry) ∷ []) ⌝ }
+    ensures { λ r. ⌜ r ≡ wordsLine (was word ∷ was start ∷ was end ∷ was value ∷ []) ⌝ }
 {
     if !same(word, b"insert") {
         return Line::Neither;
@@ -61,7 +62,7 @@ fn insert_of(word: &[u8], start: &[u8], end: &[u8], value: &[u8]) -> Line
 
 // A line of which three words are taken off.
 fn behind_three(word: &[u8], start: &[u8], end: &[u8], rest: &[u8]) -> Line
-    ensures { λ r. ⌜ r ≡ wordsLine (now (word .entry) ∷ now (start .entry) ∷ now (end .entry) ∷ wordsOf (now (rest .entry))) ⌝ }
+    ensures { λ r. ⌜ r ≡ wordsLine (was word ∷ was start ∷ was end ∷ wordsOf (was rest)) ⌝ }
 {
     if space_of(rest) == rest.len() {
         return insert_of(word, start, end, rest);
@@ -71,7 +72,7 @@ fn behind_three(word: &[u8], start: &[u8], end: &[u8], rest: &[u8]) -> Line
 
 // A line of which two words are taken off.
 fn behind_two(word: &[u8], start: &[u8], rest: &[u8]) -> Line
-    ensures { λ r. ⌜ r ≡ wordsLine (now (word .entry) ∷ now (start .entry) ∷ wordsOf (now (rest .entry))) ⌝ }
+    ensures { λ r. ⌜ r ≡ wordsLine (was word ∷ was start ∷ wordsOf (was rest)) ⌝ }
 {
     let n = space_of(rest);
     if n == rest.len() {
@@ -83,7 +84,7 @@ fn behind_two(word: &[u8], start: &[u8], rest: &[u8]) -> Line
 
 // A line of which a word is taken off.
 fn behind_one(word: &[u8], rest: &[u8]) -> Line
-    ensures { λ r. ⌜ r ≡ wordsLine (now (word .entry) ∷ wordsOf (now (rest .entry))) ⌝ }
+    ensures { λ r. ⌜ r ≡ wordsLine (was word ∷ wordsOf (was rest)) ⌝ }
 {
     let n = space_of(rest);
     if n == rest.len() {
@@ -95,7 +96,7 @@ fn behind_one(word: &[u8], rest: &[u8]) -> Line
 
 // What the bytes of a line are.
 pub fn line_of(line: &[u8]) -> Line
-    ensures { λ r. ⌜ r ≡ lineOf (now (line .entry)) ⌝ }
+    ensures { λ r. ⌜ r ≡ lineOf (was line) ⌝ }
 {
     let n = space_of(line);
     if n == line.len() {

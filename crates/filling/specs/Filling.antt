@@ -7,7 +7,7 @@ use mathlib.Core.List.{List, [], _∷_, _++_}
 use lib.Dec.{eqb}
 use lib.ListN.{length}
 use Rattle.text.specs.Text.{Adds}
-use Rattle.decimal.specs.Decimal.{longest, decimalText}
+use Rattle.decimal.specs.Decimal.{longestNumber, decimalText}
 
 -- the bytes of a text that is written out: the code of each of its characters
 abbrev pub ascii : String → List ℕ
@@ -29,13 +29,13 @@ leftBy c [] = []
 leftBy c (n ∷ ns) = cond (eqb c hole) ns (n ∷ ns)
 
 -- A TEXT WITH NUMBERS FILLED IN, the first at its first hole, and so on
-unfoldable pub filled : List ℕ → List ℕ → List ℕ
-filled [] ns = []
-filled (c ∷ t) ns = pieceOf c ns ++ filled t (leftBy c ns)
+unfoldable pub filledIn : List ℕ → List ℕ → List ℕ
+filledIn [] ns = []
+filledIn (c ∷ t) ns = pieceOf c ns ++ filledIn t (leftBy c ns)
 
 -- the most bytes that it takes
 abbrev pub filledRoom : List ℕ → List ℕ → ℕ
-filledRoom t ns = length t + longest * length ns
+filledRoom t ns = length t + longestNumber * length ns
 
 -- the texts of 0, of 1, and so on, of each number below n, one after another
 unfoldable pub series : (ℕ → List ℕ) → ℕ → List ℕ

@@ -16,13 +16,13 @@ unfoldable pub gap : ℕ → ℕ → List Span
 gap c d = keep (span c d 0) []
 
 -- the gaps from c up to hi among ranges that ascend, of which none ends by c: one before each range, until a range reaches hi, and then one up to hi
-unfoldable pub walked : ℕ → ℕ → List Span → List Span
-walked c hi [] = span c hi 0 ∷ []
-walked c hi (x ∷ xs) = let more = walked (x .hi) hi xs in cond (leb hi (x .lo)) (span c hi 0 ∷ []) (gap c (x .lo) ++ cond (leb hi (x .hi)) [] more)
+unfoldable pub gapsFrom : ℕ → ℕ → List Span → List Span
+gapsFrom c hi [] = span c hi 0 ∷ []
+gapsFrom c hi (x ∷ xs) = let more = gapsFrom (x .hi) hi xs in cond (leb hi (x .lo)) (span c hi 0 ∷ []) (gap c (x .lo) ++ cond (leb hi (x .hi)) [] more)
 
 -- what the walk from place k on finds between the keys s and e
-abbrev pub found : Kind → List ℤ → List ℤ → ℕ → ℕ → ℤ → ℤ → List Span
-found kind ss es n k s e = walked (rank s) (kind .past e) (rest kind ss es n k)
+abbrev pub gapsFound : Kind → List ℤ → List ℤ → ℕ → ℕ → ℤ → ℤ → List Span
+gapsFound kind ss es n k s e = gapsFrom (rank s) (kind .past e) (rest kind ss es n k)
 
 -- the places from k up to n are there in both lists
 pub record Places (n k : ℕ) (ss es : List ℤ) : Type 0 where

@@ -3,26 +3,28 @@
 // there may be too many.
 // The kinds differ in three places, all of the keys: whether a range from one key to another is empty (`full`, by which the search goes too),
 // which end is written for a range up to a key (`end_before`), and which key follows a range (`after`).
+use answers::EMPTY_RANGE;
+use answers::TOO_SHORT;
 use key::RangeKind;
+use key::Value;
 use key::after;
 use key::end_before;
 use key::full;
 use outcomes::Counted;
-use outcomes::EMPTY_RANGE;
-use outcomes::TOO_SHORT;
 use range_list::put;
 use range_list::shorter;
 use store::search::reaching;
 ghost use mathlib.Core.Path.{_≡_};
 ghost use Prim.Native.Nat.{_+_, _≤_, _<_};
 ghost use lib.ListN.{length};
+ghost use Rattle.lent.specs.Moments.{was, becomes};
 ghost use Rattle.key.specs.InnerDecides.{Decides};
 ghost use Rattle.key.specs.Rank.{rank};
 ghost use Rattle.key.specs.Range.{kindOf};
-ghost use Rattle.outcomes.specs.Stored.{Sound, stored};
-ghost use Rattle.outcomes.specs.Outcomes.{uncovered};
-ghost use Rattle.range_list.specs.InnerLists.{wrote, Room, Puts};
-ghost use Rattle.gaps.specs.InnerWalk.{gap, found, Places};
+ghost use Rattle.outcomes.specs.Stored.{Sound, stored, atEntryWith};
+ghost use Rattle.outcomes.specs.Outcomes.{gapsSound};
+ghost use Rattle.range_list.specs.InnerLists.{wrote, ListRoom, Puts};
+ghost use Rattle.gaps.specs.InnerWalk.{gap, gapsFound, Places};
 
 // How many gaps lie between the cursor and the next range: one or none.
 fn between(cursor: i64, start: i64) -> usize
@@ -45,7 +47,7 @@ fn counted(
     end: i64,
 ) -> usize
     requires { ⌜ Places count from (now starts) (now ends) × (rank start < kindOf kind .past end) ⌝ }
-    ensures { λ r. ⌜ r ≡ length (found (kindOf kind) (now (starts .entry)) (now (ends .entry)) count from start end) ⌝ }
+    ensures { λ r. ⌜ r ≡ length (gapsFound (kindOf kind) (was starts) (was ends) count from start end) ⌝ }
 {
     let mut n = 0;
     let mut cursor = start;
@@ -78,7 +80,7 @@ fn fits(
     room: usize,
 ) -> bool
     requires { ⌜ Places count from (now starts) (now ends) × (rank start < kindOf kind .past end) ⌝ }
-    ensures { λ r. ⌜ Decides r (length (found (kindOf kind) (now (starts .entry)) (now (ends .entry)) count from start end) ≤ room) ⌝ }
+    ensures { λ r. ⌜ Decides r (length (gapsFound (kindOf kind) (was starts) (was ends) count from start end) ≤ room) ⌝ }
 {
     if count - from < room {
         return true;
@@ -98,10 +100,10 @@ fn write_before(
     cursor: i64,
     next: i64,
 ) -> usize
-    requires { ⌜ Room n (gap (rank cursor) (rank next)) (now «out_starts») (now «out_ends») ⌝ }
+    requires { ⌜ ListRoom n (gap (rank cursor) (rank next)) (now «out_starts») (now «out_ends») ⌝ }
     ensures { λ r. ⌜ (r ≡ n + length (gap (rank cursor) (rank next)))
         × Puts (kindOf kind) n (gap (rank cursor) (rank next))
-        (now («out_starts» .entry)) (now («out_ends» .entry)) (now («out_starts» .exit)) (now («out_ends» .exit)) ⌝ }
+        (was «out_starts») (was «out_ends») (becomes «out_starts») (becomes «out_ends») ⌝ }
 {
     if cursor < next {
         put(out_starts, out_ends, n, cursor, end_before(kind, next));
@@ -123,10 +125,10 @@ fn write(
     out_ends: &mut [i64],
 ) -> usize
     requires { ⌜ Places count from (now starts) (now ends) × (rank start < kindOf kind .past end)
-        × Room 0 (found (kindOf kind) (now starts) (now ends) count from start end) (now «out_starts») (now «out_ends») ⌝ }
-    ensures { λ r. ⌜ (r ≡ length (found (kindOf kind) (now (starts .entry)) (now (ends .entry)) count from start end))
-        × Puts (kindOf kind) 0 (found (kindOf kind) (now (starts .entry)) (now (ends .entry)) count from start end)
-        (now («out_starts» .entry)) (now («out_ends» .entry)) (now («out_starts» .exit)) (now («out_ends» .exit)) ⌝ }
+        × ListRoom 0 (gapsFound (kindOf kind) (now starts) (now ends) count from start end) (now «out_starts») (now «out_ends») ⌝ }
+    ensures { λ r. ⌜ (r ≡ length (gapsFound (kindOf kind) (was starts) (was ends) count from start end))
+        × Puts (kindOf kind) 0 (gapsFound (kindOf kind) (was starts) (was ends) count from start end)
+        (was «out_starts») (was «out_ends») (becomes «out_starts») (becomes «out_ends») ⌝ }
 {
     let mut at = 0;
     let mut cursor = start;
@@ -155,16 +157,16 @@ pub fn gaps(
     count: usize,
     starts: &[i64],
     ends: &[i64],
-    values: &[u8],
+    values: &[Value],
     start: i64,
     end: i64,
     out_starts: &mut [i64],
     out_ends: &mut [i64],
 ) -> Counted
     requires { ⌜ Sound (kindOf kind) (stored count (now starts) (now ends) (now values)) ⌝ }
-    ensures { λ r. ⌜ wrote r (now («out_starts» .exit)) (now («out_ends» .exit))
-        ≡ uncovered (kindOf kind) (stored count (now (starts .entry)) (now (ends .entry)) (now (values .entry))) start end
-        (now («out_starts» .entry)) (now («out_ends» .entry)) ⌝ }
+    ensures { λ r. ⌜ wrote r (becomes «out_starts») (becomes «out_ends»)
+        ≡ gapsSound (kindOf kind) (atEntryWith count starts ends values) start end
+        (was «out_starts») (was «out_ends») ⌝ }
 {
     if !full(kind, start, end) {
         return Counted::Refused(EMPTY_RANGE);

@@ -4,30 +4,30 @@ use mathlib.Core.Path.{_≡_, refl}
 use mathlib.Core.List.{List, [], _∷_, _++_}
 use lib.IntN.{pos}
 use Rattle.span.specs.Span.{Span, span, inside, keep, before, after, joins, push, joined, given, history}
-use Rattle.span.specs.Operations.{cuts, gaps, within, total, any}
-use Rattle.key.specs.Rank.{place, bitRank, rank}
+use Rattle.span.specs.Operations.{cuts, uncovered, within, spanTotal, any}
+use Rattle.key.specs.Rank.{aboveLeast, bitRank, rank}
 use Rattle.duty.proofs.ByStatus.{of-duties}
 use Rattle.duty.specs.declared.Totals.{Totals}
 use Rattle.text.specs.Text.{rightOf, leftOf}
 use Rattle.decimal.specs.Decimal.{digitsText, spelled, decimalText, signedText}
-use Rattle.filling.specs.Filling.{ascii, pieceOf, leftBy, filled, series}
+use Rattle.filling.specs.Filling.{ascii, pieceOf, leftBy, filledIn, series}
 use Rattle.report_text.specs.Rows.{rowName, rowOf, sumSeconds}
 use Rattle.report_text.specs.Times.{pairText, clockText}
 use Rattle.report_text.specs.ReportText.{nameColumn, clockColumn}
-use Rattle.graph_text.specs.Grid.{clockHour, inQuarter, marked, markOf, blankOf, shown, cell}
+use Rattle.graph_text.specs.Grid.{clockHour, inQuarter, isMarked, markOf, blankOf, shown, cell}
 use Rattle.graph_text.specs.GraphText.{hourColumn, hoursLine, totalColumn, rowLine, sumLine, graphText}
 
 -- `unfolding all` opens every definition that a case computes with: of spans, of text, of the grid
 unfoldable of-spans : Unit {0}
-unfolding inside keep before after joins push joined given history cuts gaps within total any place bitRank
+unfolding inside keep before after joins push joined given history cuts uncovered within spanTotal any aboveLeast bitRank
 of-spans = tt
 
 unfoldable of-text : Unit {0}
-unfolding rightOf leftOf digitsText spelled decimalText signedText pieceOf leftBy filled series rowName rowOf sumSeconds pairText clockText nameColumn clockColumn
+unfolding rightOf leftOf digitsText spelled decimalText signedText pieceOf leftBy filledIn series rowName rowOf sumSeconds pairText clockText nameColumn clockColumn
 of-text = tt
 
 unfoldable all : Unit {0}
-unfolding of-spans of-duties of-text clockHour inQuarter marked markOf blankOf shown cell hourColumn hoursLine totalColumn rowLine sumLine graphText
+unfolding of-spans of-duties of-text clockHour inQuarter isMarked markOf blankOf shown cell hourColumn hoursLine totalColumn rowLine sumLine graphText
 all = tt
 
 -- THE HOURS of the three kinds of day: 2 is missing, all are there, 1 stands twice

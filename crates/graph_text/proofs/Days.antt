@@ -15,14 +15,14 @@ use Rattle.calendar.specs.Calendar.{date}
 use Rattle.log_day.specs.Days.{dayOf}
 use Rattle.log_day.specs.declared.Day.the-variants as Day
 use Rattle.log_day.proofs.Spans.{Length, held}
-use Rattle.report.specs.Report.{reporting}
+use Rattle.report.specs.Report.{dayReport}
 use Rattle.report.specs.declared.Reported.the-variants as Reported
 use Rattle.report.proofs.Returns.{day-window}
 use Rattle.report.proofs.Laws.{told}
 use Rattle.graph_text.specs.Grid.{quartersIn, Drawable}
 
 -- what a grid asks of its map and day, a report has shown
-pub reported-day : (m : Stored) (z y mo d : ℕ) {s e : ℤ} {t : Totals} → Sound halfOpen m → reporting m z y mo d ≡ Reported.Totals s e t → Drawable m s e
+pub reported-day : (m : Stored) (z y mo d : ℕ) {s e : ℤ} {t : Totals} → Sound halfOpen m → dayReport m z y mo d ≡ Reported.Totals s e t → Drawable m s e
 reported-day m z y mo d f q =
     let r = told m z y mo d q in
     let w = day-window z y mo d (r .day) in

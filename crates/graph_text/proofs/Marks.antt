@@ -18,7 +18,7 @@ use Rattle.key.specs.Rank.{rank}
 use Rattle.duty.specs.Duty.{isOffDuty, isSleeperBerth, isDriving, isOnDuty, secondsOf, unrecordedOf, totalsOf}
 use Rattle.duty.proofs.Instants.{seconds-instants, unrecorded-instants}
 use Rattle.report_text.specs.Rows.{rowOf}
-use Rattle.graph_text.specs.Grid.{inQuarter, marked}
+use Rattle.graph_text.specs.Grid.{inQuarter, isMarked}
 
 -- an instant from lo up to hi at which P holds
 pub record Instant (lo hi : ℕ) (P : ℕ → Type 0) : Type 0 where
@@ -122,8 +122,8 @@ module _ (m : List Span) (s : ℤ) (q : ℕ) (o : Ordered 0 m) where
   abbrev upto : ℕ
   upto = rank s + 900 * (q + 1)
 
-  pub mark-instant : (j : ℕ) → marked m s j q ≡ true → Instant from upto (Shows j m)
-  unfolding marked inQuarter totalsOf rowOf
+  pub mark-instant : (j : ℕ) → isMarked m s j q ≡ true → Instant from upto (Shows j m)
+  unfolding isMarked inQuarter totalsOf rowOf
   mark-instant zero e = seconds-held from upto m o isOffDuty (ltb-true _ _ e)
   mark-instant (suc zero) e = seconds-held from upto m o isSleeperBerth (ltb-true _ _ e)
   mark-instant (suc (suc zero)) e = seconds-held from upto m o isDriving (ltb-true _ _ e)
@@ -131,8 +131,8 @@ module _ (m : List Span) (s : ℤ) (q : ℕ) (o : Ordered 0 m) where
   mark-instant (suc (suc (suc (suc zero)))) e = seconds-free from upto m o (omega arith) (ltb-true _ _ e)
   mark-instant (suc (suc (suc (suc (suc j))))) e = absurd (omega (arith, ltb-true 0 0 e))
 
-  pub instant-mark : (j : ℕ) → Instant from upto (Shows j m) → marked m s j q ≡ true
-  unfolding marked inQuarter totalsOf rowOf
+  pub instant-mark : (j : ℕ) → Instant from upto (Shows j m) → isMarked m s j q ≡ true
+  unfolding isMarked inQuarter totalsOf rowOf
   instant-mark zero i = lt-ltb _ _ (held-seconds from upto m o isOffDuty i)
   instant-mark (suc zero) i = lt-ltb _ _ (held-seconds from upto m o isSleeperBerth i)
   instant-mark (suc (suc zero)) i = lt-ltb _ _ (held-seconds from upto m o isDriving i)

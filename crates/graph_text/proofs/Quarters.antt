@@ -12,7 +12,7 @@ use mir.Syntax.{w64}
 use mir.Val.{SFits, toZ, ofZ}
 use Rattle.span.specs.Span.{Span, keep}
 use Rattle.span.proofs.Tests.{neither}
-use Rattle.key.specs.Rank.{place, bitRank, rank, keys}
+use Rattle.key.specs.Rank.{aboveLeast, bitRank, rank, keys}
 use Rattle.key.specs.Range.{halfOpen}
 use Rattle.key.proofs.Laws.{toZ-fit, rank-place, rank-below}
 use Rattle.outcomes.specs.Stored.{Stored, ranges}
@@ -21,7 +21,7 @@ use Rattle.duty.specs.declared.Totals.{Totals}
 use Rattle.duty.specs.declared.Tallied.the-variants as Tallied
 use Rattle.duty.proofs.Laws.{within-cons, strange-cons, strange-alike, strange-none}
 use Rattle.report_text.specs.Rows.{rowOf}
-use Rattle.graph_text.specs.Grid.{quartersIn, inQuarter, marked, Drawable}
+use Rattle.graph_text.specs.Grid.{quartersIn, inQuarter, isMarked, Drawable}
 use Rattle.graph_text.specs.InnerRoom.{Quarters, Quarter}
 
 -- A SPAN OFF A WINDOW counts for nothing there
@@ -49,8 +49,8 @@ calm-part lo hi a b (x ∷ xs) p q e =
     ]
 
 -- A KEY n FURTHER ON, as `start + n` in the code asks it and gives it
-place-further : (z : ℤ) (n : ℕ) → SFits w64 z → place z + n < keys → SFits w64 (z +ℤ pos n) × (place (z +ℤ pos n) ≡ place z + n)
-unfolding place
+place-further : (z : ℤ) (n : ℕ) → SFits w64 z → aboveLeast z + n < keys → SFits w64 (z +ℤ pos n) × (aboveLeast (z +ℤ pos n) ≡ aboveLeast z + n)
+unfolding aboveLeast
 place-further (pos a) n f l = (record { sfits = omega arith }, omega arith)
 place-further (negsuc a) n f l = elim (decLt n (suc a)) [
   | yes p ↦ rw (lt-ltb n (suc a) p) (record { sfits = omega arith }, omega arith)
@@ -92,6 +92,6 @@ quarter-totals a b d p r = rw (p, r, d .calm)
 
 -- and its mark
 pub marked-is : (m : List Span) (s : ℤ) (j q : ℕ) {t : Totals} {n : ℕ} → Tallied.Seconds t ≡ Tallied.Seconds (inQuarter m s q) → n ≡ rowOf t j
-    → ltb 0 n ≡ marked m s j q
-unfolding marked
+    → ltb 0 n ≡ isMarked m s j q
+unfolding isMarked
 marked-is m s j q {t} e r = let u : t ≡ inQuarter m s q = cc in rw (r, u)

@@ -8,7 +8,7 @@ use Rattle.duty.specs.declared.Totals.{Totals}
 use Rattle.text.specs.Text.{space, leftOf}
 use Rattle.decimal.specs.Decimal.{decimalText}
 use Rattle.filling.specs.Filling.{ascii, series}
-use Rattle.report_text.specs.Rows.{rows, rowName, rowOf, sumSeconds}
+use Rattle.report_text.specs.Rows.{rowCount, rowName, rowOf, sumSeconds}
 use Rattle.report_text.specs.ReportText.{nameColumn, clockColumn}
 use Rattle.graph_text.specs.Grid.{quartersIn, hoursIn, clockHour, cell}
 
@@ -34,4 +34,4 @@ sumLine n t = nameColumn (ascii "sum") ++ replicate n space ++ totalColumn (sumS
 
 -- THE GRID of the day from s up to e, in which the map holds m, and whose totals are t
 unfoldable pub graphText : List Span → ℤ → ℤ → Totals → List ℕ
-graphText m s e t = hoursLine (hoursIn s e) ++ series (rowLine m s (quartersIn s e) t) rows ++ sumLine (quartersIn s e) t
+graphText m s e t = hoursLine (hoursIn s e) ++ series (rowLine m s (quartersIn s e) t) rowCount ++ sumLine (quartersIn s e) t

@@ -30,8 +30,8 @@ unfoldable pub inQuarter : List Span → ℤ → ℕ → Totals
 inQuarter m s q = totalsOf (rank s + 900 * q) (rank s + 900 * (q + 1)) m
 
 -- does a quarter have a second of a row
-unfoldable pub marked : List Span → ℤ → ℕ → ℕ → Bool
-marked m s j q = ltb 0 (rowOf (inQuarter m s q) j)
+unfoldable pub isMarked : List Span → ℤ → ℕ → ℕ → Bool
+isMarked m s j q = ltb 0 (rowOf (inQuarter m s q) j)
 
 -- a mark is `#`, in the row of unrecorded time `?`
 unfoldable pub markOf : ℕ → ℕ
@@ -43,7 +43,7 @@ blankOf q = cond (eqb (q % 4) 0) (code ":") (code ".")
 
 -- what a quarter shows in a row
 unfoldable pub shown : List Span → ℤ → ℕ → ℕ → ℕ
-shown m s j q = cond (marked m s j q) (markOf j) (blankOf q)
+shown m s j q = cond (isMarked m s j q) (markOf j) (blankOf q)
 
 unfoldable pub cell : List Span → ℤ → ℕ → ℕ → List ℕ
 cell m s j q = shown m s j q ∷ []

@@ -14,12 +14,13 @@ use text::put_spaces;
 ghost use mathlib.Core.Path.{_≡_};
 ghost use Prim.Native.Nat.{_+_, _*_, _≤_, _<_};
 ghost use lib.ListN.{length};
+ghost use Rattle.lent.specs.Moments.{was, becomes};
 ghost use Rattle.key.specs.Rank.{rank, keys};
 ghost use Rattle.key.specs.Range.{halfOpen};
-ghost use Rattle.outcomes.specs.Stored.{stored, ranges};
+ghost use Rattle.outcomes.specs.Stored.{stored, ranges, atEntryWith};
 ghost use Rattle.filling.specs.Filling.{series, AddsWithin};
-ghost use Rattle.report_text.specs.Rows.{rows};
-ghost use Rattle.graph_text.specs.Grid.{quartersIn, clockHour, marked, markOf, blankOf, shown, cell, Drawable};
+ghost use Rattle.report_text.specs.Rows.{rowCount};
+ghost use Rattle.graph_text.specs.Grid.{quartersIn, clockHour, isMarked, markOf, blankOf, shown, cell, Drawable};
 ghost use Rattle.graph_text.specs.GraphText.{hourColumn, hoursLine, totalColumn, rowLine, sumLine, graphText};
 ghost use Rattle.graph_text.specs.InnerRoom.{mostQuarters, mostHours, graphLineRoom, graphRoom, Quarters, Quarter};
 
@@ -68,8 +69,8 @@ pub fn is_marked(
     row: usize,
     q: usize,
 ) -> bool
-    requires { ⌜ Quarter (stored count (now starts) (now ends) (now values)) start q × (row < rows) × (q < mostQuarters) ⌝ }
-    ensures { λ r. ⌜ r ≡ marked (ranges halfOpen (stored count (now (starts .entry)) (now (ends .entry)) (now (values .entry)))) start row q ⌝ }
+    requires { ⌜ Quarter (stored count (now starts) (now ends) (now values)) start q × (row < rowCount) × (q < mostQuarters) ⌝ }
+    ensures { λ r. ⌜ r ≡ isMarked (ranges halfOpen (atEntryWith count starts ends values)) start row q ⌝ }
 {
     let from = quarter_start(start, q);
     let to = quarter_start(start, q + 1);
@@ -110,8 +111,8 @@ fn shown_at(
     row: usize,
     q: usize,
 ) -> u8
-    requires { ⌜ Quarter (stored count (now starts) (now ends) (now values)) start q × (row < rows) × (q < mostQuarters) ⌝ }
-    ensures { λ r. ⌜ r ≡ shown (ranges halfOpen (stored count (now (starts .entry)) (now (ends .entry)) (now (values .entry)))) start row q ⌝ }
+    requires { ⌜ Quarter (stored count (now starts) (now ends) (now values)) start q × (row < rowCount) × (q < mostQuarters) ⌝ }
+    ensures { λ r. ⌜ r ≡ shown (ranges halfOpen (atEntryWith count starts ends values)) start row q ⌝ }
 {
     if is_marked(count, starts, ends, values, start, row, q) {
         return mark_of(row);
@@ -131,8 +132,8 @@ fn put_cells(
     out: &mut [u8],
     at: usize,
 ) -> usize
-    requires { ⌜ Quarters (stored count (now starts) (now ends) (now values)) start n × (row < rows) × (at + n ≤ length (now out)) ⌝ }
-    ensures { λ r. ⌜ AddsWithin n (series (cell (ranges halfOpen (stored count (now (starts .entry)) (now (ends .entry)) (now (values .entry)))) start row) n) (now (out .entry)) at (now (out .exit)) r ⌝ }
+    requires { ⌜ Quarters (stored count (now starts) (now ends) (now values)) start n × (row < rowCount) × (at + n ≤ length (now out)) ⌝ }
+    ensures { λ r. ⌜ AddsWithin n (series (cell (ranges halfOpen (atEntryWith count starts ends values)) start row) n) (was out) at (becomes out) r ⌝ }
 {
     let mut to = at;
     let mut q = 0;
@@ -147,7 +148,7 @@ fn put_cells(
 // A total behind the quarters.
 fn put_total(out: &mut [u8], at: usize, n: u64) -> usize
     requires { ⌜ at + 29 ≤ length (now out) ⌝ }
-    ensures { λ r. ⌜ AddsWithin 29 (totalColumn n) (now (out .entry)) at (now (out .exit)) r ⌝ }
+    ensures { λ r. ⌜ AddsWithin 29 (totalColumn n) (was out) at (becomes out) r ⌝ }
 {
     let to = put_clock_column(out, at, n);
     put_byte(out, to, b'\n')
@@ -166,8 +167,8 @@ fn put_row(
     out: &mut [u8],
     at: usize,
 ) -> usize
-    requires { ⌜ Quarters (stored count (now starts) (now ends) (now values)) start n × (row < rows) × (at + graphLineRoom ≤ length (now out)) ⌝ }
-    ensures { λ r. ⌜ AddsWithin graphLineRoom (rowLine (ranges halfOpen (stored count (now (starts .entry)) (now (ends .entry)) (now (values .entry)))) start n t row) (now (out .entry)) at (now (out .exit)) r ⌝ }
+    requires { ⌜ Quarters (stored count (now starts) (now ends) (now values)) start n × (row < rowCount) × (at + graphLineRoom ≤ length (now out)) ⌝ }
+    ensures { λ r. ⌜ AddsWithin graphLineRoom (rowLine (ranges halfOpen (atEntryWith count starts ends values)) start n t row) (was out) at (becomes out) r ⌝ }
 {
     let cells = put_row_column(out, at, row);
     let total = put_cells(count, starts, ends, values, start, n, row, out, cells);
@@ -186,8 +187,8 @@ fn put_rows(
     out: &mut [u8],
     at: usize,
 ) -> usize
-    requires { ⌜ Quarters (stored count (now starts) (now ends) (now values)) start n × (at + rows * graphLineRoom ≤ length (now out)) ⌝ }
-    ensures { λ r. ⌜ AddsWithin (rows * graphLineRoom) (series (rowLine (ranges halfOpen (stored count (now (starts .entry)) (now (ends .entry)) (now (values .entry)))) start n t) rows) (now (out .entry)) at (now (out .exit)) r ⌝ }
+    requires { ⌜ Quarters (stored count (now starts) (now ends) (now values)) start n × (at + rowCount * graphLineRoom ≤ length (now out)) ⌝ }
+    ensures { λ r. ⌜ AddsWithin (rowCount * graphLineRoom) (series (rowLine (ranges halfOpen (atEntryWith count starts ends values)) start n t) rowCount) (was out) at (becomes out) r ⌝ }
 {
     let mut to = at;
     let mut row = 0;
@@ -201,7 +202,7 @@ fn put_rows(
 // An hour in its columns.
 fn put_hour(out: &mut [u8], at: usize, n: usize, h: usize) -> usize
     requires { ⌜ (n ≤ mostHours) × (h < n) × (at + 20 ≤ length (now out)) ⌝ }
-    ensures { λ r. ⌜ AddsWithin 4 (hourColumn n h) (now (out .entry)) at (now (out .exit)) r ⌝ }
+    ensures { λ r. ⌜ AddsWithin 4 (hourColumn n h) (was out) at (becomes out) r ⌝ }
 {
     let to = put_u64(out, at, clock_hour(n, h) as u64);
     put_spaces(out, to, at + 4 - to)
@@ -210,7 +211,7 @@ fn put_hour(out: &mut [u8], at: usize, n: usize, h: usize) -> usize
 // The hours of a day of n hours.
 fn put_hours(out: &mut [u8], at: usize, n: usize) -> usize
     requires { ⌜ (n ≤ mostHours) × (at + 120 ≤ length (now out)) ⌝ }
-    ensures { λ r. ⌜ AddsWithin 100 (series (hourColumn n) n) (now (out .entry)) at (now (out .exit)) r ⌝ }
+    ensures { λ r. ⌜ AddsWithin 100 (series (hourColumn n) n) (was out) at (becomes out) r ⌝ }
 {
     let mut to = at;
     let mut h = 0;
@@ -224,7 +225,7 @@ fn put_hours(out: &mut [u8], at: usize, n: usize) -> usize
 // The line of the hours.
 fn put_hours_line(out: &mut [u8], at: usize, n: usize) -> usize
     requires { ⌜ (n ≤ mostHours) × (at + graphLineRoom ≤ length (now out)) ⌝ }
-    ensures { λ r. ⌜ AddsWithin graphLineRoom (hoursLine n) (now (out .entry)) at (now (out .exit)) r ⌝ }
+    ensures { λ r. ⌜ AddsWithin graphLineRoom (hoursLine n) (was out) at (becomes out) r ⌝ }
 {
     let first = put_name_column(out, at, b"");
     let to = put_hours(out, first, n);
@@ -234,7 +235,7 @@ fn put_hours_line(out: &mut [u8], at: usize, n: usize) -> usize
 // The line of the sum.
 fn put_sum_line(out: &mut [u8], at: usize, n: usize, t: Totals) -> usize
     requires { ⌜ (n ≤ mostQuarters) × (at + graphLineRoom ≤ length (now out)) ⌝ }
-    ensures { λ r. ⌜ AddsWithin graphLineRoom (sumLine n t) (now (out .entry)) at (now (out .exit)) r ⌝ }
+    ensures { λ r. ⌜ AddsWithin graphLineRoom (sumLine n t) (was out) at (becomes out) r ⌝ }
 {
     let blank = put_name_column(out, at, b"sum");
     let total = put_spaces(out, blank, n);
@@ -253,7 +254,7 @@ pub fn graph_text(
     out: &mut [u8; GRAPH_ROOM],
 ) -> usize
     requires { ⌜ Drawable (stored count (now starts) (now ends) (now values)) start end ⌝ }
-    ensures { λ r. ⌜ AddsWithin graphRoom (graphText (ranges halfOpen (stored count (now (starts .entry)) (now (ends .entry)) (now (values .entry)))) start end t) (now (out .entry)) 0 (now (out .exit)) r ⌝ }
+    ensures { λ r. ⌜ AddsWithin graphRoom (graphText (ranges halfOpen (atEntryWith count starts ends values)) start end t) (was out) 0 (becomes out) r ⌝ }
 {
     let n = quarters_of(start, end);
     let first = put_hours_line(out, 0, n / 4);

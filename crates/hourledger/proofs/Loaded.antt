@@ -8,27 +8,28 @@ use borrow.Author.Tests.{ltb-false}
 use lib.Dec.{ltb}
 use lib.ListN.{length, drop}
 use lib.IntN.{ℤ}
+use Rattle.answers.specs.Answers.{emptyRange, tooShort, notFormed, badQuery}
 use Rattle.key.specs.Rank.{rank}
 use Rattle.key.specs.Range.{halfOpen}
 use Rattle.outcomes.specs.Stored.{places, Stored, wellFormed, Sound}
-use Rattle.outcomes.specs.Outcomes.{formed, leaving, Written, writing}
+use Rattle.outcomes.specs.Outcomes.{formed, leaving, Written, intoLists}
 use Rattle.outcomes.specs.Sets.{notWritten}
 use Rattle.outcomes.specs.declared.Counted.{Counted}
 use Rattle.outcomes.specs.declared.Counted.the-variants as Counted
 use Rattle.outcomes.proofs.Formed as well
 use Rattle.byte_form.specs.Bytes.{Bytes}
 use Rattle.byte_form.specs.Layout.{rm01}
-use Rattle.byte_form.specs.Form.{formOf, Output, output, put, reading}
+use Rattle.byte_form.specs.Form.{formOf, Output, output, intoOutput, read}
 use Rattle.byte_form.specs.Form as form
 use Rattle.byte_form.proofs.Lawful.{rm01-lawful}
 use Rattle.byte_form.proofs.Forms.{read-write}
 use Rattle.range_list.specs.InnerLists.{wrote}
 use Rattle.query_text.specs.Reader.{Read, got, bad, queryOf}
-use Rattle.query.specs.Answers.{byQuery, resultOf, queried, querying}
+use Rattle.query.specs.Answers.{byQuery, resultOf, queryRangesSound, queryRanges}
 use Rattle.hourledger.specs.InnerInput.{Loaded}
 
 -- a form that was read
-pub read-loaded : (old : Stored) {m : Stored} (bs : List ℕ) {r : ℕ} → Bytes bs → leaving r m ≡ reading rm01 old bs → r ≡ 0 → Loaded m
+pub read-loaded : (old : Stored) {m : Stored} (bs : List ℕ) {r : ℕ} → Bytes bs → leaving r m ≡ read rm01 old bs → r ≡ 0 → Loaded m
 read-loaded old {m} bs bytes is e =
     let r = read-write rm01-lawful old bs bytes (sym is ∙ ap (λ (n : ℕ). leaving n m) e) in
     let k = r .memory in
@@ -46,14 +47,14 @@ read-loaded old {m} bs bytes is e =
 -- a form that is written has room
 pub written-within : (m : Stored) (out : List ℕ) {out₁ : List ℕ} {r : Counted} {n : ℕ} → output r out₁ ≡ form.writing rm01 m out → r ≡ Counted.Count n
     → n ≤ length out
-unfolding form.writing put
+unfolding form.writing intoOutput
 written-within m out {out₁} {r} {n} is e =
     go (formed halfOpen m) (ltb (length out) (length (formOf rm01 m))) refl (sym (ap (λ (o : Output). o .answer) is) ∙ e)
   where
     go : (t u : Bool) → ltb (length out) (length (formOf rm01 m)) ≡ u
         → cond t
-        (cond u (output (Counted.Refused 3) out) (output (Counted.Count (length (formOf rm01 m))) (formOf rm01 m ++ drop (length (formOf rm01 m)) out)))
-        (output (Counted.Refused 4) out)
+        (cond u (output (Counted.Refused tooShort) out) (output (Counted.Count (length (formOf rm01 m))) (formOf rm01 m ++ drop (length (formOf rm01 m)) out)))
+        (output (Counted.Refused notFormed) out)
         .answer
         ≡ Counted.Count n
         → n ≤ length out
@@ -63,18 +64,18 @@ written-within m out {out₁} {r} {n} is e =
 
 -- the ranges of a query that were written have room
 pub queried-within : (a b : Stored) (s e : ℤ) (bytes : List ℕ) (os oe : List ℤ) {os₁ oe₁ : List ℤ} {r : Counted} {n : ℕ}
-    → wrote r os₁ oe₁ ≡ querying a b s e bytes os oe → r ≡ Counted.Count n → n ≤ length os
-unfolding querying queried writing
+    → wrote r os₁ oe₁ ≡ queryRanges a b s e bytes os oe → r ≡ Counted.Count n → n ≤ length os
+unfolding queryRanges queryRangesSound intoLists
 queried-within a b s e bytes os oe {r = r} {n = n} is q =
     any (formed halfOpen a && formed halfOpen b) (ltb (rank s) (rank e)) (queryOf bytes) (sym (ap (λ (w : Written). w .answer) is) ∙ q)
   where
     one : (x : ℕ) (u : Bool) (w : Written) → ltb (min (length os) (length oe)) x ≡ u → w .answer ≡ Counted.Count x
-        → cond u (notWritten 3 os oe) w .answer ≡ Counted.Count n → n ≤ length os
+        → cond u (notWritten tooShort os oe) w .answer ≡ Counted.Count n → n ≤ length os
     one x true w h i q = absurd (let z : _≡_ {A = ℕ} 0 1 = cc in omega arith)
     one x false w h i q = let z : n ≡ x = cc in omega (arith, ltb-false (min (length os) (length oe)) x h)
 
     any : (t u : Bool) (x : Read)
-        → cond t (cond u (byQuery x (λ y. writing halfOpen (resultOf a b s e y) os oe) (notWritten 7 os oe)) (notWritten 1 os oe)) (notWritten 4 os oe) .answer
+        → cond t (cond u (byQuery x (λ y. intoLists halfOpen (resultOf a b s e y) os oe) (notWritten badQuery os oe)) (notWritten emptyRange os oe)) (notWritten notFormed os oe) .answer
         ≡ Counted.Count n
         → n ≤ length os
     any true true (got y rest) q = one (length (resultOf a b s e y)) (ltb (min (length os) (length oe)) (length (resultOf a b s e y))) _ refl refl q

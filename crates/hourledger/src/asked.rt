@@ -4,9 +4,10 @@ use crate::form::load;
 use crate::form::read_form;
 use crate::output::print;
 use crate::output::refuse;
+use answers::EMPTY_RANGE;
+use key::Value;
 use libc::STDOUT_FILENO;
 use outcomes::Counted;
-use outcomes::EMPTY_RANGE;
 use outcomes::PLACES;
 use range_text::RESULTS;
 use range_text::RESULTS_ROOM;
@@ -27,7 +28,7 @@ fn take(
     count: &mut usize,
     starts: &mut [i64; PLACES],
     ends: &mut [i64; PLACES],
-    values: &mut [u8; PLACES],
+    values: &mut [Value; PLACES],
 ) -> Taken {
     let fd = os::open_read(path);
     if fd < 0 {
@@ -50,7 +51,7 @@ fn is_taken(
     count: &mut usize,
     starts: &mut [i64; PLACES],
     ends: &mut [i64; PLACES],
-    values: &mut [u8; PLACES],
+    values: &mut [Value; PLACES],
 ) -> bool {
     let mut path = io::buffer();
     let n = os::arg(word, &mut path);
@@ -77,11 +78,11 @@ fn of_query(
     count_a: &usize,
     starts_a: &[i64; PLACES],
     ends_a: &[i64; PLACES],
-    values_a: &[u8; PLACES],
+    values_a: &[Value; PLACES],
     count_b: &usize,
     starts_b: &[i64; PLACES],
     ends_b: &[i64; PLACES],
-    values_b: &[u8; PLACES],
+    values_b: &[Value; PLACES],
     start: i64,
     end: i64,
     query: &[u8],
@@ -113,11 +114,11 @@ fn of_maps(
     count_a: &usize,
     starts_a: &[i64; PLACES],
     ends_a: &[i64; PLACES],
-    values_a: &[u8; PLACES],
+    values_a: &[Value; PLACES],
     count_b: &usize,
     starts_b: &[i64; PLACES],
     ends_b: &[i64; PLACES],
-    values_b: &[u8; PLACES],
+    values_b: &[Value; PLACES],
     start: i64,
     end: i64,
 ) {
@@ -143,7 +144,7 @@ fn of_first(
     count_a: &usize,
     starts_a: &[i64; PLACES],
     ends_a: &[i64; PLACES],
-    values_a: &[u8; PLACES],
+    values_a: &[Value; PLACES],
     start: i64,
     end: i64,
 ) {

@@ -8,6 +8,7 @@ use command::View;
 use duty::Totals;
 use graph_text::GRAPH_ROOM;
 use graph_text::graph_text;
+use key::Value;
 use libc::STDIN_FILENO;
 use libc::STDOUT_FILENO;
 use log_day::Day;
@@ -31,7 +32,7 @@ fn show_graph(
     count: usize,
     starts: &[i64; PLACES],
     ends: &[i64; PLACES],
-    values: &[u8; PLACES],
+    values: &[Value; PLACES],
     start: i64,
     end: i64,
     t: Totals,
@@ -47,7 +48,7 @@ fn show_picture(
     count: usize,
     starts: &[i64; PLACES],
     ends: &[i64; PLACES],
-    values: &[u8; PLACES],
+    values: &[Value; PLACES],
     start: i64,
     end: i64,
     t: Totals,
@@ -64,7 +65,7 @@ fn show(
     count: usize,
     starts: &[i64; PLACES],
     ends: &[i64; PLACES],
-    values: &[u8; PLACES],
+    values: &[Value; PLACES],
     start: i64,
     end: i64,
     t: Totals,
@@ -83,7 +84,7 @@ fn of_map(
     count: &usize,
     starts: &[i64; PLACES],
     ends: &[i64; PLACES],
-    values: &[u8; PLACES],
+    values: &[Value; PLACES],
     zone: u8,
     year: u16,
     month: u8,

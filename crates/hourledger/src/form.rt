@@ -2,13 +2,15 @@
 use crate::input::Input;
 use crate::input::read_all;
 use byte_form::rm01::LONGEST;
+use key::Value;
 use outcomes::PLACES;
 ghost use mathlib.Core.Path.{_≡_};
+ghost use Rattle.lent.specs.Moments.{was, becomes};
 ghost use Rattle.io.specs.Counts.{Counts};
-ghost use Rattle.outcomes.specs.Stored.{lent};
+ghost use Rattle.outcomes.specs.Stored.{atEntry, atExit};
 ghost use Rattle.outcomes.specs.Outcomes.{leaving};
 ghost use Rattle.byte_form.specs.Layout.{rm01};
-ghost use Rattle.byte_form.specs.Form.{reading};
+ghost use Rattle.byte_form.specs.Form.{read};
 ghost use Rattle.hourledger.specs.InnerInput.{Loaded};
 
 // The longest form, and a byte more.
@@ -16,7 +18,7 @@ pub const ROOM: usize = LONGEST + 1;
 
 // Reads a form. What is too long, or is not read to its end, is taken as bytes that are longer than any form.
 pub fn read_form(fd: i32, bytes: &mut [u8; ROOM]) -> usize
-    ensures { λ r. ⌜ Counts r (now (bytes .exit)) ⌝ }
+    ensures { λ r. ⌜ Counts r (becomes bytes) ⌝ }
 {
     let got = read_all(fd, bytes);
     match got {
@@ -32,11 +34,11 @@ pub fn load(
     count: &mut usize,
     starts: &mut [i64; PLACES],
     ends: &mut [i64; PLACES],
-    values: &mut [u8; PLACES],
+    values: &mut [Value; PLACES],
 ) -> u8
-    ensures { λ r. ⌜ leaving r (lent (count .exit) (starts .exit) (ends .exit) (values .exit))
-        ≡ reading rm01 (lent (count .entry) (starts .entry) (ends .entry) (values .entry)) (now (form .entry)) ⌝ }
-    ensures { λ r. ⌜ (r ≡ 0 → Loaded (lent (count .exit) (starts .exit) (ends .exit) (values .exit))) ⌝ }
+    ensures { λ r. ⌜ leaving r (atExit count starts ends values)
+        ≡ read rm01 (atEntry count starts ends values) (was form) ⌝ }
+    ensures { λ r. ⌜ (r ≡ 0 → Loaded (atExit count starts ends values)) ⌝ }
 {
     byte_io::read::read(count, starts, ends, values, form)
 }

@@ -6,11 +6,13 @@ use byte_form::rm01::LONGEST;
 use edit_lines::Made;
 use edit_lines::said::TOLD_ROOM;
 use edit_lines::said::told_text;
+use key::Value;
 use libc::STDERR_FILENO;
 use libc::STDIN_FILENO;
 use libc::STDOUT_FILENO;
 use outcomes::Counted;
 use outcomes::PLACES;
+ghost use Rattle.lent.specs.Moments.{becomes};
 ghost use Rattle.hourledger.specs.InnerInput.{Held};
 
 // The most bytes that are taken, and a byte more.
@@ -22,7 +24,12 @@ fn say(made: Made) {
     print(STDERR_FILENO, &out, n);
 }
 
-fn write_form(count: &usize, starts: &[i64; PLACES], ends: &[i64; PLACES], values: &[u8; PLACES]) {
+fn write_form(
+    count: &usize,
+    starts: &[i64; PLACES],
+    ends: &[i64; PLACES],
+    values: &[Value; PLACES],
+) {
     let mut out = [0u8; LONGEST];
     let written = byte_io::write::write(count, starts, ends, values, &mut out);
     if let Counted::Count(n) = written {
@@ -44,7 +51,7 @@ fn of_text(text: &[u8]) {
 
 // Reads the lines. The array is lent as one, so that no proof writes its bytes out.
 fn read_lines(bytes: &mut [u8; ROOM]) -> Input
-    ensures { λ r. ⌜ Held r (now (bytes .exit)) ⌝ }
+    ensures { λ r. ⌜ Held r (becomes bytes) ⌝ }
 {
     read_all(STDIN_FILENO, bytes)
 }

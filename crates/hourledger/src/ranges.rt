@@ -4,6 +4,7 @@ use crate::form::load;
 use crate::form::read_form;
 use crate::output::print;
 use crate::output::refuse;
+use key::Value;
 use libc::STDIN_FILENO;
 use libc::STDOUT_FILENO;
 use outcomes::PLACES;
@@ -12,7 +13,7 @@ use range_text::ranges_text;
 ghost use Prim.Native.Nat.{_≤_};
 ghost use Rattle.outcomes.specs.Stored.{places};
 
-fn show(count: usize, starts: &[i64; PLACES], ends: &[i64; PLACES], values: &[u8; PLACES])
+fn show(count: usize, starts: &[i64; PLACES], ends: &[i64; PLACES], values: &[Value; PLACES])
     requires { ⌜ count ≤ places ⌝ }
 {
     let mut out = [0u8; RANGES_ROOM];

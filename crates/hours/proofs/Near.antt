@@ -20,7 +20,7 @@ use lib.Ieee.Nearest.{closest}
 use lib.Ieee.Order.{drop, kept}
 use lib.Ieee.Scale.{grid, overflow, finite, round-val}
 use lib.Ieee.Positive.{den}
-use Rattle.hours.specs.Hours.{hoursOf, apart, far, Nearest}
+use Rattle.hours.specs.Hours.{hoursOf, distance, far, Nearest}
 
 -- ---- the nearest whole number
 
@@ -46,7 +46,7 @@ up-one : (w u : ℕ) → suc w * u ≡ w * u + u
 up-one w u = suc-mul w u
 
 -- n is w * u + t, and 2 * t is not u: either r is the whole number nearest n / u, or it is farther away
-beside : (o : Ordering) (w t u r : ℕ) → Cmp o (t * 2) u → (t * 2 ≡ u → ⊥) → t < u → (r ≡ nearest w o) ⊎ (apart (nearest w o * u) (w * u + t) < apart (r * u) (w * u + t))
+beside : (o : Ordering) (w t u r : ℕ) → Cmp o (t * 2) u → (t * 2 ≡ u → ⊥) → t < u → (r ≡ nearest w o) ⊎ (distance (nearest w o * u) (w * u + t) < distance (r * u) (w * u + t))
 beside Ordering·lt w t u r h tie k = elim (decLt r w) [
   | yes p ↦ inr (omega (arith, step r w u p))
   | no p ↦ elim (decLt w r) [ yes p′ ↦ inr (omega (arith, step w r u p′)) | no p′ ↦ inl (omega arith) ]
@@ -57,9 +57,9 @@ beside Ordering·gt w t u r h tie k = elim (decLt r (suc w)) [
   | no p ↦ elim (decLt (suc w) r) [ yes p′ ↦ inr (omega (arith, step (suc w) r u p′, up-one w u)) | no p′ ↦ inl (omega arith) ]
 ]
 
-closest-beside : (n u r : ℕ) → 0 < u → (n % u * 2 ≡ u → ⊥) → (r ≡ closest n u) ⊎ (apart (closest n u * u) n < apart (r * u) n)
+closest-beside : (n u r : ℕ) → 0 < u → (n % u * 2 ≡ u → ⊥) → (r ≡ closest n u) ⊎ (distance (closest n u * u) n < distance (r * u) n)
 closest-beside n u r U tie =
-    subst (λ (z : ℕ). (r ≡ closest n u) ⊎ (apart (closest n u * u) z < apart (r * u) z)) (div-add-mod' n u)
+    subst (λ (z : ℕ). (r ≡ closest n u) ⊎ (distance (closest n u * u) z < distance (r * u) z)) (div-add-mod' n u)
     (beside (compare (n % u * 2) u) (n / u) (n % u) u r (cmp (n % u * 2) u) tie (mod-lt n U))
 
 -- ---- in units of the smallest double
@@ -100,12 +100,12 @@ room : (p j k : ℕ) → 0 < p → j < k → p + j ≤ p - 1 + k
 room p j k P h = omega arith
 
 -- below n, the lower is the farther
-lower : (g y n : ℕ) → g ≤ n → y < g → apart g n < apart y n
+lower : (g y n : ℕ) → g ≤ n → y < g → distance g n < distance y n
 lower g y n h k = omega arith
 
 -- of the doubles m * 2 ^ j the one that `round` gives is nearest
 nearest-units : (p n c k j m : ℕ) → 0 < p → 0 < c → k ≡ size (n / c) - p → (n % (c * 2 ^ k) * 2 ≡ c * 2 ^ k → ⊥) → m < 2 ^ p
-    → (m * 2 ^ j ≡ closest n (c * 2 ^ k) * 2 ^ k) ⊎ (apart (closest n (c * 2 ^ k) * 2 ^ k * c) n < apart (m * 2 ^ j * c) n)
+    → (m * 2 ^ j ≡ closest n (c * 2 ^ k) * 2 ^ k) ⊎ (distance (closest n (c * 2 ^ k) * 2 ^ k * c) n < distance (m * 2 ^ j * c) n)
 nearest-units p n c k j m P C K tie M = elim (decLt j k) [ yes h ↦ inr (small h) | no h ↦ large (omega arith) ]
   where
     u : ℕ
@@ -117,7 +117,7 @@ nearest-units p n c k j m P C K tie M = elim (decLt j k) [ yes h ↦ inr (small 
     U : 0 < u
     U = mul-pos C (pow-pos k)
 
-    large : k ≤ j → (m * 2 ^ j ≡ q * 2 ^ k) ⊎ (apart (q * 2 ^ k * c) n < apart (m * 2 ^ j * c) n)
+    large : k ≤ j → (m * 2 ^ j ≡ q * 2 ^ k) ⊎ (distance (q * 2 ^ k * c) n < distance (m * 2 ^ j * c) n)
     large h =
         let r = m * 2 ^ (j - k) in
         let e : r * 2 ^ k ≡ m * 2 ^ j = mul-assoc m (2 ^ (j - k)) (2 ^ k) ∙ ap (λ (x : ℕ). m * x) (sym (pow-add 2 (j - k) k) ∙ ap (λ (x : ℕ). 2 ^ x) (back j k h)) in
@@ -125,11 +125,11 @@ nearest-units p n c k j m P C K tie M = elim (decLt j k) [ yes h ↦ inr (small 
           | inl w ↦ inl (sym e ∙ ap (λ (x : ℕ). x * 2 ^ k) w)
           | inr w ↦
               inr
-              (subst (λ (x : ℕ). apart x n < apart (m * 2 ^ j * c) n) (swap q c (2 ^ k))
-              (subst (λ (x : ℕ). apart (q * u) n < apart x n) (swap r c (2 ^ k) ∙ ap (λ (x : ℕ). x * c) e) w))
+              (subst (λ (x : ℕ). distance x n < distance (m * 2 ^ j * c) n) (swap q c (2 ^ k))
+              (subst (λ (x : ℕ). distance (q * u) n < distance x n) (swap r c (2 ^ k) ∙ ap (λ (x : ℕ). x * c) e) w))
         ]
 
-    small : j < k → apart (q * 2 ^ k * c) n < apart (m * 2 ^ j * c) n
+    small : j < k → distance (q * 2 ^ k * c) n < distance (m * 2 ^ j * c) n
     small h =
         let r = 2 ^ (p - 1) in
         let g = 2 ^ (p - 1 + k) in
@@ -138,32 +138,32 @@ nearest-units p n c k j m P C K tie M = elim (decLt j k) [ yes h ↦ inr (small 
         let b : m * 2 ^ j * c < g * c = mul-lt-mul-of-pos-right (lt-of-lt-of-le (shl-lt p j M) (pow-mono (room p j k P h))) C in
         elim (closest-beside n u r U tie) [
           | inl w ↦
-              subst (λ (x : ℕ). apart x n < apart (m * 2 ^ j * c) n) (sym e ∙ ap (λ (x : ℕ). x * u) w ∙ swap q c (2 ^ k)) (lower (g * c) (m * 2 ^ j * c) n a b)
+              subst (λ (x : ℕ). distance x n < distance (m * 2 ^ j * c) n) (sym e ∙ ap (λ (x : ℕ). x * u) w ∙ swap q c (2 ^ k)) (lower (g * c) (m * 2 ^ j * c) n a b)
           | inr w ↦
-              subst (λ (x : ℕ). apart x n < apart (m * 2 ^ j * c) n) (swap q c (2 ^ k))
-              (lt-trans (subst (λ (x : ℕ). apart (q * u) n < apart x n) e w) (lower (g * c) (m * 2 ^ j * c) n a b))
+              subst (λ (x : ℕ). distance x n < distance (m * 2 ^ j * c) n) (swap q c (2 ^ k))
+              (lt-trans (subst (λ (x : ℕ). distance (q * u) n < distance x n) e w) (lower (g * c) (m * 2 ^ j * c) n a b))
         ]
 
 -- ---- from units to floats
 
-scaled : (a b z : ℕ) → apart (a * z) (b * z) ≡ apart a b * z
+scaled : (a b z : ℕ) → distance (a * z) (b * z) ≡ distance a b * z
 scaled a b z =
-    ap (λ (x : ℕ). apart x (b * z)) (mul-comm a z)
-    ∙ ap (λ (x : ℕ). apart (z * a) x) (mul-comm b z)
+    ap (λ (x : ℕ). distance x (b * z)) (mul-comm a z)
+    ∙ ap (λ (x : ℕ). distance (z * a) x) (mul-comm b z)
     ∙ ap (λ (x : ℕ). x + (z * b - z * a)) (sym (mul-sub z a b))
     ∙ ap (λ (x : ℕ). z * (a - b) + x) (sym (mul-sub z b a))
     ∙ sym (mul-add z (a - b) (b - a))
-    ∙ mul-comm z (apart a b)
+    ∙ mul-comm z (distance a b)
 
 turned : (v x c l d : ℕ) → v * l ≡ x * d → v * c * l ≡ x * c * d
 turned v x c l d h = mul-right-comm v c l ∙ ap (λ (z : ℕ). z * c) h ∙ mul-right-comm x d c
 
 -- how far a float of x units is from a / c, by how far x * c is from a * l, l units being 1
-far-plus : (m : ℕ) (e : ℤ) (x a c l : ℕ) → m * up e * l ≡ x * down e → far (fin false m e) a c * l ≡ apart (x * c) (a * l) * down e
+far-plus : (m : ℕ) (e : ℤ) (x a c l : ℕ) → m * up e * l ≡ x * down e → far (fin false m e) a c * l ≡ distance (x * c) (a * l) * down e
 far-plus m e x a c l h =
     sym (scaled (m * up e * c) (a * down e) l)
-    ∙ ap (λ (z : ℕ). apart z (a * down e * l)) (turned (m * up e) x c l (down e) h)
-    ∙ ap (λ (z : ℕ). apart (x * c * down e) z) (mul-right-comm a (down e) l)
+    ∙ ap (λ (z : ℕ). distance z (a * down e * l)) (turned (m * up e) x c l (down e) h)
+    ∙ ap (λ (z : ℕ). distance (x * c * down e) z) (mul-right-comm a (down e) l)
     ∙ scaled (x * c) (a * l) (down e)
 
 far-minus : (m : ℕ) (e : ℤ) (x a c l : ℕ) → m * up e * l ≡ x * down e → far (fin true m e) a c * l ≡ (x * c + a * l) * down e
@@ -203,7 +203,7 @@ NoTie f a c = let n = a * 2 ^ low f in let u = c * 2 ^ drop (prec f) n c in n % 
 nothing : (q z c : ℕ) → 0 ≡ q → q * z * c ≡ 0
 nothing q z c h = ap (λ (x : ℕ). x * z * c) (sym h) ∙ ap (λ (x : ℕ). x * c) (zero-mul z) ∙ zero-mul c
 
-from-nothing : (n : ℕ) → apart 0 n ≡ n
+from-nothing : (n : ℕ) → distance 0 n ≡ n
 from-nothing n = omega arith
 
 grows : (x n : ℕ) → 0 < x → n < x + n
@@ -227,7 +227,7 @@ against f a c (fin false m e) (fin false n d) C tie h t u =
     elim p [
       | inl w ↦ inl (equal-plus m e n d (same-size (m * up e) (n * up d) (grid f a c) (n * 2 ^ at .0) (down e) (down d) (2 ^ l) (pow-pos l) (h .1) (at .1 n) w))
       | inr w ↦
-          inr (crossed (far (fin false m e) a c) (far (fin false n d) a c) (apart (grid f a c * c) (a * 2 ^ l)) (apart (n * 2 ^ at .0 * c) (a * 2 ^ l)) (down e) (down d) (2 ^ l)
+          inr (crossed (far (fin false m e) a c) (far (fin false n d) a c) (distance (grid f a c * c) (a * 2 ^ l)) (distance (n * 2 ^ at .0 * c) (a * 2 ^ l)) (down e) (down d) (2 ^ l)
           (far-plus m e (grid f a c) a c (2 ^ l) (h .1)) (far-plus n d (n * 2 ^ at .0) a c (2 ^ l) (at .1 n)) w (down-pos e) (down-pos d))
     ]
 against f a c (fin false m e) (fin true n d) C tie h t u = go (closest-beside N (c * 2 ^ k) 0 (mul-pos C (pow-pos k)) tie) (eq-zero-or-pos Y)
@@ -247,22 +247,22 @@ against f a c (fin false m e) (fin true n d) C tie h t u = go (closest-beside N 
     Y : ℕ
     Y = n * 2 ^ at .0
 
-    farther : apart (q * 2 ^ k * c) N < Y * c + N → T (eq (fin false m e) (fin true n d)) ⊎ (far (fin false m e) a c * down d < far (fin true n d) a c * down e)
+    farther : distance (q * 2 ^ k * c) N < Y * c + N → T (eq (fin false m e) (fin true n d)) ⊎ (far (fin false m e) a c * down d < far (fin true n d) a c * down e)
     farther w =
-        inr (crossed (far (fin false m e) a c) (far (fin true n d) a c) (apart (q * 2 ^ k * c) N) (Y * c + N) (down e) (down d) (2 ^ low f)
+        inr (crossed (far (fin false m e) a c) (far (fin true n d) a c) (distance (q * 2 ^ k * c) N) (Y * c + N) (down e) (down d) (2 ^ low f)
         (far-plus m e (q * 2 ^ k) a c (2 ^ low f) (h .1)) (far-minus n d Y a c (2 ^ low f) (at .1 n)) w (down-pos e) (down-pos d))
 
-    go : (0 ≡ q) ⊎ (apart (q * (c * 2 ^ k)) N < apart (0 * (c * 2 ^ k)) N) → (Y ≡ 0) ⊎ (0 < Y)
+    go : (0 ≡ q) ⊎ (distance (q * (c * 2 ^ k)) N < distance (0 * (c * 2 ^ k)) N) → (Y ≡ 0) ⊎ (0 < Y)
         → T (eq (fin false m e) (fin true n d)) ⊎ (far (fin false m e) a c * down d < far (fin true n d) a c * down e)
     go (inl z) (inl y) =
         let e1 : m * up e * down d ≡ n * up d * down e = same-size (m * up e) (n * up d) (q * 2 ^ k) Y (down e) (down d) (2 ^ low f) (pow-pos (low f)) (h .1) (at .1 n) (y ∙ sym (ap (λ (x : ℕ). x * 2 ^ k) (sym z) ∙ zero-mul (2 ^ k))) in
         let e2 : m * up e ≡ 0 = eq-of-mul-eq-mul-right (2 ^ low f) (pow-pos (low f)) (m * up e) 0 (h .1 ∙ nothing q (2 ^ k) (down e) z ∙ sym (zero-mul (2 ^ low f))) in
         inl (equal-minus m e n d e1 (ap (λ (x : ℕ). x * down d) e2 ∙ zero-mul (down d)))
-    go (inl z) (inr y) = farther (subst (λ (x : ℕ). apart x N < Y * c + N) (sym (nothing q (2 ^ k) c z)) (subst (λ (x : ℕ). x < Y * c + N) (sym (from-nothing N)) (grows (Y * c) N (mul-pos y C))))
+    go (inl z) (inr y) = farther (subst (λ (x : ℕ). distance x N < Y * c + N) (sym (nothing q (2 ^ k) c z)) (subst (λ (x : ℕ). x < Y * c + N) (sym (from-nothing N)) (grows (Y * c) N (mul-pos y C))))
     go (inr w) y =
         farther
-        (subst (λ (x : ℕ). apart x N < Y * c + N) (swap q c (2 ^ k))
-        (lt-of-lt-of-le (subst (λ (x : ℕ). apart (q * (c * 2 ^ k)) N < x) (ap (λ (x : ℕ). apart x N) (zero-mul (c * 2 ^ k)) ∙ from-nothing N) w) (raised (Y * c) N)))
+        (subst (λ (x : ℕ). distance x N < Y * c + N) (swap q c (2 ^ k))
+        (lt-of-lt-of-le (subst (λ (x : ℕ). distance (q * (c * 2 ^ k)) N < x) (ap (λ (x : ℕ). distance x N) (zero-mul (c * 2 ^ k)) ∙ from-nothing N) w) (raised (Y * c) N)))
 
 -- ---- seconds / 3600
 

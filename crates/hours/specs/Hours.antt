@@ -13,15 +13,15 @@ unfolding round
 hoursOf s = round binary64 false s 3600
 
 -- how far a is from b
-abbrev pub apart : ℕ → ℕ → ℕ
-apart a b = (a - b) + (b - a)
+abbrev pub distance : ℕ → ℕ → ℕ
+distance a b = (a - b) + (b - a)
 
 -- how far a finite float x is from a / c: this many parts of c times x's denominator
 abbrev pub far : Float → ℕ → ℕ → ℕ
 far nan a c = 0
 far (inf s) a c = 0
 far (fin true m e) a c = m * up e * c + a * down e
-far (fin false m e) a c = apart (m * up e * c) (a * down e)
+far (fin false m e) a c = distance (m * up e * c) (a * down e)
 
 -- x is a double, and every other finite double is farther from a / c than x: so x is the nearest, and no tie is left to break
 pub record Nearest (x : Float) (a c : ℕ) : Type 0 where

@@ -1,6 +1,7 @@
 // Module 3: the inclusive map, from inclusive_map.rs of rangemap. The exported functions, for C and Rust, are here: each lends all the fields of
 // its map to a function of `map_abi`, which answers in numbers, or of `map_ops` where that does. Rattle callers use `map_ops`.
 use key::RangeKind;
+use key::Value;
 use outcomes::Applied;
 use outcomes::Count;
 use outcomes::Order;
@@ -8,13 +9,17 @@ use outcomes::PLACES;
 use outcomes::Range;
 use outcomes::Stretch;
 use outcomes::Told;
-ghost use mathlib.Core.Path.{_≡_};
-ghost use mathlib.Core.Option.{some, none};
+ghost use Rattle.lent.specs.Moments.{was, becomes};
 ghost use Rattle.key.specs.Range.{inclusive};
-ghost use Rattle.outcomes.specs.Stored.{places, Sound};
-ghost use Rattle.outcomes.specs.Numbers.{toldOf, countOf, rangeOf, stretchOf, orderOf};
-ghost use Rattle.outcomes.specs.Outcomes.{Listed, cleared, containing, counting, editing, entries, equality, extended, extending, firstOf, formed, found, gapsIn, inserting, isEmpty, lastOf, leaving, lookup, meeting, ordering, overlapping, rangeAt, removing, uncovered};
+ghost use Rattle.outcomes.specs.Stored.{Sound};
 ghost use Rattle.inclusive_map.specs.Map.{held};
+ghost use Rattle.inclusive_map.specs.Promises.{RangeInclusiveMapNew, RangeInclusiveMapIsEmpty, RangeInclusiveMapLen, RangeInclusiveMapRangeAt};
+ghost use Rattle.inclusive_map.specs.Promises.{RangeInclusiveMapFirstRangeValue, RangeInclusiveMapLastRangeValue, RangeInclusiveMapGetKeyValue};
+ghost use Rattle.inclusive_map.specs.Promises.{RangeInclusiveMapContainsKey, RangeInclusiveMapOverlaps, RangeInclusiveMapOverlapping};
+ghost use Rattle.inclusive_map.specs.Promises.{RangeInclusiveMapGaps, RangeInclusiveMapEq, RangeInclusiveMapCmp, RangeInclusiveMapInsert};
+ghost use Rattle.inclusive_map.specs.Promises.{RangeInclusiveMapRemove, RangeInclusiveMapClear, RangeInclusiveMapExtend, RangeInclusiveMapWellFormed};
+ghost use Rattle.inclusive_map.specs.Promises.{RangeInclusiveMapGetKeyValueUnchecked, RangeInclusiveMapGapsUnchecked};
+ghost use Rattle.inclusive_map.specs.Promises.{RangeInclusiveMapInsertUnchecked, RangeInclusiveMapRemoveUnchecked};
 
 // The kind of this map's ranges.
 const KIND: RangeKind = RangeKind::Inclusive;
@@ -25,13 +30,13 @@ pub struct RangeInclusiveMap {
     pub count: usize,
     pub starts: [i64; PLACES],
     pub ends: [i64; PLACES],
-    pub values: [u8; PLACES],
+    pub values: [Value; PLACES],
 }
 
 // A new map, which holds nothing.
 #[no_mangle]
 pub extern "C" fn range_inclusive_map_new() -> RangeInclusiveMap
-    ensures { λ r. ⌜ held r ≡ cleared inclusive ⌝ }
+    ensures { λ r. ⌜ RangeInclusiveMapNew r ⌝ }
 {
     RangeInclusiveMap {
         count: 0,
@@ -44,7 +49,7 @@ pub extern "C" fn range_inclusive_map_new() -> RangeInclusiveMap
 // Whether nothing is held.
 #[no_mangle]
 pub extern "C" fn range_inclusive_map_is_empty(m: &RangeInclusiveMap) -> Told
-    ensures { λ r. ⌜ r ≡ toldOf (isEmpty inclusive (held (now (m .entry)))) ⌝ }
+    ensures { λ r. ⌜ RangeInclusiveMapIsEmpty (was m) r ⌝ }
 {
     map_abi::is_empty(KIND, &m.count, &m.starts, &m.ends, &m.values)
 }
@@ -52,7 +57,7 @@ pub extern "C" fn range_inclusive_map_is_empty(m: &RangeInclusiveMap) -> Told
 // How many ranges are held.
 #[no_mangle]
 pub extern "C" fn range_inclusive_map_len(m: &RangeInclusiveMap) -> Count
-    ensures { λ r. ⌜ r ≡ countOf (counting inclusive (held (now (m .entry)))) ⌝ }
+    ensures { λ r. ⌜ RangeInclusiveMapLen (was m) r ⌝ }
 {
     map_abi::len(KIND, &m.count, &m.starts, &m.ends, &m.values)
 }
@@ -60,7 +65,7 @@ pub extern "C" fn range_inclusive_map_len(m: &RangeInclusiveMap) -> Count
 // The range and the value at a place.
 #[no_mangle]
 pub extern "C" fn range_inclusive_map_range_at(m: &RangeInclusiveMap, place: usize) -> Range
-    ensures { λ r. ⌜ r ≡ rangeOf (rangeAt inclusive (held (now (m .entry))) place) ⌝ }
+    ensures { λ r. ⌜ RangeInclusiveMapRangeAt (was m) place r ⌝ }
 {
     map_abi::range_at(KIND, &m.count, &m.starts, &m.ends, &m.values, place)
 }
@@ -68,7 +73,7 @@ pub extern "C" fn range_inclusive_map_range_at(m: &RangeInclusiveMap, place: usi
 // The first range and its value.
 #[no_mangle]
 pub extern "C" fn range_inclusive_map_first_range_value(m: &RangeInclusiveMap) -> Range
-    ensures { λ r. ⌜ r ≡ rangeOf (firstOf inclusive (held (now (m .entry)))) ⌝ }
+    ensures { λ r. ⌜ RangeInclusiveMapFirstRangeValue (was m) r ⌝ }
 {
     map_abi::first_range_value(KIND, &m.count, &m.starts, &m.ends, &m.values)
 }
@@ -76,7 +81,7 @@ pub extern "C" fn range_inclusive_map_first_range_value(m: &RangeInclusiveMap) -
 // The last range and its value.
 #[no_mangle]
 pub extern "C" fn range_inclusive_map_last_range_value(m: &RangeInclusiveMap) -> Range
-    ensures { λ r. ⌜ r ≡ rangeOf (lastOf inclusive (held (now (m .entry)))) ⌝ }
+    ensures { λ r. ⌜ RangeInclusiveMapLastRangeValue (was m) r ⌝ }
 {
     map_abi::last_range_value(KIND, &m.count, &m.starts, &m.ends, &m.values)
 }
@@ -84,7 +89,7 @@ pub extern "C" fn range_inclusive_map_last_range_value(m: &RangeInclusiveMap) ->
 // The range that holds the key, and its value.
 #[no_mangle]
 pub extern "C" fn range_inclusive_map_get_key_value(m: &RangeInclusiveMap, key: i64) -> Range
-    ensures { λ r. ⌜ r ≡ rangeOf (lookup inclusive (held (now (m .entry))) key) ⌝ }
+    ensures { λ r. ⌜ RangeInclusiveMapGetKeyValue (was m) key r ⌝ }
 {
     map_abi::get_key_value(KIND, &m.count, &m.starts, &m.ends, &m.values, key)
 }
@@ -92,7 +97,7 @@ pub extern "C" fn range_inclusive_map_get_key_value(m: &RangeInclusiveMap, key: 
 // Whether some range holds the key.
 #[no_mangle]
 pub extern "C" fn range_inclusive_map_contains_key(m: &RangeInclusiveMap, key: i64) -> Told
-    ensures { λ r. ⌜ r ≡ toldOf (containing inclusive (held (now (m .entry))) key) ⌝ }
+    ensures { λ r. ⌜ RangeInclusiveMapContainsKey (was m) key r ⌝ }
 {
     map_abi::contains_key(KIND, &m.count, &m.starts, &m.ends, &m.values, key)
 }
@@ -100,7 +105,7 @@ pub extern "C" fn range_inclusive_map_contains_key(m: &RangeInclusiveMap, key: i
 // Whether some range has a key of the query.
 #[no_mangle]
 pub extern "C" fn range_inclusive_map_overlaps(m: &RangeInclusiveMap, start: i64, end: i64) -> Told
-    ensures { λ r. ⌜ r ≡ toldOf (meeting inclusive (held (now (m .entry))) start end) ⌝ }
+    ensures { λ r. ⌜ RangeInclusiveMapOverlaps (was m) start end r ⌝ }
 {
     map_abi::overlaps(KIND, &m.count, &m.starts, &m.ends, &m.values, start, end)
 }
@@ -112,7 +117,7 @@ pub extern "C" fn range_inclusive_map_overlapping(
     start: i64,
     end: i64,
 ) -> Stretch
-    ensures { λ r. ⌜ r ≡ stretchOf (overlapping inclusive (held (now (m .entry))) start end) ⌝ }
+    ensures { λ r. ⌜ RangeInclusiveMapOverlapping (was m) start end r ⌝ }
 {
     map_abi::overlapping(KIND, &m.count, &m.starts, &m.ends, &m.values, start, end)
 }
@@ -126,7 +131,7 @@ pub extern "C" fn range_inclusive_map_gaps(
     out_starts: &mut [i64],
     out_ends: &mut [i64],
 ) -> Count
-    ensures { λ r. ⌜ Listed r (now («out_starts» .exit)) (now («out_ends» .exit)) (gapsIn inclusive (held (now (m .entry))) start end (now («out_starts» .entry)) (now («out_ends» .entry))) ⌝ }
+    ensures { λ r. ⌜ RangeInclusiveMapGaps (was m) start end (was «out_starts») (becomes «out_starts») (was «out_ends») (becomes «out_ends») r ⌝ }
 {
     map_abi::gaps(
         KIND,
@@ -144,7 +149,7 @@ pub extern "C" fn range_inclusive_map_gaps(
 // Whether two maps hold the same ranges with the same values.
 #[no_mangle]
 pub extern "C" fn range_inclusive_map_eq(a: &RangeInclusiveMap, b: &RangeInclusiveMap) -> Told
-    ensures { λ r. ⌜ r ≡ toldOf (equality inclusive (held (now (a .entry))) (held (now (b .entry)))) ⌝ }
+    ensures { λ r. ⌜ RangeInclusiveMapEq (was a) (was b) r ⌝ }
 {
     map_abi::eq(
         KIND,
@@ -162,7 +167,7 @@ pub extern "C" fn range_inclusive_map_eq(a: &RangeInclusiveMap, b: &RangeInclusi
 // Which of two maps comes first: -1, 0 or 1.
 #[no_mangle]
 pub extern "C" fn range_inclusive_map_cmp(a: &RangeInclusiveMap, b: &RangeInclusiveMap) -> Order
-    ensures { λ r. ⌜ r ≡ orderOf (ordering inclusive (held (now (a .entry))) (held (now (b .entry)))) ⌝ }
+    ensures { λ r. ⌜ RangeInclusiveMapCmp (was a) (was b) r ⌝ }
 {
     map_abi::cmp(
         KIND,
@@ -183,9 +188,9 @@ pub extern "C" fn range_inclusive_map_insert(
     m: &mut RangeInclusiveMap,
     start: i64,
     end: i64,
-    value: u8,
+    value: Value,
 ) -> u8
-    ensures { λ r. ⌜ leaving r (held (now (m .exit))) ≡ inserting inclusive (held (now (m .entry))) start end value ⌝ }
+    ensures { λ r. ⌜ RangeInclusiveMapInsert (was m) (becomes m) start end value r ⌝ }
 {
     map_abi::insert(
         KIND,
@@ -202,7 +207,7 @@ pub extern "C" fn range_inclusive_map_insert(
 // Uncovers exactly the instants of start..=end.
 #[no_mangle]
 pub extern "C" fn range_inclusive_map_remove(m: &mut RangeInclusiveMap, start: i64, end: i64) -> u8
-    ensures { λ r. ⌜ leaving r (held (now (m .exit))) ≡ removing inclusive (held (now (m .entry))) start end ⌝ }
+    ensures { λ r. ⌜ RangeInclusiveMapRemove (was m) (becomes m) start end r ⌝ }
 {
     map_abi::remove(
         KIND,
@@ -218,7 +223,7 @@ pub extern "C" fn range_inclusive_map_remove(m: &mut RangeInclusiveMap, start: i
 // Leaves nothing held, whatever the map was.
 #[no_mangle]
 pub extern "C" fn range_inclusive_map_clear(m: &mut RangeInclusiveMap)
-    ensures { λ _. ⌜ (held (now (m .exit))) ≡ cleared inclusive ⌝ }
+    ensures { λ _. ⌜ RangeInclusiveMapClear (was m) (becomes m) ⌝ }
 {
     map_ops::change::clear(&mut m.count, &mut m.starts, &mut m.ends, &mut m.values)
 }
@@ -229,9 +234,9 @@ pub extern "C" fn range_inclusive_map_extend(
     m: &mut RangeInclusiveMap,
     starts: &[i64],
     ends: &[i64],
-    values: &[u8],
+    values: &[Value],
 ) -> Applied
-    ensures { λ r. ⌜ extended r (held (now (m .exit))) ≡ extending inclusive (held (now (m .entry))) (entries (now (starts .entry)) (now (ends .entry)) (now (values .entry))) ⌝ }
+    ensures { λ r. ⌜ RangeInclusiveMapExtend (was m) (becomes m) (was starts) (was ends) (was values) r ⌝ }
 {
     map_ops::change::bulk::extend(
         KIND,
@@ -248,7 +253,7 @@ pub extern "C" fn range_inclusive_map_extend(
 // Whether a map is well formed.
 #[no_mangle]
 pub extern "C" fn range_inclusive_map_well_formed(m: &RangeInclusiveMap) -> bool
-    ensures { λ r. ⌜ r ≡ formed inclusive (held (now (m .entry))) ⌝ }
+    ensures { λ r. ⌜ RangeInclusiveMapWellFormed (was m) r ⌝ }
 {
     map_abi::well_formed(KIND, &m.count, &m.starts, &m.ends, &m.values)
 }
@@ -260,7 +265,7 @@ pub extern "C" fn range_inclusive_map_get_key_value_unchecked(
     key: i64,
 ) -> Range
     requires { ⌜ Sound inclusive (held (now m)) ⌝ }
-    ensures { λ r. ⌜ r ≡ rangeOf (found inclusive (held (now (m .entry))) key) ⌝ }
+    ensures { λ r. ⌜ RangeInclusiveMapGetKeyValueUnchecked (was m) key r ⌝ }
 {
     map_abi::get_key_value_unchecked(KIND, &m.count, &m.starts, &m.ends, &m.values, key)
 }
@@ -275,7 +280,7 @@ pub extern "C" fn range_inclusive_map_gaps_unchecked(
     out_ends: &mut [i64],
 ) -> Count
     requires { ⌜ Sound inclusive (held (now m)) ⌝ }
-    ensures { λ r. ⌜ Listed r (now («out_starts» .exit)) (now («out_ends» .exit)) (uncovered inclusive (held (now (m .entry))) start end (now («out_starts» .entry)) (now («out_ends» .entry))) ⌝ }
+    ensures { λ r. ⌜ RangeInclusiveMapGapsUnchecked (was m) start end (was «out_starts») (becomes «out_starts») (was «out_ends») (becomes «out_ends») r ⌝ }
 {
     map_abi::gaps_unchecked(
         KIND,
@@ -296,10 +301,10 @@ pub extern "C" fn range_inclusive_map_insert_unchecked(
     m: &mut RangeInclusiveMap,
     start: i64,
     end: i64,
-    value: u8,
+    value: Value,
 ) -> u8
     requires { ⌜ Sound inclusive (held (now m)) ⌝ }
-    ensures { λ r. ⌜ leaving r (held (now (m .exit))) ≡ editing inclusive places (held (now (m .entry))) start end (some value) ⌝ }
+    ensures { λ r. ⌜ RangeInclusiveMapInsertUnchecked (was m) (becomes m) start end value r ⌝ }
 {
     map_abi::insert_unchecked(
         KIND,
@@ -321,7 +326,7 @@ pub extern "C" fn range_inclusive_map_remove_unchecked(
     end: i64,
 ) -> u8
     requires { ⌜ Sound inclusive (held (now m)) ⌝ }
-    ensures { λ r. ⌜ leaving r (held (now (m .exit))) ≡ editing inclusive places (held (now (m .entry))) start end none ⌝ }
+    ensures { λ r. ⌜ RangeInclusiveMapRemoveUnchecked (was m) (becomes m) start end r ⌝ }
 {
     map_abi::remove_unchecked(
         KIND,

@@ -1,6 +1,7 @@
 // Module 5: the inclusive set, from inclusive_set.rs of rangemap. The exported functions, for C and Rust, are here: each lends all the fields of its set
 // to a function of `set_abi`, which answers in numbers, or of `set_ops` or `map_ops` where these do. Rattle callers use `set_ops`.
 use key::RangeKind;
+use key::Value;
 use operations::Operation;
 use outcomes::Applied;
 use outcomes::Count;
@@ -10,13 +11,13 @@ use outcomes::Range;
 use outcomes::Stretch;
 use outcomes::Told;
 use outcomes::Total;
-ghost use mathlib.Core.Path.{_≡_};
-ghost use Rattle.key.specs.Range.{inclusive};
-ghost use Rattle.outcomes.specs.Numbers.{toldOf, countOf, rangeOf, stretchOf, orderOf, totalOf};
-ghost use Rattle.outcomes.specs.Outcomes.{Listed, cleared, extended, leaving};
-ghost use Rattle.outcomes.specs.Sets.{formedSet, intersecting, uniting, totalling};
-ghost use Rattle.set_ops.specs.Answers.{pairs, setContaining, setCounting, setEquality, setExtending, setFirst, setGaps, setInserting, setIsEmpty, setLast, setLookup, setMeeting, setOrdering, setOverlapping, setRangeAt, setRemoving};
-ghost use Rattle.inclusive_set.specs.Set.{held};
+ghost use Rattle.lent.specs.Moments.{was, becomes};
+ghost use Rattle.inclusive_set.specs.Promises.{RangeInclusiveSetNew, RangeInclusiveSetIsEmpty, RangeInclusiveSetLen, RangeInclusiveSetRangeAt};
+ghost use Rattle.inclusive_set.specs.Promises.{RangeInclusiveSetFirst, RangeInclusiveSetLast, RangeInclusiveSetGet, RangeInclusiveSetContains};
+ghost use Rattle.inclusive_set.specs.Promises.{RangeInclusiveSetOverlaps, RangeInclusiveSetOverlapping, RangeInclusiveSetGaps, RangeInclusiveSetEq};
+ghost use Rattle.inclusive_set.specs.Promises.{RangeInclusiveSetCmp, RangeInclusiveSetInsert, RangeInclusiveSetRemove, RangeInclusiveSetExtend};
+ghost use Rattle.inclusive_set.specs.Promises.{RangeInclusiveSetClear, RangeInclusiveSetWellFormed, RangeInclusiveSetIntersection};
+ghost use Rattle.inclusive_set.specs.Promises.{RangeInclusiveSetUnion, RangeInclusiveSetTotal};
 
 // The kind of this set's ranges.
 const KIND: RangeKind = RangeKind::Inclusive;
@@ -27,13 +28,13 @@ pub struct RangeInclusiveSet {
     pub count: usize,
     pub starts: [i64; PLACES],
     pub ends: [i64; PLACES],
-    pub values: [u8; PLACES],
+    pub values: [Value; PLACES],
 }
 
 // A new set, which covers nothing.
 #[no_mangle]
 pub extern "C" fn range_inclusive_set_new() -> RangeInclusiveSet
-    ensures { λ r. ⌜ held r ≡ cleared inclusive ⌝ }
+    ensures { λ r. ⌜ RangeInclusiveSetNew r ⌝ }
 {
     RangeInclusiveSet {
         count: 0,
@@ -46,7 +47,7 @@ pub extern "C" fn range_inclusive_set_new() -> RangeInclusiveSet
 // Whether nothing is held.
 #[no_mangle]
 pub extern "C" fn range_inclusive_set_is_empty(m: &RangeInclusiveSet) -> Told
-    ensures { λ r. ⌜ r ≡ toldOf (setIsEmpty inclusive (held (now (m .entry)))) ⌝ }
+    ensures { λ r. ⌜ RangeInclusiveSetIsEmpty (was m) r ⌝ }
 {
     set_abi::is_empty(KIND, &m.count, &m.starts, &m.ends, &m.values)
 }
@@ -54,7 +55,7 @@ pub extern "C" fn range_inclusive_set_is_empty(m: &RangeInclusiveSet) -> Told
 // How many ranges are held.
 #[no_mangle]
 pub extern "C" fn range_inclusive_set_len(m: &RangeInclusiveSet) -> Count
-    ensures { λ r. ⌜ r ≡ countOf (setCounting inclusive (held (now (m .entry)))) ⌝ }
+    ensures { λ r. ⌜ RangeInclusiveSetLen (was m) r ⌝ }
 {
     set_abi::len(KIND, &m.count, &m.starts, &m.ends, &m.values)
 }
@@ -62,7 +63,7 @@ pub extern "C" fn range_inclusive_set_len(m: &RangeInclusiveSet) -> Count
 // The range at a place.
 #[no_mangle]
 pub extern "C" fn range_inclusive_set_range_at(m: &RangeInclusiveSet, place: usize) -> Range
-    ensures { λ r. ⌜ r ≡ rangeOf (setRangeAt inclusive (held (now (m .entry))) place) ⌝ }
+    ensures { λ r. ⌜ RangeInclusiveSetRangeAt (was m) place r ⌝ }
 {
     set_abi::range_at(KIND, &m.count, &m.starts, &m.ends, &m.values, place)
 }
@@ -70,7 +71,7 @@ pub extern "C" fn range_inclusive_set_range_at(m: &RangeInclusiveSet, place: usi
 // The first range.
 #[no_mangle]
 pub extern "C" fn range_inclusive_set_first(m: &RangeInclusiveSet) -> Range
-    ensures { λ r. ⌜ r ≡ rangeOf (setFirst inclusive (held (now (m .entry)))) ⌝ }
+    ensures { λ r. ⌜ RangeInclusiveSetFirst (was m) r ⌝ }
 {
     set_abi::first(KIND, &m.count, &m.starts, &m.ends, &m.values)
 }
@@ -78,7 +79,7 @@ pub extern "C" fn range_inclusive_set_first(m: &RangeInclusiveSet) -> Range
 // The last range.
 #[no_mangle]
 pub extern "C" fn range_inclusive_set_last(m: &RangeInclusiveSet) -> Range
-    ensures { λ r. ⌜ r ≡ rangeOf (setLast inclusive (held (now (m .entry)))) ⌝ }
+    ensures { λ r. ⌜ RangeInclusiveSetLast (was m) r ⌝ }
 {
     set_abi::last(KIND, &m.count, &m.starts, &m.ends, &m.values)
 }
@@ -86,7 +87,7 @@ pub extern "C" fn range_inclusive_set_last(m: &RangeInclusiveSet) -> Range
 // The range that holds the key.
 #[no_mangle]
 pub extern "C" fn range_inclusive_set_get(m: &RangeInclusiveSet, key: i64) -> Range
-    ensures { λ r. ⌜ r ≡ rangeOf (setLookup inclusive (held (now (m .entry))) key) ⌝ }
+    ensures { λ r. ⌜ RangeInclusiveSetGet (was m) key r ⌝ }
 {
     set_abi::get(KIND, &m.count, &m.starts, &m.ends, &m.values, key)
 }
@@ -94,7 +95,7 @@ pub extern "C" fn range_inclusive_set_get(m: &RangeInclusiveSet, key: i64) -> Ra
 // Whether some range holds the key.
 #[no_mangle]
 pub extern "C" fn range_inclusive_set_contains(m: &RangeInclusiveSet, key: i64) -> Told
-    ensures { λ r. ⌜ r ≡ toldOf (setContaining inclusive (held (now (m .entry))) key) ⌝ }
+    ensures { λ r. ⌜ RangeInclusiveSetContains (was m) key r ⌝ }
 {
     set_abi::contains(KIND, &m.count, &m.starts, &m.ends, &m.values, key)
 }
@@ -102,7 +103,7 @@ pub extern "C" fn range_inclusive_set_contains(m: &RangeInclusiveSet, key: i64) 
 // Whether some range has a key of the query.
 #[no_mangle]
 pub extern "C" fn range_inclusive_set_overlaps(m: &RangeInclusiveSet, start: i64, end: i64) -> Told
-    ensures { λ r. ⌜ r ≡ toldOf (setMeeting inclusive (held (now (m .entry))) start end) ⌝ }
+    ensures { λ r. ⌜ RangeInclusiveSetOverlaps (was m) start end r ⌝ }
 {
     set_abi::overlaps(KIND, &m.count, &m.starts, &m.ends, &m.values, start, end)
 }
@@ -114,7 +115,7 @@ pub extern "C" fn range_inclusive_set_overlapping(
     start: i64,
     end: i64,
 ) -> Stretch
-    ensures { λ r. ⌜ r ≡ stretchOf (setOverlapping inclusive (held (now (m .entry))) start end) ⌝ }
+    ensures { λ r. ⌜ RangeInclusiveSetOverlapping (was m) start end r ⌝ }
 {
     set_abi::overlapping(KIND, &m.count, &m.starts, &m.ends, &m.values, start, end)
 }
@@ -128,7 +129,7 @@ pub extern "C" fn range_inclusive_set_gaps(
     out_starts: &mut [i64],
     out_ends: &mut [i64],
 ) -> Count
-    ensures { λ r. ⌜ Listed r (now («out_starts» .exit)) (now («out_ends» .exit)) (setGaps inclusive (held (now (m .entry))) start end (now («out_starts» .entry)) (now («out_ends» .entry))) ⌝ }
+    ensures { λ r. ⌜ RangeInclusiveSetGaps (was m) start end (was «out_starts») (becomes «out_starts») (was «out_ends») (becomes «out_ends») r ⌝ }
 {
     set_abi::gaps(
         KIND,
@@ -146,7 +147,7 @@ pub extern "C" fn range_inclusive_set_gaps(
 // Whether two sets hold the same ranges.
 #[no_mangle]
 pub extern "C" fn range_inclusive_set_eq(a: &RangeInclusiveSet, b: &RangeInclusiveSet) -> Told
-    ensures { λ r. ⌜ r ≡ toldOf (setEquality inclusive (held (now (a .entry))) (held (now (b .entry)))) ⌝ }
+    ensures { λ r. ⌜ RangeInclusiveSetEq (was a) (was b) r ⌝ }
 {
     set_abi::eq(
         KIND,
@@ -164,7 +165,7 @@ pub extern "C" fn range_inclusive_set_eq(a: &RangeInclusiveSet, b: &RangeInclusi
 // Which of two sets comes first: -1, 0 or 1.
 #[no_mangle]
 pub extern "C" fn range_inclusive_set_cmp(a: &RangeInclusiveSet, b: &RangeInclusiveSet) -> Order
-    ensures { λ r. ⌜ r ≡ orderOf (setOrdering inclusive (held (now (a .entry))) (held (now (b .entry)))) ⌝ }
+    ensures { λ r. ⌜ RangeInclusiveSetCmp (was a) (was b) r ⌝ }
 {
     set_abi::cmp(
         KIND,
@@ -182,7 +183,7 @@ pub extern "C" fn range_inclusive_set_cmp(a: &RangeInclusiveSet, b: &RangeInclus
 // Covers each instant of start..=end, and no other.
 #[no_mangle]
 pub extern "C" fn range_inclusive_set_insert(m: &mut RangeInclusiveSet, start: i64, end: i64) -> u8
-    ensures { λ r. ⌜ leaving r (held (now (m .exit))) ≡ setInserting inclusive (held (now (m .entry))) start end ⌝ }
+    ensures { λ r. ⌜ RangeInclusiveSetInsert (was m) (becomes m) start end r ⌝ }
 {
     set_abi::insert(
         KIND,
@@ -198,7 +199,7 @@ pub extern "C" fn range_inclusive_set_insert(m: &mut RangeInclusiveSet, start: i
 // Uncovers exactly the instants of start..=end.
 #[no_mangle]
 pub extern "C" fn range_inclusive_set_remove(m: &mut RangeInclusiveSet, start: i64, end: i64) -> u8
-    ensures { λ r. ⌜ leaving r (held (now (m .exit))) ≡ setRemoving inclusive (held (now (m .entry))) start end ⌝ }
+    ensures { λ r. ⌜ RangeInclusiveSetRemove (was m) (becomes m) start end r ⌝ }
 {
     set_abi::remove(
         KIND,
@@ -218,7 +219,7 @@ pub extern "C" fn range_inclusive_set_extend(
     starts: &[i64],
     ends: &[i64],
 ) -> Applied
-    ensures { λ r. ⌜ extended r (held (now (m .exit))) ≡ setExtending inclusive (held (now (m .entry))) (pairs (now (starts .entry)) (now (ends .entry))) ⌝ }
+    ensures { λ r. ⌜ RangeInclusiveSetExtend (was m) (becomes m) (was starts) (was ends) r ⌝ }
 {
     set_ops::bulk::extend(
         KIND,
@@ -234,7 +235,7 @@ pub extern "C" fn range_inclusive_set_extend(
 // Leaves nothing covered, whatever the set was.
 #[no_mangle]
 pub extern "C" fn range_inclusive_set_clear(m: &mut RangeInclusiveSet)
-    ensures { λ _. ⌜ (held (now (m .exit))) ≡ cleared inclusive ⌝ }
+    ensures { λ _. ⌜ RangeInclusiveSetClear (was m) (becomes m) ⌝ }
 {
     map_ops::change::clear(&mut m.count, &mut m.starts, &mut m.ends, &mut m.values)
 }
@@ -242,7 +243,7 @@ pub extern "C" fn range_inclusive_set_clear(m: &mut RangeInclusiveSet)
 // Whether a map is well formed.
 #[no_mangle]
 pub extern "C" fn range_inclusive_set_well_formed(m: &RangeInclusiveSet) -> bool
-    ensures { λ r. ⌜ r ≡ formedSet inclusive (held (now (m .entry))) ⌝ }
+    ensures { λ r. ⌜ RangeInclusiveSetWellFormed (was m) r ⌝ }
 {
     set_abi::well_formed(KIND, &m.count, &m.starts, &m.ends, &m.values)
 }
@@ -255,7 +256,7 @@ pub extern "C" fn range_inclusive_set_intersection(
     out_starts: &mut [i64],
     out_ends: &mut [i64],
 ) -> Count
-    ensures { λ r. ⌜ Listed r (now («out_starts» .exit)) (now («out_ends» .exit)) (intersecting inclusive (held (now (a .entry))) (held (now (b .entry))) (now («out_starts» .entry)) (now («out_ends» .entry))) ⌝ }
+    ensures { λ r. ⌜ RangeInclusiveSetIntersection (was a) (was b) (was «out_starts») (becomes «out_starts») (was «out_ends») (becomes «out_ends») r ⌝ }
 {
     set_abi::combine(
         KIND,
@@ -281,7 +282,7 @@ pub extern "C" fn range_inclusive_set_union(
     out_starts: &mut [i64],
     out_ends: &mut [i64],
 ) -> Count
-    ensures { λ r. ⌜ Listed r (now («out_starts» .exit)) (now («out_ends» .exit)) (uniting inclusive (held (now (a .entry))) (held (now (b .entry))) (now («out_starts» .entry)) (now («out_ends» .entry))) ⌝ }
+    ensures { λ r. ⌜ RangeInclusiveSetUnion (was a) (was b) (was «out_starts») (becomes «out_starts») (was «out_ends») (becomes «out_ends») r ⌝ }
 {
     set_abi::combine(
         KIND,
@@ -302,7 +303,7 @@ pub extern "C" fn range_inclusive_set_union(
 // How many keys are covered, as a u64; 9 if that is over 2^64 - 1.
 #[no_mangle]
 pub extern "C" fn range_inclusive_set_total(m: &RangeInclusiveSet) -> Total
-    ensures { λ r. ⌜ r ≡ totalOf (totalling inclusive (held (now (m .entry)))) ⌝ }
+    ensures { λ r. ⌜ RangeInclusiveSetTotal (was m) r ⌝ }
 {
     set_abi::total(KIND, &m.count, &m.starts, &m.ends, &m.values)
 }

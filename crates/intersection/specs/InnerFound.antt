@@ -11,8 +11,8 @@ use Rattle.span.specs.Operations.{common}
 use Rattle.key.specs.Rank.{rank}
 use Rattle.key.specs.Range.{kindOf}
 use Rattle.key.specs.declared.RangeKind.{RangeKind}
-use Rattle.range_list.specs.InnerColumns.{rows, rest}
-use Rattle.range_list.specs.InnerLists.{Room}
+use Rattle.range_list.specs.InnerColumns.{listed, rest}
+use Rattle.range_list.specs.InnerLists.{ListRoom}
 use Rattle.two_sets.specs.InnerKind.{wide}
 use Rattle.two_sets.specs.InnerSides.{Side}
 use Rattle.two_sets.specs.InnerLists.{Going}
@@ -20,19 +20,19 @@ use Rattle.two_sets.specs.declared.Position.{Position}
 
 -- what the two sets have in common
 abbrev pub shared : RangeKind → List ℤ → List ℤ → ℕ → List ℤ → List ℤ → ℕ → List Span
-shared kind sa ea na sb eb nb = common (rows (kindOf kind) sa ea na) (rows (kindOf kind) sb eb nb)
+shared kind sa ea na sb eb nb = common (listed (kindOf kind) sa ea na) (listed (kindOf kind) sb eb nb)
 
 -- what they have in common from place i of the first and place j of the second on
 abbrev pub sharedFrom : RangeKind → List ℤ → List ℤ → ℕ → ℕ → List ℤ → List ℤ → ℕ → ℕ → List Span
 sharedFrom kind sa ea na i sb eb nb j = common (rest (kindOf kind) sa ea na i) (rest (kindOf kind) sb eb nb j)
 
 -- the range that is open
-abbrev pub piece : RangeKind → ℤ → ℤ → Span
-piece kind s e = span (rank s) (wide kind + rank e) 0
+abbrev pub openSpan : RangeKind → ℤ → ℤ → Span
+openSpan kind s e = span (rank s) (wide kind + rank e) 0
 
 -- what is still to be written where the walk is: the open range, and what the sets have in common from there on
 abbrev pub openShared : RangeKind → List ℤ → List ℤ → ℕ → List ℤ → List ℤ → ℕ → Position → List Span
-openShared kind sa ea na sb eb nb r = piece kind (r .start) (r .end) ∷ sharedFrom kind sa ea na (r .i) sb eb nb (r .j)
+openShared kind sa ea na sb eb nb r = openSpan kind (r .start) (r .end) ∷ sharedFrom kind sa ea na (r .i) sb eb nb (r .j)
 
 -- the walk may go on from where it is: both places are in their sets, and the lent lists have room for what is still to be written
 pub record Ready (kind : RangeKind) (sa ea : List ℤ) (na : ℕ) (sb eb : List ℤ) (nb : ℕ) (r : Position) (os oe : List ℤ) : Type 0 where
@@ -40,7 +40,7 @@ pub record Ready (kind : RangeKind) (sa ea : List ℤ) (na : ℕ) (sb eb : List 
   pub side-b : Side (kindOf kind) sb eb nb
   pub in-a : r .i ≤ na
   pub in-b : r .j ≤ nb
-  pub room : Room (r .at) (openShared kind sa ea na sb eb nb r) os oe
+  pub room : ListRoom (r .at) (openShared kind sa ea na sb eb nb r) os oe
 
 -- it has gone on to another place: what was written on the way, and what is still to be
 pub record Gone (kind : RangeKind) (sa ea : List ℤ) (na : ℕ) (sb eb : List ℤ) (nb : ℕ) (r : Position) (os oe : List ℤ) (r₁ : Position) (os₁ oe₁ : List ℤ)

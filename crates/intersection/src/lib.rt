@@ -8,8 +8,9 @@ use key::RangeKind;
 use two_sets::Position;
 ghost use mathlib.Core.Path.{_≡_};
 ghost use lib.ListN.{length};
+ghost use Rattle.lent.specs.Moments.{was, becomes};
 ghost use Rattle.key.specs.Range.{kindOf};
-ghost use Rattle.range_list.specs.InnerLists.{Room};
+ghost use Rattle.range_list.specs.InnerLists.{ListRoom};
 ghost use Rattle.two_sets.specs.InnerSides.{Side};
 ghost use Rattle.two_sets.specs.InnerLists.{Ended};
 ghost use Rattle.intersection.specs.InnerFound.{shared};
@@ -26,8 +27,8 @@ pub fn counted(
 ) -> usize
     requires { ⌜ Side (kindOf kind) (now «starts_a») (now «ends_a») «count_a»
         × Side (kindOf kind) (now «starts_b») (now «ends_b») «count_b» ⌝ }
-    ensures { λ r. ⌜ r ≡ length (shared kind (now («starts_a» .entry)) (now («ends_a» .entry)) «count_a»
-        (now («starts_b» .entry)) (now («ends_b» .entry)) «count_b») ⌝ }
+    ensures { λ r. ⌜ r ≡ length (shared kind (was «starts_a») (was «ends_a») «count_a»
+        (was «starts_b») (was «ends_b») «count_b») ⌝ }
 {
     let mut n = 0;
     let mut i = 0;
@@ -55,11 +56,11 @@ pub fn write(
 ) -> usize
     requires { ⌜ Side (kindOf kind) (now «starts_a») (now «ends_a») «count_a»
         × Side (kindOf kind) (now «starts_b») (now «ends_b») «count_b»
-        × Room 0 (shared kind (now «starts_a») (now «ends_a») «count_a» (now «starts_b») (now «ends_b») «count_b»)
+        × ListRoom 0 (shared kind (now «starts_a») (now «ends_a») «count_a» (now «starts_b») (now «ends_b») «count_b»)
         (now «out_starts») (now «out_ends») ⌝ }
-    ensures { λ r. ⌜ Ended (kindOf kind) 0 (shared kind (now («starts_a» .entry)) (now («ends_a» .entry)) «count_a»
-        (now («starts_b» .entry)) (now («ends_b» .entry)) «count_b»)
-        (now («out_starts» .entry)) (now («out_ends» .entry)) r (now («out_starts» .exit)) (now («out_ends» .exit)) ⌝ }
+    ensures { λ r. ⌜ Ended (kindOf kind) 0 (shared kind (was «starts_a») (was «ends_a») «count_a»
+        (was «starts_b») (was «ends_b») «count_b»)
+        (was «out_starts») (was «out_ends») r (becomes «out_starts») (becomes «out_ends») ⌝ }
 {
     let mut i = 0;
     let mut j = 0;

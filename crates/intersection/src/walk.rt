@@ -7,6 +7,7 @@ use two_sets::pick;
 ghost use mathlib.Core.Path.{_≡_};
 ghost use Prim.Native.Nat.{_+_, _≤_, _<_};
 ghost use lib.ListN.{length};
+ghost use Rattle.lent.specs.Moments.{was, becomes};
 ghost use Rattle.key.specs.Rank.{rank};
 ghost use Rattle.key.specs.Range.{kindOf};
 ghost use Rattle.two_sets.specs.InnerLists.{Ended};
@@ -46,8 +47,8 @@ pub fn step(
     j: usize,
 ) -> Overlap
     requires { ⌜ (i < length (now «starts_a»)) × (i < length (now «ends_a»)) × (j < length (now «starts_b»)) × (j < length (now «ends_b»)) ⌝ }
-    ensures { λ r. ⌜ Stepped kind (keyRank (now («starts_a» .entry)) i) (keyRank (now («ends_a» .entry)) i)
-        (keyRank (now («starts_b» .entry)) j) (keyRank (now («ends_b» .entry)) j) (r .start) (r .end) (r .found) (r .left) ⌝ }
+    ensures { λ r. ⌜ Stepped kind (keyRank (was «starts_a») i) (keyRank (was «ends_a») i)
+        (keyRank (was «starts_b») j) (keyRank (was «ends_b») j) (r .start) (r .end) (r .found) (r .left) ⌝ }
 {
     step_over(kind, starts_a[i], ends_a[i], starts_b[j], ends_b[j])
 }
@@ -55,7 +56,7 @@ pub fn step(
 // The end at place `i`, if the set has such a place.
 fn end_at(ends: &[i64], count: usize, i: usize) -> i64
     requires { ⌜ count ≤ length (now ends) ⌝ }
-    ensures { λ r. ⌜ (i < count → rank r ≡ keyRank (now (ends .entry)) i) ⌝ }
+    ensures { λ r. ⌜ (i < count → rank r ≡ keyRank (was ends) i) ⌝ }
 {
     if i < count {
         return ends[i];
@@ -88,7 +89,7 @@ fn step_ahead(
 ) -> Carried
     requires { ⌜ (i < length (now «starts_a»)) × (i + 1 < length (now «ends_a»)) × (j < length (now «starts_b»)) × (j + 1 < length (now «ends_b»))
         × (rank «end_a» ≡ keyRank (now «ends_a») i) × (rank «end_b» ≡ keyRank (now «ends_b») j) ⌝ }
-    ensures { λ r. ⌜ Carries kind (now («starts_a» .entry)) (now («ends_a» .entry)) i (now («starts_b» .entry)) (now («ends_b» .entry)) j r ⌝ }
+    ensures { λ r. ⌜ Carries kind (was «starts_a») (was «ends_a») i (was «starts_b») (was «ends_b») j r ⌝ }
 {
     let next_a = ends_a[i + 1];
     let next_b = ends_b[j + 1];
@@ -118,8 +119,8 @@ fn write_most(
     out_ends: &mut [i64],
 ) -> Position
     requires { ⌜ Ready kind (now «starts_a») (now «ends_a») «count_a» (now «starts_b») (now «ends_b») «count_b» from (now «out_starts») (now «out_ends») ⌝ }
-    ensures { λ r. ⌜ Gone kind (now («starts_a» .entry)) (now («ends_a» .entry)) «count_a» (now («starts_b» .entry)) (now («ends_b» .entry)) «count_b»
-        from (now («out_starts» .entry)) (now («out_ends» .entry)) r (now («out_starts» .exit)) (now («out_ends» .exit)) ⌝ }
+    ensures { λ r. ⌜ Gone kind (was «starts_a») (was «ends_a») «count_a» (was «starts_b») (was «ends_b») «count_b»
+        from (was «out_starts») (was «out_ends») r (becomes «out_starts») (becomes «out_ends») ⌝ }
 {
     let mut at = from.at;
     let mut i = from.i;
@@ -162,9 +163,9 @@ fn write_rest(
     out_ends: &mut [i64],
 ) -> usize
     requires { ⌜ Ready kind (now «starts_a») (now «ends_a») «count_a» (now «starts_b») (now «ends_b») «count_b» from (now «out_starts») (now «out_ends») ⌝ }
-    ensures { λ r. ⌜ Ended (kindOf kind) (from .at) (openShared kind (now («starts_a» .entry)) (now («ends_a» .entry)) «count_a»
-        (now («starts_b» .entry)) (now («ends_b» .entry)) «count_b» from)
-        (now («out_starts» .entry)) (now («out_ends» .entry)) r (now («out_starts» .exit)) (now («out_ends» .exit)) ⌝ }
+    ensures { λ r. ⌜ Ended (kindOf kind) (from .at) (openShared kind (was «starts_a») (was «ends_a») «count_a»
+        (was «starts_b») (was «ends_b») «count_b» from)
+        (was «out_starts») (was «out_ends») r (becomes «out_starts») (becomes «out_ends») ⌝ }
 {
     let mut at = from.at;
     let mut i = from.i;
@@ -198,9 +199,9 @@ pub fn write_from(
     out_ends: &mut [i64],
 ) -> usize
     requires { ⌜ Ready kind (now «starts_a») (now «ends_a») «count_a» (now «starts_b») (now «ends_b») «count_b» from (now «out_starts») (now «out_ends») ⌝ }
-    ensures { λ r. ⌜ Ended (kindOf kind) (from .at) (openShared kind (now («starts_a» .entry)) (now («ends_a» .entry)) «count_a»
-        (now («starts_b» .entry)) (now («ends_b» .entry)) «count_b» from)
-        (now («out_starts» .entry)) (now («out_ends» .entry)) r (now («out_starts» .exit)) (now («out_ends» .exit)) ⌝ }
+    ensures { λ r. ⌜ Ended (kindOf kind) (from .at) (openShared kind (was «starts_a») (was «ends_a») «count_a»
+        (was «starts_b») (was «ends_b») «count_b» from)
+        (was «out_starts») (was «out_ends») r (becomes «out_starts») (becomes «out_ends») ⌝ }
 {
     let most = write_most(
         kind,

@@ -6,6 +6,9 @@ ghost use Rattle.key.specs.InnerDecides.{Decides};
 ghost use Rattle.key.specs.Rank.{rank, keys, lesser, greater};
 ghost use Rattle.key.specs.Range.{kindOf};
 
+// What is stored beside a range: the type of a value, in every column, parameter and answer.
+pub type Value = u8;
+
 // The least key, of rank 0.
 pub const LEAST: i64 = -9223372036854775808;
 

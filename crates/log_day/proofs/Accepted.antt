@@ -5,6 +5,7 @@ use mathlib.Core.Path.{_≡_, sym, ap, _∙_}
 use mathlib.Core.Bool.{true, false, _&&_}
 use lib.Dec.{ltb, leb}
 use borrow.Author.Tests.{ltb-true, leb-true, lt-ltb, le-ltb, le-leb, lt-leb}
+use Rattle.answers.specs.Answers.{badDay}
 use Rattle.calendar.specs.declared.Date.{Date}
 use Rattle.calendar.specs.Calendar.{date, isDate, nextDate}
 use Rattle.calendar.specs.Years.{Known}
@@ -71,6 +72,6 @@ pub accepts : (z y m d : ℕ) → accepted z (date y m d) ≡ true → Span (mid
 unfolding dayOf
 accepts z y m d e = rw e
 
-pub refuses : (z y m d : ℕ) → accepted z (date y m d) ≡ false → Refused 8 ≡ dayOf z y m d
+pub refuses : (z y m d : ℕ) → accepted z (date y m d) ≡ false → Refused badDay ≡ dayOf z y m d
 unfolding dayOf
 refuses z y m d e = rw e

@@ -1,13 +1,14 @@
 -- Document 01's cases of log days, and rules over all zones and years, by computation.
 use mathlib.Core.Path.{_≡_, refl, ap}
 use lib.IntN.{pos}
-use Rattle.calendar.specs.Calendar.{date, leap, yearLength, monthLength, total, yearsBefore, monthsBefore, dayNumber, isDate, nextDate, weekday, sundayWithin, sundayFrom, marchSunday, novemberSunday}
+use Rattle.answers.specs.Answers.{badDay}
+use Rattle.calendar.specs.Calendar.{date, leap, yearLength, monthLength, sumOfFirst, yearsBefore, monthsBefore, dayNumber, isDate, nextDate, weekday, sundayWithin, sundayFrom, marchSunday, novemberSunday}
 use Rattle.log_day.specs.declared.Day.the-variants.{Span, Refused}
-use Rattle.log_day.specs.Days.{standard, changes, daylight, offset, midnight, accepted, dayOf, logDayOf}
+use Rattle.log_day.specs.Days.{standard, changesClock, daylight, offset, midnight, accepted, dayOf, dayInC}
 
 -- `unfolding all` opens every definition that a case computes with
 unfoldable all : Unit {0}
-unfolding leap yearLength monthLength total yearsBefore monthsBefore dayNumber isDate nextDate weekday sundayWithin sundayFrom marchSunday novemberSunday standard changes daylight offset midnight accepted dayOf
+unfolding leap yearLength monthLength sumOfFirst yearsBefore monthsBefore dayNumber isDate nextDate weekday sundayWithin sundayFrom marchSunday novemberSunday standard changesClock daylight offset midnight accepted dayOf
 all = tt
 
 -- Eastern days
@@ -37,7 +38,7 @@ unfolding all
 november-2025 = refl
 
 -- dates that are not there, and zones
-no-leap-day : dayOf 0 2023 2 29 ≡ Refused 8
+no-leap-day : dayOf 0 2023 2 29 ≡ Refused badDay
 unfolding all
 no-leap-day = refl
 
@@ -45,16 +46,16 @@ leap-day : dayOf 0 2024 2 29 ≡ Span (pos 1709182800) (pos 1709269200)
 unfolding all
 leap-day = refl
 
-no-zone-7 : dayOf 7 2024 3 10 ≡ Refused 8
+no-zone-7 : dayOf 7 2024 3 10 ≡ Refused badDay
 unfolding all
 no-zone-7 = refl
 
 -- what C and Rust see of them
-march-2024-numbers : logDayOf (dayOf 0 2024 3 10) ≡ record { answer = 0; start = pos 1710046800; end = pos 1710129600 }
-march-2024-numbers = ap logDayOf march-2024
+march-2024-numbers : dayInC (dayOf 0 2024 3 10) ≡ record { answer = 0; start = pos 1710046800; end = pos 1710129600 }
+march-2024-numbers = ap dayInC march-2024
 
-no-zone-numbers : logDayOf (dayOf 7 2024 3 10) ≡ record { answer = 8; start = pos 0; end = pos 0 }
-no-zone-numbers = ap logDayOf no-zone-7
+no-zone-numbers : dayInC (dayOf 7 2024 3 10) ≡ record { answer = 8; start = pos 0; end = pos 0 }
+no-zone-numbers = ap dayInC no-zone-7
 
 -- the same days where the clock does not change
 hawaii-march : dayOf 5 2024 3 10 ≡ Span (pos 1710064800) (pos 1710151200)
@@ -75,11 +76,11 @@ unfolding all
 thursday = refl
 
 -- the years' ends that are covered: before 2007 and after 2099 it is 8, and the last day ends with the midnight of 2100-01-01
-before-2007 : dayOf 0 2006 12 31 ≡ Refused 8
+before-2007 : dayOf 0 2006 12 31 ≡ Refused badDay
 unfolding all
 before-2007 = refl
 
-after-2099 : dayOf 0 2100 1 1 ≡ Refused 8
+after-2099 : dayOf 0 2100 1 1 ≡ Refused badDay
 unfolding all
 after-2099 = refl
 

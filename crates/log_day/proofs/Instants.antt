@@ -5,7 +5,7 @@ use native.Mathlib.Decide.{decLt}
 use mathlib.Core.Path.{_≡_, refl, sym, ap, subst, _∙_}
 use lib.IntN.{pos, natAbs}
 use Rattle.calendar.specs.declared.Date.{Date}
-use Rattle.calendar.specs.Calendar.{date, leap, yearLength, monthLength, total, yearsBefore, monthsBefore, dayNumber, nextDate}
+use Rattle.calendar.specs.Calendar.{date, leap, yearLength, monthLength, sumOfFirst, yearsBefore, monthsBefore, dayNumber, nextDate}
 use Rattle.calendar.proofs.Numbers.{There, Onward, same-year, new-year, follows, one-date, number-of, years-mono, date-yes}
 use Rattle.log_day.specs.declared.Day.the-variants.{Span}
 use Rattle.log_day.specs.Days.{zones, dayOf}
@@ -29,15 +29,15 @@ abbrev past : Date
 past = date 2100 1 1
 
 first-number : dayNumber first ≡ 13514
-unfolding dayNumber yearsBefore monthsBefore total yearLength monthLength leap
+unfolding dayNumber yearsBefore monthsBefore sumOfFirst yearLength monthLength leap
 first-number = refl
 
 past-number : dayNumber past ≡ 47482
-unfolding dayNumber yearsBefore monthsBefore total yearLength monthLength leap
+unfolding dayNumber yearsBefore monthsBefore sumOfFirst yearLength monthLength leap
 past-number = refl
 
 past-years : yearsBefore 2100 ≡ 47482
-unfolding yearsBefore total yearLength leap
+unfolding yearsBefore sumOfFirst yearLength leap
 past-years = refl
 
 first-there : There first

@@ -4,6 +4,7 @@ use native.Mathlib.Omega.{arith}
 use mathlib.Core.Path.{_≡_, refl, sym, ap, ap₂, _∙_}
 use mathlib.Core.Bool.{Bool, true, false, _&&_, cond}
 use lib.Dec.{T, ltb, leb, leb→le}
+use lib.ListN.{length}
 use lib.IntN.{ℤ, pos, negsuc, natAbs, _+ℤ_, _-ℤ_}
 use mir.Syntax.{w64}
 use mir.Val.{SFits, toZ, ofZ}
@@ -12,7 +13,11 @@ use borrow.Author.Tests.{lt-ltb, le-ltb, le-leb, lt-leb}
 use Rattle.calendar.specs.declared.Date.{Date}
 use Rattle.calendar.specs.Calendar.{dayNumber, marchSunday, novemberSunday}
 use Rattle.calendar.proofs.Every.{every, at, cases}
-use Rattle.log_day.specs.Days.{zones, standard, changes, daylight, offset, midnight}
+use Rattle.log_day.specs.Days.{zoneTable, zones, standard, changesClock, daylight, offset, midnight}
+
+-- the table has so many rows
+pub all-zones : length zoneTable ≡ zones
+all-zones = refl
 
 -- an offset is a negative number, of 4 to 10 hours
 pub record West (hours : ℕ) (s : ℤ) : Type 0 where
@@ -52,7 +57,7 @@ daylight-west w = record { behind = w .behind - 3600; is = ap (λ (z : ℤ). z +
 
 -- the key of a midnight: its zone's hours west after UTC midnight, or one hour less
 unfoldable pub seconds : ℕ → Date → ℕ
-seconds z d = 86400 * dayNumber d + (natAbs (standard z) - cond (changes z && daylight d) 3600 0)
+seconds z d = 86400 * dayNumber d + (natAbs (standard z) - cond (changesClock z && daylight d) 3600 0)
 
 away : (b : Bool) {s : ℤ} → West 5 s → (u : ℕ) → pos u -ℤ cond b (s +ℤ pos 3600) s ≡ pos (u + (natAbs s - cond b 3600 0))
 away true w u = rw (w .is, later (w .behind) (w .from)) (ap pos (omega (arith, w .from)))
@@ -60,7 +65,7 @@ away false w u = rw (w .is) (ap pos (omega arith))
 
 pub midnight-seconds : (z : ℕ) (d : Date) → z < zones → midnight z d ≡ pos (seconds z d)
 unfolding midnight offset seconds
-midnight-seconds z d h = away (changes z && daylight d) (standard-west z h) (86400 * dayNumber d)
+midnight-seconds z d h = away (changesClock z && daylight d) (standard-west z h) (86400 * dayNumber d)
 
 -- both fit an i64
 pub standard-fits : (z : ℕ) → z < zones → SFits w64 (standard z)
@@ -71,7 +76,7 @@ later-fits z h = west-fits (daylight-west (standard-west z h))
 
 pub offset-fits : (z : ℕ) (d : Date) → z < zones → SFits w64 (offset z d)
 unfolding offset
-offset-fits z d h = cases (changes z && daylight d) (SFits w64) (λ _. later-fits z h) (λ _. standard-fits z h)
+offset-fits z d h = cases (changesClock z && daylight d) (SFits w64) (λ _. later-fits z h) (λ _. standard-fits z h)
 
 pub seconds-below : (z : ℕ) (d : Date) → z < zones → dayNumber d < 65536 → seconds z d < 2 ^ 40
 unfolding seconds
@@ -98,11 +103,11 @@ unfolding daylight
 in-summer d h i = rw (lt-ltb (marchSunday (d .year)) (dayNumber d) h, le-leb (dayNumber d) (novemberSunday (d .year)) i)
 
 -- the offset of a midnight, by its clock
-pub offset-later : (z : ℕ) (d : Date) → (changes z && daylight d) ≡ true → standard z +ℤ pos 3600 ≡ offset z d
+pub offset-later : (z : ℕ) (d : Date) → (changesClock z && daylight d) ≡ true → standard z +ℤ pos 3600 ≡ offset z d
 unfolding offset
 offset-later z d e = rw e
 
-pub offset-standard : (z : ℕ) (d : Date) → (changes z && daylight d) ≡ false → standard z ≡ offset z d
+pub offset-standard : (z : ℕ) (d : Date) → (changesClock z && daylight d) ≡ false → standard z ≡ offset z d
 unfolding offset
 offset-standard z d e = rw e
 

@@ -5,3 +5,4 @@ pub mod Accepted
 pub mod Spans
 pub mod Instants
 pub mod Cases
+pub mod OneOutcome

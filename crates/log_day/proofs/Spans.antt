@@ -6,6 +6,7 @@ use mathlib.Core.Path.{_≡_, refl, sym, ap, ap₂, subst, _∙_}
 use mathlib.Core.Bool.{Bool, true, false, _&&_}
 use lib.Dec.{T}
 use lib.IntN.{ℤ, pos, natAbs}
+use Rattle.answers.specs.Answers.{badDay}
 use Rattle.calendar.specs.declared.Date.{Date}
 use Rattle.calendar.specs.Calendar.{date, dayNumber, nextDate, marchSunday, novemberSunday}
 use Rattle.calendar.proofs.Numbers.{There, Follows, Onward, same-year, new-year, number-below, date-yes}
@@ -14,7 +15,7 @@ use Rattle.calendar.proofs.Sundays.{changes-of, year-starts, december-after}
 use Rattle.log_day.specs.declared.Day.{Day}
 use Rattle.log_day.specs.declared.Day.the-variants.{Span, Refused}
 use Rattle.log_day.specs.declared.LogDay.{LogDay}
-use Rattle.log_day.specs.Days.{zones, standard, changes, daylight, accepted, dayOf, logDayOf}
+use Rattle.log_day.specs.Days.{zones, standard, changesClock, daylight, accepted, dayOf, dayInC}
 use Rattle.log_day.proofs.Keys.{seconds, midnight-seconds, seconds-below, standard-west, early, summer-gone, in-summer}
 use Rattle.log_day.proofs.Accepted.{Good, good, good-accepted, next-follows, next-known, accepts, refuses}
 
@@ -70,15 +71,15 @@ turn d e t f = go (f .onward)
     go (new-year p q) = over-year d e t p q
 
 -- the key of a midnight, by its clock
-on-daylight : (z : ℕ) (d : Date) → changes z ≡ true → daylight d ≡ true → seconds z d ≡ 86400 * dayNumber d + (natAbs (standard z) - 3600)
+on-daylight : (z : ℕ) (d : Date) → changesClock z ≡ true → daylight d ≡ true → seconds z d ≡ 86400 * dayNumber d + (natAbs (standard z) - 3600)
 unfolding seconds
 on-daylight z d c e = rw (c, e)
 
-on-standard : (z : ℕ) (d : Date) → changes z ≡ true → daylight d ≡ false → seconds z d ≡ 86400 * dayNumber d + natAbs (standard z)
+on-standard : (z : ℕ) (d : Date) → changesClock z ≡ true → daylight d ≡ false → seconds z d ≡ 86400 * dayNumber d + natAbs (standard z)
 unfolding seconds
 on-standard z d c e = rw (c, e) (omega arith)
 
-unchanged : (z : ℕ) (d : Date) → changes z ≡ false → seconds z d ≡ 86400 * dayNumber d + natAbs (standard z)
+unchanged : (z : ℕ) (d : Date) → changesClock z ≡ false → seconds z d ≡ 86400 * dayNumber d + natAbs (standard z)
 unfolding seconds
 unchanged z d c = rw c (omega arith)
 
@@ -87,12 +88,12 @@ west z h = let w = standard-west z h in omega (arith, w, ap natAbs (w .is))
 
 -- HOW LONG A DAY IS: 82,800 seconds exactly on March's second Sunday in a zone that changes its clock, 90,000 exactly on November's first, and else 86,400
 pub data Length (z : ℕ) (d : Date) (n : ℕ) : Type 0 where
-  short : n ≡ 82800 → changes z ≡ true → dayNumber d ≡ marchSunday (d .year) → Length z d n
-  long : n ≡ 90000 → changes z ≡ true → dayNumber d ≡ novemberSunday (d .year) → Length z d n
-  plain : n ≡ 86400 → (changes z ≡ true → dayNumber d ≡ marchSunday (d .year) → ⊥) → (changes z ≡ true → dayNumber d ≡ novemberSunday (d .year) → ⊥) → Length z d n
+  short : n ≡ 82800 → changesClock z ≡ true → dayNumber d ≡ marchSunday (d .year) → Length z d n
+  long : n ≡ 90000 → changesClock z ≡ true → dayNumber d ≡ novemberSunday (d .year) → Length z d n
+  plain : n ≡ 86400 → (changesClock z ≡ true → dayNumber d ≡ marchSunday (d .year) → ⊥) → (changesClock z ≡ true → dayNumber d ≡ novemberSunday (d .year) → ⊥) → Length z d n
 
 module _ (z : ℕ) (d e : Date) (h : z < zones) (n : dayNumber e ≡ suc (dayNumber d)) where
-  lengthy : changes z ≡ true → Turn d e → Length z d (seconds z e - seconds z d)
+  lengthy : changesClock z ≡ true → Turn d e → Length z d (seconds z e - seconds z d)
   lengthy c (goes-on p q i) = short (omega (arith, west z h, on-standard z d c p, on-daylight z e c q)) c i
   lengthy c (goes-back p q i) = long (omega (arith, west z h, on-daylight z d c p, on-standard z e c q)) c i
   lengthy c (stays p i j) = plain (same (daylight d) refl) (λ _. i) (λ _. j)
@@ -104,21 +105,21 @@ module _ (z : ℕ) (d e : Date) (h : z < zones) (n : dayNumber e ≡ suc (dayNum
   never : (b : Bool) {X : Type 0} → b ≡ false → b ≡ true → X
   never b p q = absurd (subst T (sym q ∙ p) tt)
 
-  length-by : (b : Bool) → changes z ≡ b → Turn d e → Length z d (seconds z e - seconds z d)
+  length-by : (b : Bool) → changesClock z ≡ b → Turn d e → Length z d (seconds z e - seconds z d)
   length-by true c t = lengthy c t
-  length-by false c t = plain (omega (arith, unchanged z d c, unchanged z e c)) (λ u. never (changes z) c u) (λ u. never (changes z) c u)
+  length-by false c t = plain (omega (arith, unchanged z d c, unchanged z e c)) (λ u. never (changesClock z) c u) (λ u. never (changesClock z) c u)
 
 pub day-length : (z : ℕ) (d : Date) → Good z d → Length z d (seconds z (nextDate d) - seconds z d)
-day-length z d g = let f = next-follows z d g in length-by z d (nextDate d) (g .zone) (f .number) (changes z) refl (turn d (nextDate d) (g .is-there) f)
+day-length z d g = let f = next-follows z d g in length-by z d (nextDate d) (g .zone) (f .number) (changesClock z) refl (turn d (nextDate d) (g .is-there) f)
 
 -- STARTS ASCEND, by at least 82,800 seconds
 low : (z : ℕ) (d : Date) → z < zones → 86400 * dayNumber d + (natAbs (standard z) - 3600) ≤ seconds z d
 unfolding seconds
-low z d h = cases (changes z && daylight d) (λ (k : ℕ). 86400 * dayNumber d + (natAbs (standard z) - 3600) ≤ 86400 * dayNumber d + (natAbs (standard z) - k)) (λ _. omega arith) (λ _. omega arith)
+low z d h = cases (changesClock z && daylight d) (λ (k : ℕ). 86400 * dayNumber d + (natAbs (standard z) - 3600) ≤ 86400 * dayNumber d + (natAbs (standard z) - k)) (λ _. omega arith) (λ _. omega arith)
 
 high : (z : ℕ) (d : Date) → seconds z d ≤ 86400 * dayNumber d + natAbs (standard z)
 unfolding seconds
-high z d = cases (changes z && daylight d) (λ (k : ℕ). 86400 * dayNumber d + (natAbs (standard z) - k) ≤ 86400 * dayNumber d + natAbs (standard z)) (λ _. omega arith) (λ _. omega arith)
+high z d = cases (changesClock z && daylight d) (λ (k : ℕ). 86400 * dayNumber d + (natAbs (standard z) - k) ≤ 86400 * dayNumber d + natAbs (standard z)) (λ _. omega arith) (λ _. omega arith)
 
 pub starts-ascend : (z : ℕ) (d e : Date) → z < zones → dayNumber d < dayNumber e → seconds z d + 82800 ≤ seconds z e
 starts-ascend z d e h n = omega (arith, west z h, high z d, low z e h)
@@ -131,7 +132,7 @@ day-is z y m d g =
 
 data Answer (z y m d : ℕ) : Type 0 where
   yes-day : Good z (date y m d) → Answer z y m d
-  no-day : dayOf z y m d ≡ Refused 8 → Answer z y m d
+  no-day : dayOf z y m d ≡ Refused badDay → Answer z y m d
 
 answer : (z y m d : ℕ) → Answer z y m d
 answer z y m d = go (accepted z (date y m d)) refl
@@ -220,15 +221,15 @@ module _ (z : ℕ) (d : Date) (g : Good z d) where
   abbrev len : ℕ
   len = seconds z (nextDate d) - seconds z d
 
-  pub short-then : len ≡ 82800 → (changes z ≡ true) × (dayNumber d ≡ marchSunday (d .year))
+  pub short-then : len ≡ 82800 → (changesClock z ≡ true) × (dayNumber d ≡ marchSunday (d .year))
   short-then h = go (day-length z d g)
     where
-      go : Length z d len → (changes z ≡ true) × (dayNumber d ≡ marchSunday (d .year))
+      go : Length z d len → (changesClock z ≡ true) × (dayNumber d ≡ marchSunday (d .year))
       go (short e c i) = (c, i)
       go (long e c i) = absurd (omega arith)
       go (plain e i j) = absurd (omega arith)
 
-  pub then-short : changes z ≡ true → dayNumber d ≡ marchSunday (d .year) → len ≡ 82800
+  pub then-short : changesClock z ≡ true → dayNumber d ≡ marchSunday (d .year) → len ≡ 82800
   then-short c h = go (day-length z d g)
     where
       go : Length z d len → len ≡ 82800
@@ -236,15 +237,15 @@ module _ (z : ℕ) (d : Date) (g : Good z d) where
       go (long e k i) = let w = changes-of (d .year) in absurd (omega arith)
       go (plain e i j) = absurd (i c h)
 
-  pub long-then : len ≡ 90000 → (changes z ≡ true) × (dayNumber d ≡ novemberSunday (d .year))
+  pub long-then : len ≡ 90000 → (changesClock z ≡ true) × (dayNumber d ≡ novemberSunday (d .year))
   long-then h = go (day-length z d g)
     where
-      go : Length z d len → (changes z ≡ true) × (dayNumber d ≡ novemberSunday (d .year))
+      go : Length z d len → (changesClock z ≡ true) × (dayNumber d ≡ novemberSunday (d .year))
       go (short e c i) = absurd (omega arith)
       go (long e c i) = (c, i)
       go (plain e i j) = absurd (omega arith)
 
-  pub then-long : changes z ≡ true → dayNumber d ≡ novemberSunday (d .year) → len ≡ 90000
+  pub then-long : changesClock z ≡ true → dayNumber d ≡ novemberSunday (d .year) → len ≡ 90000
   then-long c h = go (day-length z d g)
     where
       go : Length z d len → len ≡ 90000
@@ -256,5 +257,5 @@ module _ (z : ℕ) (d : Date) (g : Good z d) where
 pub day-one : {r t : Day} (z y m d : ℕ) → r ≡ dayOf z y m d → t ≡ dayOf z y m d → r ≡ t
 day-one z y m d p q = p ∙ sym q
 
-pub log-day-one : {r t : LogDay} (z y m d : ℕ) → r ≡ logDayOf (dayOf z y m d) → t ≡ logDayOf (dayOf z y m d) → r ≡ t
+pub log-day-one : {r t : LogDay} (z y m d : ℕ) → r ≡ dayInC (dayOf z y m d) → t ≡ dayInC (dayOf z y m d) → r ≡ t
 log-day-one z y m d p q = p ∙ sym q

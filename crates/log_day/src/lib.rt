@@ -1,4 +1,6 @@
 // Log days: the start and end of a date's day in a zone, as keys.
+use answers::BAD_DAY;
+use answers::DONE;
 use calendar::Date;
 use calendar::DayNumber;
 ghost use mathlib.Core.Path.{_≡_};
@@ -6,7 +8,8 @@ ghost use mathlib.Core.Bool.{_&&_};
 ghost use Prim.Native.Nat.{_*_, _<_, _≤_};
 ghost use lib.IntN.{pos};
 ghost use Rattle.calendar.specs.Years.{Known};
-ghost use Rattle.log_day.specs.Days.{zones, standard, changes, daylight, offset, midnight, accepted, dayOf, logDayOf};
+ghost use Rattle.log_day.specs.Days.{zones, standard, changesClock, daylight, offset, midnight, accepted, dayOf, dayInC};
+ghost use Rattle.log_day.specs.Promises.{LogDayPromise};
 
 // A day as its start and end, or the number of a refusal.
 pub enum Day {
@@ -46,6 +49,7 @@ fn is_daylight(date: Date) -> bool
     true
 }
 
+// A zone's standard offset.
 fn standard_of(zone: u8) -> i64
     requires { ⌜ zone < zones ⌝ }
     ensures { λ r. ⌜ r ≡ standard zone ⌝ }
@@ -53,9 +57,10 @@ fn standard_of(zone: u8) -> i64
     STANDARD[zone as usize]
 }
 
+// Whether a zone changes its clock.
 fn changes_clock(zone: u8) -> bool
     requires { ⌜ zone < zones ⌝ }
-    ensures { λ r. ⌜ r ≡ changes zone ⌝ }
+    ensures { λ r. ⌜ r ≡ changesClock zone ⌝ }
 {
     CHANGES[zone as usize]
 }
@@ -63,7 +68,7 @@ fn changes_clock(zone: u8) -> bool
 // Whether a date's midnight has daylight offset in a zone.
 fn has_daylight(zone: u8, date: Date) -> bool
     requires { ⌜ (zone < zones) × Known (date .year) × (1 ≤ date .day) ⌝ }
-    ensures { λ r. ⌜ r ≡ (changes zone && daylight date) ⌝ }
+    ensures { λ r. ⌜ r ≡ (changesClock zone && daylight date) ⌝ }
 {
     if changes_clock(zone) {
         return is_daylight(date);
@@ -128,15 +133,16 @@ pub fn day_of(zone: u8, year: u16, month: u8, day: u8) -> Day
         let end = midnight_of(zone, calendar::next(date));
         return Day::Span(start, end);
     }
-    Day::Refused(8)
+    Day::Refused(BAD_DAY)
 }
 
+// A day as C and Rust see it.
 fn log_day_of(d: Day) -> LogDay
-    ensures { λ r. ⌜ r ≡ logDayOf d ⌝ }
+    ensures { λ r. ⌜ r ≡ dayInC d ⌝ }
 {
     match d {
         Day::Span(start, end) => LogDay {
-            answer: 0,
+            answer: DONE,
             start: start,
             end: end,
         },
@@ -148,9 +154,10 @@ fn log_day_of(d: Day) -> LogDay
     }
 }
 
+// THE DAY of a date in a zone: its start and its end, or 8.
 #[no_mangle]
 pub extern "C" fn log_day(zone: u8, year: u16, month: u8, day: u8) -> LogDay
-    ensures { λ r. ⌜ r ≡ logDayOf (dayOf zone year month day) ⌝ }
+    ensures { λ r. ⌜ LogDayPromise zone year month day r ⌝ }
 {
     log_day_of(day_of(zone, year, month, day))
 }

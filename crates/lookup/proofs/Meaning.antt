@@ -11,18 +11,18 @@ use lib.Dec.{ltb, leb}
 use lib.ListN.{length, getD}
 use lib.IntN.{ℤ, pos}
 use Rattle.span.specs.Span.{Span, span, inside, at}
-use Rattle.span.specs.Operations.{overlaps, any, holds}
+use Rattle.span.specs.Operations.{spansOverlap, any, holds}
 use Rattle.span.proofs.Tests.{Within, in-same, yes-in}
 use Rattle.span.proofs.Pieces.{at-place}
 use Rattle.key.specs.Rank.{rank}
-use Rattle.key.specs.Range.{Kind, rangeOf}
+use Rattle.key.specs.Range.{Kind, spanOf}
 use Rattle.outcomes.specs.Stored.{Stored, ranges, Sound}
-use Rattle.outcomes.specs.Outcomes.{firstPlace, yesNo, found, contained, met, metPart}
+use Rattle.outcomes.specs.Outcomes.{firstPlace, yesNo, lookupSound, containsSound, overlapsSound, overlappingSound}
 use Rattle.outcomes.specs.declared.Asked.the-variants as Asked
 use Rattle.outcomes.specs.declared.Found.{Found}
 use Rattle.outcomes.specs.declared.Found.the-variants as Found
 use Rattle.outcomes.specs.declared.Part.the-variants as Part
-use Rattle.store.specs.InnerCheck.{place}
+use Rattle.store.specs.InnerCheck.{spanAt}
 use Rattle.store.specs.InnerSearch.{Reached, FirstPast}
 use Rattle.lookup.proofs.Places.{nth, Exactly, exactly-inside, missed-free, meets-none}
 use Rattle.outcomes.proofs.Formed.{good}
@@ -43,8 +43,8 @@ any-held k (x ∷ xs) = go (inside (x .lo) (x .hi) k) (any-held k xs)
     go false e = e
 
 -- CONTAINS says yes exactly where the map holds something
-pub contains-means : (kind : Kind) (m : Stored) (k : ℤ) → contained kind m k ≡ yesNo (isHeld (at (ranges kind m) (rank k)))
-unfolding contained
+pub contains-means : (kind : Kind) (m : Stored) (k : ℤ) → containsSound kind m k ≡ yesNo (isHeld (at (ranges kind m) (rank k)))
+unfolding containsSound
 contains-means kind m k = ap yesNo (any-held (rank k) (ranges kind m))
 
 at-none : (k : ℕ) (xs : List Span) → ((j : ℕ) → j < length xs → holds k (nth xs j) ≡ false) → at xs k ≡ none
@@ -54,7 +54,7 @@ at-none k (x ∷ xs) h = rw (h 0 (omega arith)) (at-none k xs (λ j i. h (suc j)
 
 -- what a lookup of the key k says: a stored range that holds the key, with the value that the map holds there; or that the map holds nothing there
 pub data Meant (kind : Kind) (m : Stored) (k : ℤ) : Found → Type 0 where
-  held : (p : ℕ) → p < m .count → Within (place kind m p .lo) (place kind m p .hi) (rank k) → at (ranges kind m) (rank k) ≡ some (getD (m .values) p 0)
+  held : (p : ℕ) → p < m .count → Within (spanAt kind m p .lo) (spanAt kind m p .hi) (rank k) → at (ranges kind m) (rank k) ≡ some (getD (m .values) p 0)
       → Meant kind m k (Found.Range (getD (m .starts) p (pos 0)) (getD (m .ends) p (pos 0)) (getD (m .values) p 0))
   free : at (ranges kind m) (rank k) ≡ none → Meant kind m k Found.Nothing
 
@@ -68,24 +68,24 @@ pub record Shared (lo hi : ℕ) (xs : List Span) : Type 0 where
 -- of the places of a map, the n from p on meet the span x, and no other
 pub record Meets (kind : Kind) (m : Stored) (x : Span) (p n : ℕ) : Type 0 where
   pub within : p + n ≤ m .count
-  pub only : (j : ℕ) → j < m .count → overlaps x (place kind m j) ≡ inside p (p + n) j
+  pub only : (j : ℕ) → j < m .count → spansOverlap x (spanAt kind m j) ≡ inside p (p + n) j
 
 module _ {kind : Kind} {m : Stored} (sound : Sound kind m) where
   -- what the range at a place holds, the map holds; and what none holds, it does not
-  held-at : (p k : ℕ) → p < m .count → Within (place kind m p .lo) (place kind m p .hi) k → at (ranges kind m) k ≡ some (getD (m .values) p 0)
+  held-at : (p k : ℕ) → p < m .count → Within (spanAt kind m p .lo) (spanAt kind m p .hi) k → at (ranges kind m) k ≡ some (getD (m .values) p 0)
   held-at p k h w =
       at-place 0 (span 0 0 0) (ranges kind m) p k (good sound .tidy .ordered) (omega (arith, as-many sound)) (rw (nth-place sound p h) w)
       ∙ ap (λ (x : Span). some (x .label)) (nth-place sound p h)
 
-  free-at : (k : ℕ) → ((j : ℕ) → j < m .count → holds k (place kind m j) ≡ false) → at (ranges kind m) k ≡ none
+  free-at : (k : ℕ) → ((j : ℕ) → j < m .count → holds k (spanAt kind m j) ≡ false) → at (ranges kind m) k ≡ none
   free-at k h = at-none k (ranges kind m) (λ j i. let b : j < m .count = omega (arith, as-many sound) in ap (holds k) (nth-place sound j b) ∙ h j b)
 
   module _ (k : ℤ) where
     abbrev p : ℕ
     p = firstPlace (holds (rank k)) (ranges kind m)
 
-    pub found-means : Meant kind m k (found kind m k)
-    unfolding found holds
+    pub found-means : Meant kind m k (lookupSound kind m k)
+    unfolding lookupSound holds
     found-means =
         let f = the-first-range sound (holds (rank k)) in
         elim (decLt p (m .count)) [
@@ -94,8 +94,8 @@ module _ {kind : Kind} {m : Stored} (sound : Sound kind m) where
         ]
 
     -- a range that is answered holds the key, and the map holds its value there
-    pub range-held : {s e : ℤ} {v : ℕ} → found kind m k ≡ Found.Range s e v → Within (rank s) (kind .past e) (rank k) × (at (ranges kind m) (rank k) ≡ some v)
-    range-held {s} {e} {v} a = go (found kind m k) found-means a
+    pub range-held : {s e : ℤ} {v : ℕ} → lookupSound kind m k ≡ Found.Range s e v → Within (rank s) (kind .past e) (rank k) × (at (ranges kind m) (rank k) ≡ some v)
+    range-held {s} {e} {v} a = go (lookupSound kind m k) found-means a
       where
         go : (a : Found) → Meant kind m k a → a ≡ Found.Range s e v → Within (rank s) (kind .past e) (rank k) × (at (ranges kind m) (rank k) ≡ some v)
         go _ (held p h w u) a =
@@ -106,15 +106,15 @@ module _ {kind : Kind} {m : Stored} (sound : Sound kind m) where
         go _ (free n) a = let z : _≡_ {A = ℕ} 0 1 = cc in absurd (omega arith)
 
     -- the answer is 5 exactly where the map holds nothing
-    pub refused-free : found kind m k ≡ Found.Nothing → at (ranges kind m) (rank k) ≡ none
-    refused-free e = go (found kind m k) found-means e
+    pub refused-free : lookupSound kind m k ≡ Found.Nothing → at (ranges kind m) (rank k) ≡ none
+    refused-free e = go (lookupSound kind m k) found-means e
       where
         go : (a : Found) → Meant kind m k a → a ≡ Found.Nothing → at (ranges kind m) (rank k) ≡ none
         go _ (held p h w v) e = let z : _≡_ {A = ℕ} 0 1 = cc in absurd (omega arith)
         go _ (free n) e = n
 
-    pub free-refused : at (ranges kind m) (rank k) ≡ none → found kind m k ≡ Found.Nothing
-    free-refused n = go (found kind m k) found-means
+    pub free-refused : at (ranges kind m) (rank k) ≡ none → lookupSound kind m k ≡ Found.Nothing
+    free-refused n = go (lookupSound kind m k) found-means
       where
         go : (a : Found) → Meant kind m k a → a ≡ Found.Nothing
         go _ (held p h w v) = let z : _≡_ {A = ℕ} 0 1 = cc in absurd (omega arith)
@@ -123,7 +123,7 @@ module _ {kind : Kind} {m : Stored} (sound : Sound kind m) where
   -- a query, the spans that end after it starts, and those that do not begin before it ends
   module _ (s e : ℤ) where
     abbrev q : Span
-    q = rangeOf kind s e 0
+    q = spanOf kind s e 0
 
     abbrev ahead : Span → Bool
     ahead x = ltb (q .lo) (x .hi)
@@ -142,40 +142,40 @@ module _ {kind : Kind} {m : Stored} (sound : Sound kind m) where
         let f = the-first-range sound ahead in
         record { within = f .within; below = λ j i. ltb-false _ _ (f .before j i); at = λ i. ltb-true _ _ (f .at i) }
 
-    met-cases : {P : Type 0} → (q .hi ≤ q .lo → P) → (q .lo < q .hi → from < m .count → place kind m from .lo < q .hi → P)
-        → (q .lo < q .hi → (from < m .count → q .hi ≤ place kind m from .lo) → P) → P
+    met-cases : {P : Type 0} → (q .hi ≤ q .lo → P) → (q .lo < q .hi → from < m .count → spanAt kind m from .lo < q .hi → P)
+        → (q .lo < q .hi → (from < m .count → q .hi ≤ spanAt kind m from .lo) → P) → P
     met-cases f g n = elim (decLt (q .lo) (q .hi)) [
       | yes h ↦ elim (decLt from (m .count)) [
-        | yes i ↦ elim (decLt (place kind m from .lo) (q .hi)) [ yes b ↦ g h i b | no b ↦ n h (λ _. omega arith) ]
+        | yes i ↦ elim (decLt (spanAt kind m from .lo) (q .hi)) [ yes b ↦ g h i b | no b ↦ n h (λ _. omega arith) ]
         | no i ↦ n h (λ c. absurd (omega arith))
       ]
       | no h ↦ f (omega arith)
     ]
 
     -- OVERLAPS says yes where some key of the query is held
-    pub met-means : met kind m s e ≡ Asked.Yes → Shared (q .lo) (q .hi) (ranges kind m)
+    pub met-means : overlapsSound kind m s e ≡ Asked.Yes → Shared (q .lo) (q .hi) (ranges kind m)
     met-means a = met-cases
         (λ h. let r = met-empty sound s e h in let z : _≡_ {A = ℕ} 0 1 = cc in absurd (omega arith))
         (λ h i b.
-        let y = place kind m from in
+        let y = spanAt kind m from in
         let k = max (q .lo) (y .lo) in
         let w : Within (y .lo) (y .hi) k = omega (arith, reach .at i, rising sound .full from i) in
         record { instant = k; asked = omega arith; label = _; held = held-at from k i w })
         (λ h b. let r = met-no sound s e h reach b in let z : _≡_ {A = ℕ} 0 1 = cc in absurd (omega arith))
 
     -- and no where none is
-    pub unmet-means : met kind m s e ≡ Asked.No → (k : ℕ) → Within (q .lo) (q .hi) k → at (ranges kind m) k ≡ none
+    pub unmet-means : overlapsSound kind m s e ≡ Asked.No → (k : ℕ) → Within (q .lo) (q .hi) k → at (ranges kind m) k ≡ none
     unmet-means a k w = met-cases
         (λ h. absurd (omega arith))
         (λ h i b. let r = met-yes sound s e h reach i b in let z : _≡_ {A = ℕ} 0 1 = cc in absurd (omega arith))
-        (λ h b. free-at k (λ j i. missed-free q (place kind m j) k w (meets-none (rising sound) q (reach .below) (reach .at) b .before j i)))
+        (λ h b. free-at k (λ j i. missed-free q (spanAt kind m j) k w (meets-none (rising sound) q (reach .below) (reach .at) b .before j i)))
 
     module _ (h : q .lo < q .hi) where
       in-order : from ≤ to
       in-order = elim (decLt to from) [
         | yes i ↦
             let b = reach .below to i in
-            let l : q .hi ≤ place kind m to .lo = leb-true _ _ (the-first-range sound late .at (omega (arith, reach .within))) in
+            let l : q .hi ≤ spanAt kind m to .lo = leb-true _ _ (the-first-range sound late .at (omega (arith, reach .within))) in
             absurd (omega (arith, rising sound .full to (omega (arith, reach .within))))
         | no i ↦ omega arith
       ]
@@ -185,11 +185,11 @@ module _ {kind : Kind} {m : Stored} (sound : Sound kind m) where
           let f = the-first-range sound late in
           record { from = in-order; within = f .within; before = λ j i b. leb-false _ _ (f .before j i); at = λ i. leb-true _ _ (f .at i) }
 
-      exactly : Exactly (overlaps q) (place kind m) (m .count) from to
+      exactly : Exactly (spansOverlap q) (spanAt kind m) (m .count) from to
       exactly = exactly-met sound s e h reach walk
 
     -- OVERLAPPING: the places of the part that is answered meet the query, and no other place does
-    pub part-means : {p n : ℕ} → metPart kind m s e ≡ Part.Places p n → Meets kind m q p n
+    pub part-means : {p n : ℕ} → overlappingSound kind m s e ≡ Part.Places p n → Meets kind m q p n
     part-means {p} {n} a = elim (decLt (q .lo) (q .hi)) [
       | yes h ↦ elim (decLt from to) [
         | yes l ↦

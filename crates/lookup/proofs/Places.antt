@@ -9,7 +9,7 @@ use borrow.Author.Tests.{lt-ltb, le-ltb}
 use lib.Dec.{ltb}
 use lib.ListN.{length, getD}
 use Rattle.span.specs.Span.{Span, span, inside}
-use Rattle.span.specs.Operations.{overlaps, any, holds}
+use Rattle.span.specs.Operations.{spansOverlap, any, holds}
 use Rattle.span.proofs.Tests.{Within, Place, below, among, beyond, place, in-yes, in-no, cases}
 use Rattle.outcomes.specs.Outcomes.{firstPlace, howMany}
 
@@ -116,8 +116,8 @@ and-no true = refl
 and-no false = refl
 
 -- a span that holds k meets the query of k alone
-pub holds-meets : (k : ℕ) (x : Span) → holds k x ≡ overlaps (span k (suc k) 0) x
-unfolding holds overlaps
+pub holds-meets : (k : ℕ) (x : Span) → holds k x ≡ spansOverlap (span k (suc k) 0) x
+unfolding holds spansOverlap
 holds-meets k x = go (place (x .lo) (x .hi) k)
   where
     go : Place (x .lo) (x .hi) k → inside (x .lo) (x .hi) k ≡ (ltb k (x .hi) && ltb (x .lo) (suc k))
@@ -126,8 +126,8 @@ holds-meets k x = go (place (x .lo) (x .hi) k)
     go (beyond p q) = rw (in-no (x .lo) (x .hi) k (omega arith), le-ltb k (x .hi) q)
 
 -- a span that misses a query holds no instant of it
-pub missed-free : (x y : Span) (k : ℕ) → Within (x .lo) (x .hi) k → overlaps x y ≡ false → holds k y ≡ false
-unfolding overlaps holds
+pub missed-free : (x y : Span) (k : ℕ) → Within (x .lo) (x .hi) k → spansOverlap x y ≡ false → holds k y ≡ false
+unfolding spansOverlap holds
 missed-free x y k w e =
     in-no (y .lo) (y .hi) k (λ v.
     let t : (ltb (x .lo) (y .hi) && ltb (y .lo) (x .hi)) ≡ true = rw (lt-ltb (x .lo) (y .hi) (omega arith), lt-ltb (y .lo) (x .hi) (omega arith)) in
@@ -136,12 +136,12 @@ missed-free x y k w e =
 
 -- the query goes from lo up to hi; p is the first place that ends after lo
 module _ {f : ℕ → Span} {n : ℕ} (r : Rising f n) (x : Span) {p : ℕ} (below : (j : ℕ) → j < p → f j .hi ≤ x .lo) (at : p < n → x .lo < f p .hi) where
-  missed-before : (j : ℕ) → j < p → overlaps x (f j) ≡ false
-  unfolding overlaps
+  missed-before : (j : ℕ) → j < p → spansOverlap x (f j) ≡ false
+  unfolding spansOverlap
   missed-before j i = rw (le-ltb (x .lo) (f j .hi) (below j i))
 
-  met-from : (j : ℕ) → p ≤ j → j < n → f j .lo < x .hi → overlaps x (f j) ≡ true
-  unfolding overlaps
+  met-from : (j : ℕ) → p ≤ j → j < n → f j .lo < x .hi → spansOverlap x (f j) ≡ true
+  unfolding spansOverlap
   met-from j b i h =
       let reach : x .lo < f j .hi = elim (decLt p j) [
         | yes q ↦ omega (arith, at (omega arith), r .past p j q i, r .full j i)
@@ -149,8 +149,8 @@ module _ {f : ℕ → Span} {n : ℕ} (r : Rising f n) (x : Span) {p : ℕ} (bel
       ] in
       rw (lt-ltb (x .lo) (f j .hi) reach, lt-ltb (f j .lo) (x .hi) h)
 
-  missed-from : (q j : ℕ) → q ≤ j → j < n → x .hi ≤ f q .lo → overlaps x (f j) ≡ false
-  unfolding overlaps
+  missed-from : (q j : ℕ) → q ≤ j → j < n → x .hi ≤ f q .lo → spansOverlap x (f j) ≡ false
+  unfolding spansOverlap
   missed-from q j b i h =
       let late : x .hi ≤ f j .lo = elim (decLt q j) [
         | yes c ↦ omega (arith, r .past q j c i, r .full q (omega arith))
@@ -159,10 +159,10 @@ module _ {f : ℕ → Span} {n : ℕ} (r : Rising f n) (x : Span) {p : ℕ} (bel
       rw (le-ltb (f j .lo) (x .hi) late, and-no)
 
   -- the first span that meets the query is at p, or there is none
-  pub meets-at : p < n → f p .lo < x .hi → First (overlaps x) f n p
+  pub meets-at : p < n → f p .lo < x .hi → First (spansOverlap x) f n p
   meets-at i h = record { within = omega arith; before = missed-before; at = λ i. met-from p (omega arith) i h }
 
-  pub meets-none : (p < n → x .hi ≤ f p .lo) → First (overlaps x) f n n
+  pub meets-none : (p < n → x .hi ≤ f p .lo) → First (spansOverlap x) f n n
   meets-none h = record {
     within = omega arith;
     before = λ j i. elim (decLt j p) [ yes c ↦ missed-before j c | no c ↦ missed-from p j (omega arith) i (h (omega arith)) ];
@@ -170,7 +170,7 @@ module _ {f : ℕ → Span} {n : ℕ} (r : Rising f n) (x : Span) {p : ℕ} (bel
   }
 
   -- those that meet it stand from p up to the first place from there on that does not begin before its end
-  pub meets-part : {q : ℕ} → p ≤ q → q ≤ n → ((j : ℕ) → j < q → p ≤ j → f j .lo < x .hi) → (q < n → x .hi ≤ f q .lo) → Exactly (overlaps x) f n p q
+  pub meets-part : {q : ℕ} → p ≤ q → q ≤ n → ((j : ℕ) → j < q → p ≤ j → f j .lo < x .hi) → (q < n → x .hi ≤ f q .lo) → Exactly (spansOverlap x) f n p q
   meets-part {q} b w begun late = record {
     from = b;
     within = w;

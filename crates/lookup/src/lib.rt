@@ -2,6 +2,7 @@
 // The kinds differ in two places: whether an end is in its range (`reaching`, of the search), and whether a range from one key to another is
 // empty (`full`, of the keys).
 use key::RangeKind;
+use key::Value;
 use key::full;
 use outcomes::Asked;
 use outcomes::Found;
@@ -14,13 +15,13 @@ ghost use lib.ListN.{length};
 ghost use Rattle.span.specs.Operations.{holds};
 ghost use Rattle.key.specs.Rank.{rank};
 ghost use Rattle.key.specs.Range.{kindOf};
-ghost use Rattle.outcomes.specs.Stored.{stored, ranges, Sound};
-ghost use Rattle.outcomes.specs.Outcomes.{placed, firstPlace, found, contained, met, metPart};
+ghost use Rattle.outcomes.specs.Stored.{stored, ranges, Sound, atEntryWith};
+ghost use Rattle.outcomes.specs.Outcomes.{rangeAtSound, firstPlace, lookupSound, containsSound, overlapsSound, overlappingSound};
 
 // The range and the value at a place. The kind of range is no matter here.
-pub fn range_at(count: usize, starts: &[i64], ends: &[i64], values: &[u8], place: usize) -> Found
+pub fn range_at(count: usize, starts: &[i64], ends: &[i64], values: &[Value], place: usize) -> Found
     requires { ⌜ (count ≤ length (now starts)) × (count ≤ length (now ends)) × (count ≤ length (now values)) ⌝ }
-    ensures { λ r. ⌜ r ≡ placed (stored count (now (starts .entry)) (now (ends .entry)) (now (values .entry))) place ⌝ }
+    ensures { λ r. ⌜ r ≡ rangeAtSound (atEntryWith count starts ends values) place ⌝ }
 {
     if place >= count {
         return Found::Nothing;
@@ -34,11 +35,11 @@ fn place_of(
     count: usize,
     starts: &[i64],
     ends: &[i64],
-    values: &[u8],
+    values: &[Value],
     key: i64,
 ) -> usize
     requires { ⌜ Sound (kindOf kind) (stored count (now starts) (now ends) (now values)) ⌝ }
-    ensures { λ r. ⌜ r ≡ firstPlace (holds (rank key)) (ranges (kindOf kind) (stored count (now (starts .entry)) (now (ends .entry)) (now (values .entry)))) ⌝ }
+    ensures { λ r. ⌜ r ≡ firstPlace (holds (rank key)) (ranges (kindOf kind) (atEntryWith count starts ends values)) ⌝ }
 {
     let place = reaching(kind, ends, count, key);
     if count <= place {
@@ -56,11 +57,11 @@ pub fn get_key_value(
     count: usize,
     starts: &[i64],
     ends: &[i64],
-    values: &[u8],
+    values: &[Value],
     key: i64,
 ) -> Found
     requires { ⌜ Sound (kindOf kind) (stored count (now starts) (now ends) (now values)) ⌝ }
-    ensures { λ r. ⌜ r ≡ found (kindOf kind) (stored count (now (starts .entry)) (now (ends .entry)) (now (values .entry))) key ⌝ }
+    ensures { λ r. ⌜ r ≡ lookupSound (kindOf kind) (atEntryWith count starts ends values) key ⌝ }
 {
     let place = place_of(kind, count, starts, ends, values, key);
     range_at(count, starts, ends, values, place)
@@ -72,11 +73,11 @@ pub fn contains_key(
     count: usize,
     starts: &[i64],
     ends: &[i64],
-    values: &[u8],
+    values: &[Value],
     key: i64,
 ) -> Asked
     requires { ⌜ Sound (kindOf kind) (stored count (now starts) (now ends) (now values)) ⌝ }
-    ensures { λ r. ⌜ r ≡ contained (kindOf kind) (stored count (now (starts .entry)) (now (ends .entry)) (now (values .entry))) key ⌝ }
+    ensures { λ r. ⌜ r ≡ containsSound (kindOf kind) (atEntryWith count starts ends values) key ⌝ }
 {
     if place_of(kind, count, starts, ends, values, key) < count {
         return Asked::Yes;
@@ -90,15 +91,15 @@ pub fn overlaps(
     count: usize,
     starts: &[i64],
     ends: &[i64],
-    values: &[u8],
+    values: &[Value],
     start: i64,
     end: i64,
 ) -> Asked
     requires { ⌜ Sound (kindOf kind) (stored count (now starts) (now ends) (now values)) ⌝ }
-    ensures { λ r. ⌜ r ≡ met (kindOf kind) (stored count (now (starts .entry)) (now (ends .entry)) (now (values .entry))) start end ⌝ }
+    ensures { λ r. ⌜ r ≡ overlapsSound (kindOf kind) (atEntryWith count starts ends values) start end ⌝ }
 {
     if !full(kind, start, end) {
-        return Asked::Refused(outcomes::EMPTY_RANGE);
+        return Asked::Refused(answers::EMPTY_RANGE);
     }
     let place = reaching(kind, ends, count, start);
     if count <= place {
@@ -117,15 +118,15 @@ pub fn overlapping(
     count: usize,
     starts: &[i64],
     ends: &[i64],
-    values: &[u8],
+    values: &[Value],
     start: i64,
     end: i64,
 ) -> Part
     requires { ⌜ Sound (kindOf kind) (stored count (now starts) (now ends) (now values)) ⌝ }
-    ensures { λ r. ⌜ r ≡ metPart (kindOf kind) (stored count (now (starts .entry)) (now (ends .entry)) (now (values .entry))) start end ⌝ }
+    ensures { λ r. ⌜ r ≡ overlappingSound (kindOf kind) (atEntryWith count starts ends values) start end ⌝ }
 {
     if !full(kind, start, end) {
-        return Part::Refused(outcomes::EMPTY_RANGE);
+        return Part::Refused(answers::EMPTY_RANGE);
     }
     let first = reaching(kind, ends, count, start);
     let next = first_past(kind, starts, first, count, end);

@@ -1,6 +1,7 @@
 // Module 2: the half-open map, from map.rs of rangemap. The exported functions, for C and Rust, are here: each lends all the fields of
 // its map to a function of `map_abi`, which answers in numbers, or of `map_ops` where that does. Rattle callers use `map_ops`.
 use key::RangeKind;
+use key::Value;
 use outcomes::Applied;
 use outcomes::Count;
 use outcomes::Order;
@@ -8,13 +9,14 @@ use outcomes::PLACES;
 use outcomes::Range;
 use outcomes::Stretch;
 use outcomes::Told;
-ghost use mathlib.Core.Path.{_≡_};
-ghost use mathlib.Core.Option.{some, none};
+ghost use Rattle.lent.specs.Moments.{was, becomes};
 ghost use Rattle.key.specs.Range.{halfOpen};
-ghost use Rattle.outcomes.specs.Stored.{places, Sound};
-ghost use Rattle.outcomes.specs.Numbers.{toldOf, countOf, rangeOf, stretchOf, orderOf};
-ghost use Rattle.outcomes.specs.Outcomes.{Listed, cleared, containing, counting, editing, entries, equality, extended, extending, firstOf, formed, found, gapsIn, inserting, isEmpty, lastOf, leaving, lookup, meeting, ordering, overlapping, rangeAt, removing, uncovered};
+ghost use Rattle.outcomes.specs.Stored.{Sound};
 ghost use Rattle.map.specs.Map.{held};
+ghost use Rattle.map.specs.Promises.{RangeMapNew, RangeMapIsEmpty, RangeMapLen, RangeMapRangeAt, RangeMapFirstRangeValue, RangeMapLastRangeValue};
+ghost use Rattle.map.specs.Promises.{RangeMapGetKeyValue, RangeMapContainsKey, RangeMapOverlaps, RangeMapOverlapping, RangeMapGaps, RangeMapEq};
+ghost use Rattle.map.specs.Promises.{RangeMapCmp, RangeMapInsert, RangeMapRemove, RangeMapClear, RangeMapExtend, RangeMapWellFormed};
+ghost use Rattle.map.specs.Promises.{RangeMapGetKeyValueUnchecked, RangeMapGapsUnchecked, RangeMapInsertUnchecked, RangeMapRemoveUnchecked};
 
 // The kind of this map's ranges.
 const KIND: RangeKind = RangeKind::HalfOpen;
@@ -25,13 +27,13 @@ pub struct RangeMap {
     pub count: usize,
     pub starts: [i64; PLACES],
     pub ends: [i64; PLACES],
-    pub values: [u8; PLACES],
+    pub values: [Value; PLACES],
 }
 
 // A new map, which holds nothing.
 #[no_mangle]
 pub extern "C" fn range_map_new() -> RangeMap
-    ensures { λ r. ⌜ held r ≡ cleared halfOpen ⌝ }
+    ensures { λ r. ⌜ RangeMapNew r ⌝ }
 {
     RangeMap {
         count: 0,
@@ -44,7 +46,7 @@ pub extern "C" fn range_map_new() -> RangeMap
 // Whether nothing is held.
 #[no_mangle]
 pub extern "C" fn range_map_is_empty(m: &RangeMap) -> Told
-    ensures { λ r. ⌜ r ≡ toldOf (isEmpty halfOpen (held (now (m .entry)))) ⌝ }
+    ensures { λ r. ⌜ RangeMapIsEmpty (was m) r ⌝ }
 {
     map_abi::is_empty(KIND, &m.count, &m.starts, &m.ends, &m.values)
 }
@@ -52,7 +54,7 @@ pub extern "C" fn range_map_is_empty(m: &RangeMap) -> Told
 // How many ranges are held.
 #[no_mangle]
 pub extern "C" fn range_map_len(m: &RangeMap) -> Count
-    ensures { λ r. ⌜ r ≡ countOf (counting halfOpen (held (now (m .entry)))) ⌝ }
+    ensures { λ r. ⌜ RangeMapLen (was m) r ⌝ }
 {
     map_abi::len(KIND, &m.count, &m.starts, &m.ends, &m.values)
 }
@@ -60,7 +62,7 @@ pub extern "C" fn range_map_len(m: &RangeMap) -> Count
 // The range and the value at a place.
 #[no_mangle]
 pub extern "C" fn range_map_range_at(m: &RangeMap, place: usize) -> Range
-    ensures { λ r. ⌜ r ≡ rangeOf (rangeAt halfOpen (held (now (m .entry))) place) ⌝ }
+    ensures { λ r. ⌜ RangeMapRangeAt (was m) place r ⌝ }
 {
     map_abi::range_at(KIND, &m.count, &m.starts, &m.ends, &m.values, place)
 }
@@ -68,7 +70,7 @@ pub extern "C" fn range_map_range_at(m: &RangeMap, place: usize) -> Range
 // The first range and its value.
 #[no_mangle]
 pub extern "C" fn range_map_first_range_value(m: &RangeMap) -> Range
-    ensures { λ r. ⌜ r ≡ rangeOf (firstOf halfOpen (held (now (m .entry)))) ⌝ }
+    ensures { λ r. ⌜ RangeMapFirstRangeValue (was m) r ⌝ }
 {
     map_abi::first_range_value(KIND, &m.count, &m.starts, &m.ends, &m.values)
 }
@@ -76,7 +78,7 @@ pub extern "C" fn range_map_first_range_value(m: &RangeMap) -> Range
 // The last range and its value.
 #[no_mangle]
 pub extern "C" fn range_map_last_range_value(m: &RangeMap) -> Range
-    ensures { λ r. ⌜ r ≡ rangeOf (lastOf halfOpen (held (now (m .entry)))) ⌝ }
+    ensures { λ r. ⌜ RangeMapLastRangeValue (was m) r ⌝ }
 {
     map_abi::last_range_value(KIND, &m.count, &m.starts, &m.ends, &m.values)
 }
@@ -84,7 +86,7 @@ pub extern "C" fn range_map_last_range_value(m: &RangeMap) -> Range
 // The range that holds the key, and its value.
 #[no_mangle]
 pub extern "C" fn range_map_get_key_value(m: &RangeMap, key: i64) -> Range
-    ensures { λ r. ⌜ r ≡ rangeOf (lookup halfOpen (held (now (m .entry))) key) ⌝ }
+    ensures { λ r. ⌜ RangeMapGetKeyValue (was m) key r ⌝ }
 {
     map_abi::get_key_value(KIND, &m.count, &m.starts, &m.ends, &m.values, key)
 }
@@ -92,7 +94,7 @@ pub extern "C" fn range_map_get_key_value(m: &RangeMap, key: i64) -> Range
 // Whether some range holds the key.
 #[no_mangle]
 pub extern "C" fn range_map_contains_key(m: &RangeMap, key: i64) -> Told
-    ensures { λ r. ⌜ r ≡ toldOf (containing halfOpen (held (now (m .entry))) key) ⌝ }
+    ensures { λ r. ⌜ RangeMapContainsKey (was m) key r ⌝ }
 {
     map_abi::contains_key(KIND, &m.count, &m.starts, &m.ends, &m.values, key)
 }
@@ -100,7 +102,7 @@ pub extern "C" fn range_map_contains_key(m: &RangeMap, key: i64) -> Told
 // Whether some range has a key of the query.
 #[no_mangle]
 pub extern "C" fn range_map_overlaps(m: &RangeMap, start: i64, end: i64) -> Told
-    ensures { λ r. ⌜ r ≡ toldOf (meeting halfOpen (held (now (m .entry))) start end) ⌝ }
+    ensures { λ r. ⌜ RangeMapOverlaps (was m) start end r ⌝ }
 {
     map_abi::overlaps(KIND, &m.count, &m.starts, &m.ends, &m.values, start, end)
 }
@@ -108,7 +110,7 @@ pub extern "C" fn range_map_overlaps(m: &RangeMap, start: i64, end: i64) -> Told
 // Which consecutive stored part meets the query.
 #[no_mangle]
 pub extern "C" fn range_map_overlapping(m: &RangeMap, start: i64, end: i64) -> Stretch
-    ensures { λ r. ⌜ r ≡ stretchOf (overlapping halfOpen (held (now (m .entry))) start end) ⌝ }
+    ensures { λ r. ⌜ RangeMapOverlapping (was m) start end r ⌝ }
 {
     map_abi::overlapping(KIND, &m.count, &m.starts, &m.ends, &m.values, start, end)
 }
@@ -122,7 +124,7 @@ pub extern "C" fn range_map_gaps(
     out_starts: &mut [i64],
     out_ends: &mut [i64],
 ) -> Count
-    ensures { λ r. ⌜ Listed r (now («out_starts» .exit)) (now («out_ends» .exit)) (gapsIn halfOpen (held (now (m .entry))) start end (now («out_starts» .entry)) (now («out_ends» .entry))) ⌝ }
+    ensures { λ r. ⌜ RangeMapGaps (was m) start end (was «out_starts») (becomes «out_starts») (was «out_ends») (becomes «out_ends») r ⌝ }
 {
     map_abi::gaps(
         KIND,
@@ -140,7 +142,7 @@ pub extern "C" fn range_map_gaps(
 // Whether two maps hold the same ranges with the same values.
 #[no_mangle]
 pub extern "C" fn range_map_eq(a: &RangeMap, b: &RangeMap) -> Told
-    ensures { λ r. ⌜ r ≡ toldOf (equality halfOpen (held (now (a .entry))) (held (now (b .entry)))) ⌝ }
+    ensures { λ r. ⌜ RangeMapEq (was a) (was b) r ⌝ }
 {
     map_abi::eq(
         KIND,
@@ -158,7 +160,7 @@ pub extern "C" fn range_map_eq(a: &RangeMap, b: &RangeMap) -> Told
 // Which of two maps comes first: -1, 0 or 1.
 #[no_mangle]
 pub extern "C" fn range_map_cmp(a: &RangeMap, b: &RangeMap) -> Order
-    ensures { λ r. ⌜ r ≡ orderOf (ordering halfOpen (held (now (a .entry))) (held (now (b .entry)))) ⌝ }
+    ensures { λ r. ⌜ RangeMapCmp (was a) (was b) r ⌝ }
 {
     map_abi::cmp(
         KIND,
@@ -175,8 +177,8 @@ pub extern "C" fn range_map_cmp(a: &RangeMap, b: &RangeMap) -> Order
 
 // Gives the value to each instant of start..end and to no other.
 #[no_mangle]
-pub extern "C" fn range_map_insert(m: &mut RangeMap, start: i64, end: i64, value: u8) -> u8
-    ensures { λ r. ⌜ leaving r (held (now (m .exit))) ≡ inserting halfOpen (held (now (m .entry))) start end value ⌝ }
+pub extern "C" fn range_map_insert(m: &mut RangeMap, start: i64, end: i64, value: Value) -> u8
+    ensures { λ r. ⌜ RangeMapInsert (was m) (becomes m) start end value r ⌝ }
 {
     map_abi::insert(
         KIND,
@@ -193,7 +195,7 @@ pub extern "C" fn range_map_insert(m: &mut RangeMap, start: i64, end: i64, value
 // Uncovers exactly the instants of start..end.
 #[no_mangle]
 pub extern "C" fn range_map_remove(m: &mut RangeMap, start: i64, end: i64) -> u8
-    ensures { λ r. ⌜ leaving r (held (now (m .exit))) ≡ removing halfOpen (held (now (m .entry))) start end ⌝ }
+    ensures { λ r. ⌜ RangeMapRemove (was m) (becomes m) start end r ⌝ }
 {
     map_abi::remove(
         KIND,
@@ -209,7 +211,7 @@ pub extern "C" fn range_map_remove(m: &mut RangeMap, start: i64, end: i64) -> u8
 // Leaves nothing held, whatever the map was.
 #[no_mangle]
 pub extern "C" fn range_map_clear(m: &mut RangeMap)
-    ensures { λ _. ⌜ (held (now (m .exit))) ≡ cleared halfOpen ⌝ }
+    ensures { λ _. ⌜ RangeMapClear (was m) (becomes m) ⌝ }
 {
     map_ops::change::clear(&mut m.count, &mut m.starts, &mut m.ends, &mut m.values)
 }
@@ -220,9 +222,9 @@ pub extern "C" fn range_map_extend(
     m: &mut RangeMap,
     starts: &[i64],
     ends: &[i64],
-    values: &[u8],
+    values: &[Value],
 ) -> Applied
-    ensures { λ r. ⌜ extended r (held (now (m .exit))) ≡ extending halfOpen (held (now (m .entry))) (entries (now (starts .entry)) (now (ends .entry)) (now (values .entry))) ⌝ }
+    ensures { λ r. ⌜ RangeMapExtend (was m) (becomes m) (was starts) (was ends) (was values) r ⌝ }
 {
     map_ops::change::bulk::extend(
         KIND,
@@ -239,7 +241,7 @@ pub extern "C" fn range_map_extend(
 // Whether a map is well formed.
 #[no_mangle]
 pub extern "C" fn range_map_well_formed(m: &RangeMap) -> bool
-    ensures { λ r. ⌜ r ≡ formed halfOpen (held (now (m .entry))) ⌝ }
+    ensures { λ r. ⌜ RangeMapWellFormed (was m) r ⌝ }
 {
     map_abi::well_formed(KIND, &m.count, &m.starts, &m.ends, &m.values)
 }
@@ -248,7 +250,7 @@ pub extern "C" fn range_map_well_formed(m: &RangeMap) -> bool
 #[no_mangle]
 pub extern "C" fn range_map_get_key_value_unchecked(m: &RangeMap, key: i64) -> Range
     requires { ⌜ Sound halfOpen (held (now m)) ⌝ }
-    ensures { λ r. ⌜ r ≡ rangeOf (found halfOpen (held (now (m .entry))) key) ⌝ }
+    ensures { λ r. ⌜ RangeMapGetKeyValueUnchecked (was m) key r ⌝ }
 {
     map_abi::get_key_value_unchecked(KIND, &m.count, &m.starts, &m.ends, &m.values, key)
 }
@@ -263,7 +265,7 @@ pub extern "C" fn range_map_gaps_unchecked(
     out_ends: &mut [i64],
 ) -> Count
     requires { ⌜ Sound halfOpen (held (now m)) ⌝ }
-    ensures { λ r. ⌜ Listed r (now («out_starts» .exit)) (now («out_ends» .exit)) (uncovered halfOpen (held (now (m .entry))) start end (now («out_starts» .entry)) (now («out_ends» .entry))) ⌝ }
+    ensures { λ r. ⌜ RangeMapGapsUnchecked (was m) start end (was «out_starts») (becomes «out_starts») (was «out_ends») (becomes «out_ends») r ⌝ }
 {
     map_abi::gaps_unchecked(
         KIND,
@@ -284,10 +286,10 @@ pub extern "C" fn range_map_insert_unchecked(
     m: &mut RangeMap,
     start: i64,
     end: i64,
-    value: u8,
+    value: Value,
 ) -> u8
     requires { ⌜ Sound halfOpen (held (now m)) ⌝ }
-    ensures { λ r. ⌜ leaving r (held (now (m .exit))) ≡ editing halfOpen places (held (now (m .entry))) start end (some value) ⌝ }
+    ensures { λ r. ⌜ RangeMapInsertUnchecked (was m) (becomes m) start end value r ⌝ }
 {
     map_abi::insert_unchecked(
         KIND,
@@ -305,7 +307,7 @@ pub extern "C" fn range_map_insert_unchecked(
 #[no_mangle]
 pub extern "C" fn range_map_remove_unchecked(m: &mut RangeMap, start: i64, end: i64) -> u8
     requires { ⌜ Sound halfOpen (held (now m)) ⌝ }
-    ensures { λ r. ⌜ leaving r (held (now (m .exit))) ≡ editing halfOpen places (held (now (m .entry))) start end none ⌝ }
+    ensures { λ r. ⌜ RangeMapRemoveUnchecked (was m) (becomes m) start end r ⌝ }
 {
     map_abi::remove_unchecked(
         KIND,

@@ -1,6 +1,7 @@
 // The functions of a map of either kind, over its fields, with their answers as structs of numbers: what C and Rust see. The exported functions of
 // `map` and `inclusive_map` name their kind and lend all the fields of their map to these.
 use key::RangeKind;
+use key::Value;
 use outcomes::Count;
 use outcomes::Order;
 use outcomes::PLACES;
@@ -14,20 +15,21 @@ use outcomes::range_of;
 use outcomes::stretch_of;
 use outcomes::told_of;
 ghost use mathlib.Core.Path.{_≡_};
+ghost use Rattle.lent.specs.Moments.{was, becomes};
 ghost use Rattle.key.specs.Range.{kindOf};
 ghost use mathlib.Core.Option.{some, none};
-ghost use Rattle.outcomes.specs.Stored.{places, lent, Sound};
-ghost use Rattle.outcomes.specs.Numbers.{toldOf, countOf, rangeOf, stretchOf, orderOf};
-ghost use Rattle.outcomes.specs.Outcomes.{Listed, containing, counting, editing, equality, firstOf, formed, found, gapsIn, inserting, isEmpty, lastOf, leaving, lookup, meeting, ordering, overlapping, rangeAt, removing, uncovered};
+ghost use Rattle.outcomes.specs.Stored.{places, lent, Sound, atEntry, atExit};
+ghost use Rattle.outcomes.specs.Numbers.{askedInC, countedInC, foundInC, partInC, comparedInC};
+ghost use Rattle.outcomes.specs.Outcomes.{Listed, contains, countOf, editSound, equal, firstOf, formed, lookupSound, gaps, insert, isEmpty, lastOf, leaving, lookup, overlaps, order, overlapping, rangeAt, remove, gapsSound};
 
 pub fn is_empty(
     kind: RangeKind,
     count: &usize,
     starts: &[i64; PLACES],
     ends: &[i64; PLACES],
-    values: &[u8; PLACES],
+    values: &[Value; PLACES],
 ) -> Told
-    ensures { λ r. ⌜ r ≡ toldOf (isEmpty (kindOf kind) (lent (count .entry) (starts .entry) (ends .entry) (values .entry))) ⌝ }
+    ensures { λ r. ⌜ r ≡ askedInC (isEmpty (kindOf kind) (atEntry count starts ends values)) ⌝ }
 {
     told_of(map_ops::list::is_empty(kind, count, starts, ends, values))
 }
@@ -37,9 +39,9 @@ pub fn len(
     count: &usize,
     starts: &[i64; PLACES],
     ends: &[i64; PLACES],
-    values: &[u8; PLACES],
+    values: &[Value; PLACES],
 ) -> Count
-    ensures { λ r. ⌜ r ≡ countOf (counting (kindOf kind) (lent (count .entry) (starts .entry) (ends .entry) (values .entry))) ⌝ }
+    ensures { λ r. ⌜ r ≡ countedInC (countOf (kindOf kind) (atEntry count starts ends values)) ⌝ }
 {
     count_of(map_ops::list::len(kind, count, starts, ends, values))
 }
@@ -49,10 +51,10 @@ pub fn range_at(
     count: &usize,
     starts: &[i64; PLACES],
     ends: &[i64; PLACES],
-    values: &[u8; PLACES],
+    values: &[Value; PLACES],
     place: usize,
 ) -> Range
-    ensures { λ r. ⌜ r ≡ rangeOf (rangeAt (kindOf kind) (lent (count .entry) (starts .entry) (ends .entry) (values .entry)) place) ⌝ }
+    ensures { λ r. ⌜ r ≡ foundInC (rangeAt (kindOf kind) (atEntry count starts ends values) place) ⌝ }
 {
     range_of(map_ops::list::range_at(kind, count, starts, ends, values, place))
 }
@@ -62,9 +64,9 @@ pub fn first_range_value(
     count: &usize,
     starts: &[i64; PLACES],
     ends: &[i64; PLACES],
-    values: &[u8; PLACES],
+    values: &[Value; PLACES],
 ) -> Range
-    ensures { λ r. ⌜ r ≡ rangeOf (firstOf (kindOf kind) (lent (count .entry) (starts .entry) (ends .entry) (values .entry))) ⌝ }
+    ensures { λ r. ⌜ r ≡ foundInC (firstOf (kindOf kind) (atEntry count starts ends values)) ⌝ }
 {
     range_of(map_ops::list::first_range_value(kind, count, starts, ends, values))
 }
@@ -74,9 +76,9 @@ pub fn last_range_value(
     count: &usize,
     starts: &[i64; PLACES],
     ends: &[i64; PLACES],
-    values: &[u8; PLACES],
+    values: &[Value; PLACES],
 ) -> Range
-    ensures { λ r. ⌜ r ≡ rangeOf (lastOf (kindOf kind) (lent (count .entry) (starts .entry) (ends .entry) (values .entry))) ⌝ }
+    ensures { λ r. ⌜ r ≡ foundInC (lastOf (kindOf kind) (atEntry count starts ends values)) ⌝ }
 {
     range_of(map_ops::list::last_range_value(kind, count, starts, ends, values))
 }
@@ -86,10 +88,10 @@ pub fn get_key_value(
     count: &usize,
     starts: &[i64; PLACES],
     ends: &[i64; PLACES],
-    values: &[u8; PLACES],
+    values: &[Value; PLACES],
     key: i64,
 ) -> Range
-    ensures { λ r. ⌜ r ≡ rangeOf (lookup (kindOf kind) (lent (count .entry) (starts .entry) (ends .entry) (values .entry)) key) ⌝ }
+    ensures { λ r. ⌜ r ≡ foundInC (lookup (kindOf kind) (atEntry count starts ends values) key) ⌝ }
 {
     range_of(map_ops::find::get_key_value(kind, count, starts, ends, values, key))
 }
@@ -99,10 +101,10 @@ pub fn contains_key(
     count: &usize,
     starts: &[i64; PLACES],
     ends: &[i64; PLACES],
-    values: &[u8; PLACES],
+    values: &[Value; PLACES],
     key: i64,
 ) -> Told
-    ensures { λ r. ⌜ r ≡ toldOf (containing (kindOf kind) (lent (count .entry) (starts .entry) (ends .entry) (values .entry)) key) ⌝ }
+    ensures { λ r. ⌜ r ≡ askedInC (contains (kindOf kind) (atEntry count starts ends values) key) ⌝ }
 {
     told_of(map_ops::find::contains_key(kind, count, starts, ends, values, key))
 }
@@ -112,11 +114,11 @@ pub fn overlaps(
     count: &usize,
     starts: &[i64; PLACES],
     ends: &[i64; PLACES],
-    values: &[u8; PLACES],
+    values: &[Value; PLACES],
     start: i64,
     end: i64,
 ) -> Told
-    ensures { λ r. ⌜ r ≡ toldOf (meeting (kindOf kind) (lent (count .entry) (starts .entry) (ends .entry) (values .entry)) start end) ⌝ }
+    ensures { λ r. ⌜ r ≡ askedInC (overlaps (kindOf kind) (atEntry count starts ends values) start end) ⌝ }
 {
     told_of(map_ops::find::overlaps(kind, count, starts, ends, values, start, end))
 }
@@ -126,11 +128,11 @@ pub fn overlapping(
     count: &usize,
     starts: &[i64; PLACES],
     ends: &[i64; PLACES],
-    values: &[u8; PLACES],
+    values: &[Value; PLACES],
     start: i64,
     end: i64,
 ) -> Stretch
-    ensures { λ r. ⌜ r ≡ stretchOf (overlapping (kindOf kind) (lent (count .entry) (starts .entry) (ends .entry) (values .entry)) start end) ⌝ }
+    ensures { λ r. ⌜ r ≡ partInC (overlapping (kindOf kind) (atEntry count starts ends values) start end) ⌝ }
 {
     stretch_of(map_ops::find::overlapping(kind, count, starts, ends, values, start, end))
 }
@@ -140,13 +142,13 @@ pub fn gaps(
     count: &usize,
     starts: &[i64; PLACES],
     ends: &[i64; PLACES],
-    values: &[u8; PLACES],
+    values: &[Value; PLACES],
     start: i64,
     end: i64,
     out_starts: &mut [i64],
     out_ends: &mut [i64],
 ) -> Count
-    ensures { λ r. ⌜ Listed r (now («out_starts» .exit)) (now («out_ends» .exit)) (gapsIn (kindOf kind) (lent (count .entry) (starts .entry) (ends .entry) (values .entry)) start end (now («out_starts» .entry)) (now («out_ends» .entry))) ⌝ }
+    ensures { λ r. ⌜ Listed r (becomes «out_starts») (becomes «out_ends») (gaps (kindOf kind) (atEntry count starts ends values) start end (was «out_starts») (was «out_ends»)) ⌝ }
 {
     count_of(map_ops::find::gaps(
         kind,
@@ -166,13 +168,13 @@ pub fn eq(
     count: &usize,
     starts: &[i64; PLACES],
     ends: &[i64; PLACES],
-    values: &[u8; PLACES],
+    values: &[Value; PLACES],
     count2: &usize,
     starts2: &[i64; PLACES],
     ends2: &[i64; PLACES],
-    values2: &[u8; PLACES],
+    values2: &[Value; PLACES],
 ) -> Told
-    ensures { λ r. ⌜ r ≡ toldOf (equality (kindOf kind) (lent (count .entry) (starts .entry) (ends .entry) (values .entry)) (lent (count2 .entry) (starts2 .entry) (ends2 .entry) (values2 .entry))) ⌝ }
+    ensures { λ r. ⌜ r ≡ askedInC (equal (kindOf kind) (atEntry count starts ends values) (atEntry count2 starts2 ends2 values2)) ⌝ }
 {
     told_of(map_ops::list::eq(
         kind,
@@ -192,13 +194,13 @@ pub fn cmp(
     count: &usize,
     starts: &[i64; PLACES],
     ends: &[i64; PLACES],
-    values: &[u8; PLACES],
+    values: &[Value; PLACES],
     count2: &usize,
     starts2: &[i64; PLACES],
     ends2: &[i64; PLACES],
-    values2: &[u8; PLACES],
+    values2: &[Value; PLACES],
 ) -> Order
-    ensures { λ r. ⌜ r ≡ orderOf (ordering (kindOf kind) (lent (count .entry) (starts .entry) (ends .entry) (values .entry)) (lent (count2 .entry) (starts2 .entry) (ends2 .entry) (values2 .entry))) ⌝ }
+    ensures { λ r. ⌜ r ≡ comparedInC (order (kindOf kind) (atEntry count starts ends values) (atEntry count2 starts2 ends2 values2)) ⌝ }
 {
     order_of(map_ops::list::cmp(
         kind,
@@ -218,12 +220,12 @@ pub fn insert(
     count: &mut usize,
     starts: &mut [i64; PLACES],
     ends: &mut [i64; PLACES],
-    values: &mut [u8; PLACES],
+    values: &mut [Value; PLACES],
     start: i64,
     end: i64,
-    value: u8,
+    value: Value,
 ) -> u8
-    ensures { λ r. ⌜ leaving r (lent (count .exit) (starts .exit) (ends .exit) (values .exit)) ≡ inserting (kindOf kind) (lent (count .entry) (starts .entry) (ends .entry) (values .entry)) start end value ⌝ }
+    ensures { λ r. ⌜ leaving r (atExit count starts ends values) ≡ insert (kindOf kind) (atEntry count starts ends values) start end value ⌝ }
 {
     number_of(map_ops::change::insert(kind, count, starts, ends, values, start, end, value))
 }
@@ -233,11 +235,11 @@ pub fn remove(
     count: &mut usize,
     starts: &mut [i64; PLACES],
     ends: &mut [i64; PLACES],
-    values: &mut [u8; PLACES],
+    values: &mut [Value; PLACES],
     start: i64,
     end: i64,
 ) -> u8
-    ensures { λ r. ⌜ leaving r (lent (count .exit) (starts .exit) (ends .exit) (values .exit)) ≡ removing (kindOf kind) (lent (count .entry) (starts .entry) (ends .entry) (values .entry)) start end ⌝ }
+    ensures { λ r. ⌜ leaving r (atExit count starts ends values) ≡ remove (kindOf kind) (atEntry count starts ends values) start end ⌝ }
 {
     number_of(map_ops::change::remove(kind, count, starts, ends, values, start, end))
 }
@@ -247,9 +249,9 @@ pub fn well_formed(
     count: &usize,
     starts: &[i64; PLACES],
     ends: &[i64; PLACES],
-    values: &[u8; PLACES],
+    values: &[Value; PLACES],
 ) -> bool
-    ensures { λ r. ⌜ r ≡ formed (kindOf kind) (lent (count .entry) (starts .entry) (ends .entry) (values .entry)) ⌝ }
+    ensures { λ r. ⌜ r ≡ formed (kindOf kind) (atEntry count starts ends values) ⌝ }
 {
     store::check::well_formed(kind, *count, starts, ends, values)
 }
@@ -260,11 +262,11 @@ pub fn get_key_value_unchecked(
     count: &usize,
     starts: &[i64; PLACES],
     ends: &[i64; PLACES],
-    values: &[u8; PLACES],
+    values: &[Value; PLACES],
     key: i64,
 ) -> Range
     requires { ⌜ Sound (kindOf kind) (lent count starts ends values) ⌝ }
-    ensures { λ r. ⌜ r ≡ rangeOf (found (kindOf kind) (lent (count .entry) (starts .entry) (ends .entry) (values .entry)) key) ⌝ }
+    ensures { λ r. ⌜ r ≡ foundInC (lookupSound (kindOf kind) (atEntry count starts ends values) key) ⌝ }
 {
     range_of(lookup::get_key_value(kind, *count, starts, ends, values, key))
 }
@@ -274,14 +276,14 @@ pub fn gaps_unchecked(
     count: &usize,
     starts: &[i64; PLACES],
     ends: &[i64; PLACES],
-    values: &[u8; PLACES],
+    values: &[Value; PLACES],
     start: i64,
     end: i64,
     out_starts: &mut [i64],
     out_ends: &mut [i64],
 ) -> Count
     requires { ⌜ Sound (kindOf kind) (lent count starts ends values) ⌝ }
-    ensures { λ r. ⌜ Listed r (now («out_starts» .exit)) (now («out_ends» .exit)) (uncovered (kindOf kind) (lent (count .entry) (starts .entry) (ends .entry) (values .entry)) start end (now («out_starts» .entry)) (now («out_ends» .entry))) ⌝ }
+    ensures { λ r. ⌜ Listed r (becomes «out_starts») (becomes «out_ends») (gapsSound (kindOf kind) (atEntry count starts ends values) start end (was «out_starts») (was «out_ends»)) ⌝ }
 {
     count_of(gaps::gaps(
         kind,
@@ -301,13 +303,13 @@ pub fn insert_unchecked(
     count: &mut usize,
     starts: &mut [i64; PLACES],
     ends: &mut [i64; PLACES],
-    values: &mut [u8; PLACES],
+    values: &mut [Value; PLACES],
     start: i64,
     end: i64,
-    value: u8,
+    value: Value,
 ) -> u8
     requires { ⌜ Sound (kindOf kind) (lent count starts ends values) ⌝ }
-    ensures { λ r. ⌜ leaving r (lent (count .exit) (starts .exit) (ends .exit) (values .exit)) ≡ editing (kindOf kind) places (lent (count .entry) (starts .entry) (ends .entry) (values .entry)) start end (some value) ⌝ }
+    ensures { λ r. ⌜ leaving r (atExit count starts ends values) ≡ editSound (kindOf kind) places (atEntry count starts ends values) start end (some value) ⌝ }
 {
     number_of(edit::insert(kind, count, starts, ends, values, start, end, value))
 }
@@ -317,12 +319,12 @@ pub fn remove_unchecked(
     count: &mut usize,
     starts: &mut [i64; PLACES],
     ends: &mut [i64; PLACES],
-    values: &mut [u8; PLACES],
+    values: &mut [Value; PLACES],
     start: i64,
     end: i64,
 ) -> u8
     requires { ⌜ Sound (kindOf kind) (lent count starts ends values) ⌝ }
-    ensures { λ r. ⌜ leaving r (lent (count .exit) (starts .exit) (ends .exit) (values .exit)) ≡ editing (kindOf kind) places (lent (count .entry) (starts .entry) (ends .entry) (values .entry)) start end none ⌝ }
+    ensures { λ r. ⌜ leaving r (atExit count starts ends values) ≡ editSound (kindOf kind) places (atEntry count starts ends values) start end none ⌝ }
 {
     number_of(edit::remove(kind, count, starts, ends, values, start, end))
 }

@@ -1,16 +1,13 @@
 // The byte form of a `RangeMap`: the exported functions, for C and Rust. Each lends all the fields of its map to the writer or to the reader.
 use map::RangeMap;
 use outcomes::Count;
-ghost use mathlib.Core.Path.{_≡_};
-ghost use Rattle.map.specs.Map.{held};
-ghost use Rattle.outcomes.specs.Outcomes.{leaving};
-ghost use Rattle.byte_form.specs.Layout.{rm01};
-ghost use Rattle.byte_form.specs.Form.{Wrote, writing, reading};
+ghost use Rattle.lent.specs.Moments.{was, becomes};
+ghost use Rattle.map_bytes.specs.Promises.{RangeMapWrite, RangeMapRead};
 
 // Writes the form of the map into the first places of a lent output, and tells its length.
 #[no_mangle]
 pub extern "C" fn range_map_write(m: &RangeMap, out: &mut [u8]) -> Count
-    ensures { λ r. ⌜ Wrote r (now (out .exit)) (writing rm01 (held (now (m .entry))) (now (out .entry))) ⌝ }
+    ensures { λ r. ⌜ RangeMapWrite (was m) (was out) (becomes out) r ⌝ }
 {
     byte_io::write::write_number(&m.count, &m.starts, &m.ends, &m.values, out)
 }
@@ -18,7 +15,7 @@ pub extern "C" fn range_map_write(m: &RangeMap, out: &mut [u8]) -> Count
 // Reads the map whose form the bytes are. It overwrites the map, so it does not check it.
 #[no_mangle]
 pub extern "C" fn range_map_read(m: &mut RangeMap, bytes: &[u8]) -> u8
-    ensures { λ r. ⌜ leaving r (held (now (m .exit))) ≡ reading rm01 (held (now (m .entry))) (now (bytes .entry)) ⌝ }
+    ensures { λ r. ⌜ RangeMapRead (was m) (becomes m) (was bytes) r ⌝ }
 {
     byte_io::read::read(
         &mut m.count,

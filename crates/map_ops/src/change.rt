@@ -1,6 +1,7 @@
 // Edits of a map, over all its fields, for either kind: the check of the lent map, and then the unchecked door of its kind. Any map is taken.
+use answers::NOT_FORMED;
 use key::RangeKind;
-use outcomes::NOT_FORMED;
+use key::Value;
 use outcomes::Outcome;
 use outcomes::PLACES;
 use store::check::well_formed;
@@ -9,8 +10,8 @@ pub mod bulk;
 
 ghost use mathlib.Core.Path.{_≡_};
 ghost use Rattle.key.specs.Range.{Kind, kindOf};
-ghost use Rattle.outcomes.specs.Stored.{lent};
-ghost use Rattle.outcomes.specs.Outcomes.{cleared, inserting, removing};
+ghost use Rattle.outcomes.specs.Stored.{lent, atEntry, atExit};
+ghost use Rattle.outcomes.specs.Outcomes.{clear, insert, remove};
 ghost use Rattle.outcomes.specs.InnerOutcome.{Leaves};
 
 // Gives the value to each instant of the range and to no other.
@@ -19,13 +20,13 @@ pub fn insert(
     count: &mut usize,
     starts: &mut [i64; PLACES],
     ends: &mut [i64; PLACES],
-    values: &mut [u8; PLACES],
+    values: &mut [Value; PLACES],
     start: i64,
     end: i64,
-    value: u8,
+    value: Value,
 ) -> Outcome
-    ensures { λ r. ⌜ Leaves r (lent (count .exit) (starts .exit) (ends .exit) (values .exit))
-        (inserting (kindOf kind) (lent (count .entry) (starts .entry) (ends .entry) (values .entry)) start end value) ⌝ }
+    ensures { λ r. ⌜ Leaves r (atExit count starts ends values)
+        (insert (kindOf kind) (atEntry count starts ends values) start end value) ⌝ }
 {
     if !well_formed(kind, *count, starts, ends, values) {
         return Outcome::Refused(NOT_FORMED);
@@ -39,12 +40,12 @@ pub fn remove(
     count: &mut usize,
     starts: &mut [i64; PLACES],
     ends: &mut [i64; PLACES],
-    values: &mut [u8; PLACES],
+    values: &mut [Value; PLACES],
     start: i64,
     end: i64,
 ) -> Outcome
-    ensures { λ r. ⌜ Leaves r (lent (count .exit) (starts .exit) (ends .exit) (values .exit))
-        (removing (kindOf kind) (lent (count .entry) (starts .entry) (ends .entry) (values .entry)) start end) ⌝ }
+    ensures { λ r. ⌜ Leaves r (atExit count starts ends values)
+        (remove (kindOf kind) (atEntry count starts ends values) start end) ⌝ }
 {
     if !well_formed(kind, *count, starts, ends, values) {
         return Outcome::Refused(NOT_FORMED);
@@ -57,9 +58,9 @@ pub fn clear(
     count: &mut usize,
     starts: &mut [i64; PLACES],
     ends: &mut [i64; PLACES],
-    values: &mut [u8; PLACES],
+    values: &mut [Value; PLACES],
 )
-    ensures { λ _. ⌜ ((k : Kind) → lent (count .exit) (starts .exit) (ends .exit) (values .exit) ≡ cleared k) ⌝ }
+    ensures { λ _. ⌜ ((k : Kind) → atExit count starts ends values ≡ clear k) ⌝ }
 {
     *count = 0;
     splice::clear_i64(starts, 0, PLACES);

@@ -1,17 +1,19 @@
 // What a map holds at a key and over a range, over all its fields, for either kind: the check of the lent map, and then the unchecked door.
 // Any map is taken.
+use answers::NOT_FORMED;
 use key::RangeKind;
+use key::Value;
 use outcomes::Asked;
 use outcomes::Counted;
 use outcomes::Found;
-use outcomes::NOT_FORMED;
 use outcomes::PLACES;
 use outcomes::Part;
 use store::check::well_formed;
 ghost use mathlib.Core.Path.{_≡_};
+ghost use Rattle.lent.specs.Moments.{was, becomes};
 ghost use Rattle.key.specs.Range.{kindOf};
-ghost use Rattle.outcomes.specs.Stored.{lent};
-ghost use Rattle.outcomes.specs.Outcomes.{containing, gapsIn, lookup, meeting, overlapping};
+ghost use Rattle.outcomes.specs.Stored.{lent, atEntry};
+ghost use Rattle.outcomes.specs.Outcomes.{contains, gaps, lookup, overlaps, overlapping};
 ghost use Rattle.range_list.specs.InnerLists.{wrote};
 
 // The range that holds the key, and its value.
@@ -20,10 +22,10 @@ pub fn get_key_value(
     count: &usize,
     starts: &[i64; PLACES],
     ends: &[i64; PLACES],
-    values: &[u8; PLACES],
+    values: &[Value; PLACES],
     key: i64,
 ) -> Found
-    ensures { λ r. ⌜ r ≡ lookup (kindOf kind) (lent (count .entry) (starts .entry) (ends .entry) (values .entry)) key ⌝ }
+    ensures { λ r. ⌜ r ≡ lookup (kindOf kind) (atEntry count starts ends values) key ⌝ }
 {
     if !well_formed(kind, *count, starts, ends, values) {
         return Found::Refused(NOT_FORMED);
@@ -37,10 +39,10 @@ pub fn contains_key(
     count: &usize,
     starts: &[i64; PLACES],
     ends: &[i64; PLACES],
-    values: &[u8; PLACES],
+    values: &[Value; PLACES],
     key: i64,
 ) -> Asked
-    ensures { λ r. ⌜ r ≡ containing (kindOf kind) (lent (count .entry) (starts .entry) (ends .entry) (values .entry)) key ⌝ }
+    ensures { λ r. ⌜ r ≡ contains (kindOf kind) (atEntry count starts ends values) key ⌝ }
 {
     if !well_formed(kind, *count, starts, ends, values) {
         return Asked::Refused(NOT_FORMED);
@@ -54,11 +56,11 @@ pub fn overlaps(
     count: &usize,
     starts: &[i64; PLACES],
     ends: &[i64; PLACES],
-    values: &[u8; PLACES],
+    values: &[Value; PLACES],
     start: i64,
     end: i64,
 ) -> Asked
-    ensures { λ r. ⌜ r ≡ meeting (kindOf kind) (lent (count .entry) (starts .entry) (ends .entry) (values .entry)) start end ⌝ }
+    ensures { λ r. ⌜ r ≡ overlaps (kindOf kind) (atEntry count starts ends values) start end ⌝ }
 {
     if !well_formed(kind, *count, starts, ends, values) {
         return Asked::Refused(NOT_FORMED);
@@ -72,11 +74,11 @@ pub fn overlapping(
     count: &usize,
     starts: &[i64; PLACES],
     ends: &[i64; PLACES],
-    values: &[u8; PLACES],
+    values: &[Value; PLACES],
     start: i64,
     end: i64,
 ) -> Part
-    ensures { λ r. ⌜ r ≡ overlapping (kindOf kind) (lent (count .entry) (starts .entry) (ends .entry) (values .entry)) start end ⌝ }
+    ensures { λ r. ⌜ r ≡ overlapping (kindOf kind) (atEntry count starts ends values) start end ⌝ }
 {
     if !well_formed(kind, *count, starts, ends, values) {
         return Part::Refused(NOT_FORMED);
@@ -90,13 +92,13 @@ pub fn gaps(
     count: &usize,
     starts: &[i64; PLACES],
     ends: &[i64; PLACES],
-    values: &[u8; PLACES],
+    values: &[Value; PLACES],
     start: i64,
     end: i64,
     out_starts: &mut [i64],
     out_ends: &mut [i64],
 ) -> Counted
-    ensures { λ r. ⌜ wrote r (now («out_starts» .exit)) (now («out_ends» .exit)) ≡ gapsIn (kindOf kind) (lent (count .entry) (starts .entry) (ends .entry) (values .entry)) start end (now («out_starts» .entry)) (now («out_ends» .entry)) ⌝ }
+    ensures { λ r. ⌜ wrote r (becomes «out_starts») (becomes «out_ends») ≡ gaps (kindOf kind) (atEntry count starts ends values) start end (was «out_starts») (was «out_ends») ⌝ }
 {
     if !well_formed(kind, *count, starts, ends, values) {
         return Counted::Refused(NOT_FORMED);

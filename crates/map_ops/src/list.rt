@@ -1,17 +1,18 @@
 // What a map holds as a list, over all its fields, for either kind: the check of the lent map, and then the answer. Any map is taken.
+use answers::NOT_FORMED;
 use key::RangeKind;
+use key::Value;
 use outcomes::Asked;
 use outcomes::Compared;
 use outcomes::Counted;
 use outcomes::Found;
-use outcomes::NOT_FORMED;
 use outcomes::PLACES;
 use store::check::well_formed;
 ghost use mathlib.Core.Path.{_≡_};
 ghost use Prim.Native.Nat.{_-_};
 ghost use Rattle.key.specs.Range.{kindOf};
-ghost use Rattle.outcomes.specs.Stored.{lent};
-ghost use Rattle.outcomes.specs.Outcomes.{counting, equality, firstOf, isEmpty, lastOf, ordering, rangeAt};
+ghost use Rattle.outcomes.specs.Stored.{lent, atEntry};
+ghost use Rattle.outcomes.specs.Outcomes.{countOf, equal, firstOf, isEmpty, lastOf, order, rangeAt};
 
 // The last of some places, and 0 of none.
 fn last_place(count: usize) -> usize
@@ -29,9 +30,9 @@ pub fn is_empty(
     count: &usize,
     starts: &[i64; PLACES],
     ends: &[i64; PLACES],
-    values: &[u8; PLACES],
+    values: &[Value; PLACES],
 ) -> Asked
-    ensures { λ r. ⌜ r ≡ isEmpty (kindOf kind) (lent (count .entry) (starts .entry) (ends .entry) (values .entry)) ⌝ }
+    ensures { λ r. ⌜ r ≡ isEmpty (kindOf kind) (atEntry count starts ends values) ⌝ }
 {
     if !well_formed(kind, *count, starts, ends, values) {
         return Asked::Refused(NOT_FORMED);
@@ -48,9 +49,9 @@ pub fn len(
     count: &usize,
     starts: &[i64; PLACES],
     ends: &[i64; PLACES],
-    values: &[u8; PLACES],
+    values: &[Value; PLACES],
 ) -> Counted
-    ensures { λ r. ⌜ r ≡ counting (kindOf kind) (lent (count .entry) (starts .entry) (ends .entry) (values .entry)) ⌝ }
+    ensures { λ r. ⌜ r ≡ countOf (kindOf kind) (atEntry count starts ends values) ⌝ }
 {
     if !well_formed(kind, *count, starts, ends, values) {
         return Counted::Refused(NOT_FORMED);
@@ -64,10 +65,10 @@ pub fn range_at(
     count: &usize,
     starts: &[i64; PLACES],
     ends: &[i64; PLACES],
-    values: &[u8; PLACES],
+    values: &[Value; PLACES],
     place: usize,
 ) -> Found
-    ensures { λ r. ⌜ r ≡ rangeAt (kindOf kind) (lent (count .entry) (starts .entry) (ends .entry) (values .entry)) place ⌝ }
+    ensures { λ r. ⌜ r ≡ rangeAt (kindOf kind) (atEntry count starts ends values) place ⌝ }
 {
     if !well_formed(kind, *count, starts, ends, values) {
         return Found::Refused(NOT_FORMED);
@@ -81,9 +82,9 @@ pub fn first_range_value(
     count: &usize,
     starts: &[i64; PLACES],
     ends: &[i64; PLACES],
-    values: &[u8; PLACES],
+    values: &[Value; PLACES],
 ) -> Found
-    ensures { λ r. ⌜ r ≡ firstOf (kindOf kind) (lent (count .entry) (starts .entry) (ends .entry) (values .entry)) ⌝ }
+    ensures { λ r. ⌜ r ≡ firstOf (kindOf kind) (atEntry count starts ends values) ⌝ }
 {
     if !well_formed(kind, *count, starts, ends, values) {
         return Found::Refused(NOT_FORMED);
@@ -97,9 +98,9 @@ pub fn last_range_value(
     count: &usize,
     starts: &[i64; PLACES],
     ends: &[i64; PLACES],
-    values: &[u8; PLACES],
+    values: &[Value; PLACES],
 ) -> Found
-    ensures { λ r. ⌜ r ≡ lastOf (kindOf kind) (lent (count .entry) (starts .entry) (ends .entry) (values .entry)) ⌝ }
+    ensures { λ r. ⌜ r ≡ lastOf (kindOf kind) (atEntry count starts ends values) ⌝ }
 {
     if !well_formed(kind, *count, starts, ends, values) {
         return Found::Refused(NOT_FORMED);
@@ -113,13 +114,13 @@ pub fn cmp(
     count: &usize,
     starts: &[i64; PLACES],
     ends: &[i64; PLACES],
-    values: &[u8; PLACES],
+    values: &[Value; PLACES],
     count2: &usize,
     starts2: &[i64; PLACES],
     ends2: &[i64; PLACES],
-    values2: &[u8; PLACES],
+    values2: &[Value; PLACES],
 ) -> Compared
-    ensures { λ r. ⌜ r ≡ ordering (kindOf kind) (lent (count .entry) (starts .entry) (ends .entry) (values .entry)) (lent (count2 .entry) (starts2 .entry) (ends2 .entry) (values2 .entry)) ⌝ }
+    ensures { λ r. ⌜ r ≡ order (kindOf kind) (atEntry count starts ends values) (atEntry count2 starts2 ends2 values2) ⌝ }
 {
     if !well_formed(kind, *count, starts, ends, values) {
         return Compared::Refused(NOT_FORMED);
@@ -145,13 +146,13 @@ pub fn eq(
     count: &usize,
     starts: &[i64; PLACES],
     ends: &[i64; PLACES],
-    values: &[u8; PLACES],
+    values: &[Value; PLACES],
     count2: &usize,
     starts2: &[i64; PLACES],
     ends2: &[i64; PLACES],
-    values2: &[u8; PLACES],
+    values2: &[Value; PLACES],
 ) -> Asked
-    ensures { λ r. ⌜ r ≡ equality (kindOf kind) (lent (count .entry) (starts .entry) (ends .entry) (values .entry)) (lent (count2 .entry) (starts2 .entry) (ends2 .entry) (values2 .entry)) ⌝ }
+    ensures { λ r. ⌜ r ≡ equal (kindOf kind) (atEntry count starts ends values) (atEntry count2 starts2 ends2 values2) ⌝ }
 {
     outcomes::equal_of(cmp(
         kind,

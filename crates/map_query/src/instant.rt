@@ -1,31 +1,33 @@
 // One instant of a query of two maps.
+use key::Value;
 use map::RangeMap;
 use outcomes::PLACES;
 use outcomes::Told;
 use outcomes::told_of;
 ghost use mathlib.Core.Path.{_≡_};
-ghost use Rattle.outcomes.specs.Stored.{lent};
-ghost use Rattle.outcomes.specs.Numbers.{toldOf};
-ghost use Rattle.map.specs.Map.{held};
-ghost use Rattle.query.specs.Answers.{queryingAt};
+ghost use Rattle.lent.specs.Moments.{was};
+ghost use Rattle.outcomes.specs.Stored.{atEntry};
+ghost use Rattle.outcomes.specs.Numbers.{askedInC};
+ghost use Rattle.query.specs.Answers.{queryAt};
+ghost use Rattle.map_query.specs.Promises.{RangeMapQueryAt};
 
 // The answer in numbers, over the fields of both maps.
 fn in_numbers(
     count_a: &usize,
     starts_a: &[i64; PLACES],
     ends_a: &[i64; PLACES],
-    values_a: &[u8; PLACES],
+    values_a: &[Value; PLACES],
     count_b: &usize,
     starts_b: &[i64; PLACES],
     ends_b: &[i64; PLACES],
-    values_b: &[u8; PLACES],
+    values_b: &[Value; PLACES],
     start: i64,
     end: i64,
     bytes: &[u8],
     key: i64,
 ) -> Told
-    ensures { λ r. ⌜ r ≡ toldOf (queryingAt (lent («count_a» .entry) («starts_a» .entry) («ends_a» .entry) («values_a» .entry))
-        (lent («count_b» .entry) («starts_b» .entry) («ends_b» .entry) («values_b» .entry)) start end (now (bytes .entry)) key) ⌝ }
+    ensures { λ r. ⌜ r ≡ askedInC (queryAt (atEntry «count_a» «starts_a» «ends_a» «values_a»)
+        (atEntry «count_b» «starts_b» «ends_b» «values_b») start end (was bytes) key) ⌝ }
 {
     told_of(query::instant::query_at(
         count_a,
@@ -54,7 +56,7 @@ pub extern "C" fn range_map_query_at(
     bytes: &[u8],
     key: i64,
 ) -> Told
-    ensures { λ r. ⌜ r ≡ toldOf (queryingAt (held (now (a .entry))) (held (now (b .entry))) start end (now (bytes .entry)) key) ⌝ }
+    ensures { λ r. ⌜ RangeMapQueryAt (was a) (was b) start end (was bytes) key r ⌝ }
 {
     in_numbers(
         &a.count,

@@ -1,33 +1,35 @@
 // The ranges of a query of two maps.
+use key::Value;
 use map::RangeMap;
 use outcomes::Count;
 use outcomes::PLACES;
 use outcomes::count_of;
-ghost use Rattle.outcomes.specs.Stored.{lent};
+ghost use Rattle.lent.specs.Moments.{was, becomes};
+ghost use Rattle.outcomes.specs.Stored.{atEntry};
 ghost use Rattle.outcomes.specs.Outcomes.{Listed};
-ghost use Rattle.map.specs.Map.{held};
-ghost use Rattle.query.specs.Answers.{querying};
+ghost use Rattle.query.specs.Answers.{queryRanges};
+ghost use Rattle.map_query.specs.Promises.{RangeMapQuery};
 
 // The answer in numbers, over the fields of both maps.
 fn in_numbers(
     count_a: &usize,
     starts_a: &[i64; PLACES],
     ends_a: &[i64; PLACES],
-    values_a: &[u8; PLACES],
+    values_a: &[Value; PLACES],
     count_b: &usize,
     starts_b: &[i64; PLACES],
     ends_b: &[i64; PLACES],
-    values_b: &[u8; PLACES],
+    values_b: &[Value; PLACES],
     start: i64,
     end: i64,
     bytes: &[u8],
     out_starts: &mut [i64],
     out_ends: &mut [i64],
 ) -> Count
-    ensures { λ r. ⌜ Listed r (now («out_starts» .exit)) (now («out_ends» .exit))
-        (querying (lent («count_a» .entry) («starts_a» .entry) («ends_a» .entry) («values_a» .entry))
-        (lent («count_b» .entry) («starts_b» .entry) («ends_b» .entry) («values_b» .entry)) start end (now (bytes .entry))
-        (now («out_starts» .entry)) (now («out_ends» .entry))) ⌝ }
+    ensures { λ r. ⌜ Listed r (becomes «out_starts») (becomes «out_ends»)
+        (queryRanges (atEntry «count_a» «starts_a» «ends_a» «values_a»)
+        (atEntry «count_b» «starts_b» «ends_b» «values_b») start end (was bytes)
+        (was «out_starts») (was «out_ends»)) ⌝ }
 {
     count_of(query::ranges::query(
         count_a,
@@ -58,9 +60,7 @@ pub extern "C" fn range_map_query(
     out_starts: &mut [i64],
     out_ends: &mut [i64],
 ) -> Count
-    ensures { λ r. ⌜ Listed r (now («out_starts» .exit)) (now («out_ends» .exit))
-        (querying (held (now (a .entry))) (held (now (b .entry))) start end (now (bytes .entry))
-        (now («out_starts» .entry)) (now («out_ends» .entry))) ⌝ }
+    ensures { λ r. ⌜ RangeMapQuery (was a) (was b) start end (was bytes) (was «out_starts») (becomes «out_starts») (was «out_ends») (becomes «out_ends») r ⌝ }
 {
     in_numbers(
         &a.count,

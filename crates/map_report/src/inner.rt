@@ -1,12 +1,11 @@
 // The unchecked door of a day's report.
 use map::RangeMap;
 use report::DayReport;
-ghost use mathlib.Core.Path.{_≡_};
+ghost use Rattle.lent.specs.Moments.{was};
 ghost use Rattle.map.specs.Map.{held};
 ghost use Rattle.key.specs.Range.{halfOpen};
 ghost use Rattle.outcomes.specs.Stored.{Sound};
-ghost use Rattle.log_day.specs.Days.{dayOf};
-ghost use Rattle.report.specs.Report.{inDay, reportOf};
+ghost use Rattle.map_report.specs.Promises.{RangeMapDayReportUnchecked};
 
 // The report of a date's day in a zone, of a map that must be well formed.
 #[no_mangle]
@@ -18,7 +17,7 @@ pub extern "C" fn range_map_day_report_unchecked(
     day: u8,
 ) -> DayReport
     requires { ⌜ Sound halfOpen (held (now m)) ⌝ }
-    ensures { λ r. ⌜ r ≡ reportOf (inDay (held (now (m .entry))) (dayOf zone year month day)) ⌝ }
+    ensures { λ r. ⌜ RangeMapDayReportUnchecked (was m) zone year month day r ⌝ }
 {
     report::day_report_unchecked(
         &m.count,

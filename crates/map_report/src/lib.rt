@@ -1,9 +1,8 @@
 // A day's report of a map, for C and Rust. Each exported function has a file of its own, so that each line of code stands once in its file and a wrong one can be tried.
 use map::RangeMap;
 use report::DayReport;
-ghost use mathlib.Core.Path.{_≡_};
-ghost use Rattle.map.specs.Map.{held};
-ghost use Rattle.report.specs.Report.{reporting, reportOf};
+ghost use Rattle.lent.specs.Moments.{was};
+ghost use Rattle.map_report.specs.Promises.{RangeMapDayReport};
 
 pub mod inner;
 
@@ -16,7 +15,7 @@ pub extern "C" fn range_map_day_report(
     month: u8,
     day: u8,
 ) -> DayReport
-    ensures { λ r. ⌜ r ≡ reportOf (reporting (held (now (m .entry))) zone year month day) ⌝ }
+    ensures { λ r. ⌜ RangeMapDayReport (was m) zone year month day r ⌝ }
 {
     report::day_report(
         &m.count,

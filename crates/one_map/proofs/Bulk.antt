@@ -12,7 +12,7 @@ use lib.IntN.{pos}
 use Rattle.key.specs.Range.{Kind}
 use Rattle.key.proofs.Lawful.{Lawful}
 use Rattle.outcomes.specs.Stored.{places, Stored}
-use Rattle.outcomes.specs.Outcomes.{Entry, Edited, Extended, extended, editing, inserts, edited, inserting, extending}
+use Rattle.outcomes.specs.Outcomes.{Entry, Edited, Extended, extended, editSound, bulkInsertSound, edit, insert, bulkInsert}
 use Rattle.one_map.specs.Events.{Proper, bulkInsert}
 use Rattle.one_map.proofs.Known.{proper-formed}
 use Rattle.one_map.proofs.Histories.{event-proper}
@@ -24,7 +24,7 @@ entryAt xs i = getD xs i (record { start = pos 0; end = pos 0; value = 0 })
 module _ (kind : Kind) where
   -- what an unchecked insert of an entry answers
   abbrev alone : Stored → Entry → Edited
-  alone m x = editing kind places m (x .start) (x .end) (some (x .value))
+  alone m x = editSound kind places m (x .start) (x .end) (some (x .value))
 
   -- n entries were applied before, and then so many of the list: all of it, or as many as stand before the first that is refused
   record Stops (n : ℕ) (xs : List Entry) (r : Extended) : Type 0 where
@@ -34,13 +34,13 @@ module _ (kind : Kind) where
     part : (r .told .answer ≡ 0 → ⊥) → taken < length xs
     number : (r .told .answer ≡ 0 → ⊥) → alone (r .left) (entryAt xs taken) .answer ≡ r .told .answer
 
-  stops : (m : Stored) (n : ℕ) (xs : List Entry) → Stops n xs (inserts kind m n xs)
-  unfolding inserts
+  stops : (m : Stored) (n : ℕ) (xs : List Entry) → Stops n xs (bulkInsertSound kind m n xs)
+  unfolding bulkInsertSound
   stops m n [] = record { taken = 0; applied-is = omega arith; whole = λ z. refl; part = λ f. absurd (f refl); number = λ f. absurd (f refl) }
   stops m n (x ∷ xs) = go (eqb (alone m x .answer) 0) refl (stops (alone m x .left) (suc n) xs)
     where
-      go : (t : Bool) → eqb (alone m x .answer) 0 ≡ t → Stops (suc n) xs (inserts kind (alone m x .left) (suc n) xs)
-          → Stops n (x ∷ xs) (cond t (inserts kind (alone m x .left) (suc n) xs) (extended (record { answer = alone m x .answer; applied = n }) m))
+      go : (t : Bool) → eqb (alone m x .answer) 0 ≡ t → Stops (suc n) xs (bulkInsertSound kind (alone m x .left) (suc n) xs)
+          → Stops n (x ∷ xs) (cond t (bulkInsertSound kind (alone m x .left) (suc n) xs) (extended (record { answer = alone m x .answer; applied = n }) m))
       go true e r = record {
         taken = suc (r .taken);
         applied-is = omega (arith, r .applied-is);
@@ -58,10 +58,10 @@ module _ (kind : Kind) where
 
 module _ {kind : Kind} (law : Lawful kind) {m : Stored} (p : Proper kind m) (xs : List Entry) where
   abbrev told : Extended
-  told = extending kind m xs
+  told = bulkInsert kind m xs
 
   stop : Stops kind 0 xs told
-  unfolding extending
+  unfolding bulkInsert
   stop = rw (proper-formed p) (stops kind m 0 xs)
 
   -- a list that is accepted is applied as a whole
@@ -74,8 +74,8 @@ module _ {kind : Kind} (law : Lawful kind) {m : Stored} (p : Proper kind m) (xs 
 
   -- at the first entry whose insert into the map that is left is refused, and with the number of that insert
   pub bulk-number : (told .told .answer ≡ 0 → ⊥)
-      → let x = entryAt xs (told .told .applied) in inserting kind (told .left) (x .start) (x .end) (x .value) .answer ≡ told .told .answer
-  unfolding edited
+      → let x = entryAt xs (told .told .applied) in insert kind (told .left) (x .start) (x .end) (x .value) .answer ≡ told .told .answer
+  unfolding edit
   bulk-number f =
       let at : told .told .applied ≡ stop .taken = omega (arith, stop .applied-is) in
       rw (proper-formed (event-proper law (bulkInsert xs) p), at) (stop .number f)

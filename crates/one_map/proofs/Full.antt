@@ -8,15 +8,16 @@ use borrow.Author.Tests.{lt-ltb, lt-leb}
 use lib.ListN.{length, getD, take, drop, length-append}
 use lib.Seq.{split-at}
 use lib.IntN.{ℤ, pos}
+use Rattle.answers.specs.Answers.{done, tooMany}
 use Rattle.span.specs.Span.{Span, span, Ordered, Upto, Tidy, inside, keep, before, after, joins, tidy, push, joined, given}
 use Rattle.span.proofs.Holding.{ordered-from, ordered-right}
 use Rattle.span.proofs.Pieces.{upto-front, middle, middle-cut}
 use Rattle.span.proofs.Local.{EndsBefore, given-local}
 use Rattle.span.proofs.Cases.{comb}
-use Rattle.key.specs.Rank.{place, bitRank, rank, keyAt}
+use Rattle.key.specs.Rank.{aboveLeast, bitRank, rank, keyAt}
 use Rattle.key.specs.Range.{Kind, halfOpen, inclusive}
 use Rattle.outcomes.specs.Stored.{places, Stored, spans, ranges, filled, storing, zeros, noughts, unused, wellFormed}
-use Rattle.outcomes.specs.Outcomes.{leaving, editing, edited, inserting, removing}
+use Rattle.outcomes.specs.Outcomes.{leaving, editSound, edit, insert, remove}
 use Rattle.outcomes.proofs.Formed.{shape, good, length-ranges, getD-ranges}
 use Rattle.one_map.specs.Events.{Proper}
 use Rattle.one_map.proofs.Known.{proper-formed, proper-tidy}
@@ -35,31 +36,31 @@ unfolding inside keep before after joins tidy push joined given comb
 lists = tt
 
 unfoldable all : Unit {0}
-unfolding lists place bitRank keyAt spans ranges filled storing zeros noughts unused wellFormed editing edited
+unfolding lists aboveLeast bitRank keyAt spans ranges filled storing zeros noughts unused wellFormed editSound edit
 all = tt
 
 -- insert 1..2 of that value joins its neighbours: 0..3, 4..5, and so on, 511 ranges
-pub full-joined : inserting halfOpen (full halfOpen) (pos 1) (pos 2) 1 ≡ leaving 0 (fewer halfOpen)
+pub full-joined : insert halfOpen (full halfOpen) (pos 1) (pos 2) 1 ≡ leaving done (fewer halfOpen)
 unfolding all
 full-joined = refl
 
 -- the same of the inclusive kind: 1..=1
-pub inclusive-full-joined : inserting inclusive (full inclusive) (pos 1) (pos 1) 1 ≡ leaving 0 (fewer inclusive)
+pub inclusive-full-joined : insert inclusive (full inclusive) (pos 1) (pos 1) 1 ≡ leaving done (fewer inclusive)
 unfolding all
 inclusive-full-joined = refl
 
 -- insert 2000..2001 is 2, and the map is as it was
-pub full-refused : inserting halfOpen (full halfOpen) (pos 2000) (pos 2001) 1 ≡ leaving 2 (full halfOpen)
+pub full-refused : insert halfOpen (full halfOpen) (pos 2000) (pos 2001) 1 ≡ leaving tooMany (full halfOpen)
 unfolding all
 full-refused = refl
 
 -- 2000..=2000
-pub inclusive-full-refused : inserting inclusive (full inclusive) (pos 2000) (pos 2000) 1 ≡ leaving 2 (full inclusive)
+pub inclusive-full-refused : insert inclusive (full inclusive) (pos 2000) (pos 2000) 1 ≡ leaving tooMany (full inclusive)
 unfolding all
 inclusive-full-refused = refl
 
 -- an insert that covers all of them is taken, and leaves itself
-pub full-covered : inserting halfOpen (full halfOpen) (pos 0) (pos 2000) 3 ≡ leaving 0 (storing halfOpen places (span (rank (pos 0)) (rank (pos 2000)) 3 ∷ []))
+pub full-covered : insert halfOpen (full halfOpen) (pos 0) (pos 2000) 3 ≡ leaving done (storing halfOpen places (span (rank (pos 0)) (rank (pos 2000)) 3 ∷ []))
 unfolding all
 full-covered = refl
 
@@ -72,12 +73,12 @@ abbrev wide : Kind → Stored
 wide kind = storing kind places (blocks places (rank (pos 0)))
 
 -- 512 ranges at 0..3, 4..7, and so on: remove 1..2 would leave 513, and is 2
-pub cut-refused : removing halfOpen (wide halfOpen) (pos 1) (pos 2) ≡ leaving 2 (wide halfOpen)
+pub cut-refused : remove halfOpen (wide halfOpen) (pos 1) (pos 2) ≡ leaving tooMany (wide halfOpen)
 unfolding all blocks
 cut-refused = refl
 
 -- 1..=1 from 0..=2, 4..=6, and so on
-pub inclusive-cut-refused : removing inclusive (wide inclusive) (pos 1) (pos 1) ≡ leaving 2 (wide inclusive)
+pub inclusive-cut-refused : remove inclusive (wide inclusive) (pos 1) (pos 1) ≡ leaving tooMany (wide inclusive)
 unfolding all blocks
 inclusive-cut-refused = refl
 
@@ -104,8 +105,8 @@ cut-more lo hi ls x rs t h i j =
 
 -- REMOVE INSIDE ONE OF 512 RANGES is 2, whatever the map: the range at the place p reaches further on both sides
 pub cut-full : {kind : Kind} {m : Stored} → Proper kind m → m .count ≡ places → (s e : ℤ) (p : ℕ) → p < m .count → rank (getD (m .starts) p (pos 0)) < rank s
-    → rank s < kind .past e → kind .past e < kind .past (getD (m .ends) p (pos 0)) → removing kind m s e ≡ leaving 2 m
-unfolding edited editing
+    → rank s < kind .past e → kind .past e < kind .past (getD (m .ends) p (pos 0)) → remove kind m s e ≡ leaving tooMany m
+unfolding edit editSound
 cut-full {kind} {m} pr full s e p b h i j =
     let held = good (pr .sound) .held in
     let many = length-ranges kind (length (m .starts)) m (shape (pr .sound)) held in

@@ -12,6 +12,7 @@ use lib.ListN.{length, getD, take}
 use lib.IntN.{ℤ, pos}
 use mir.Syntax.{w64}
 use mir.Val.{SFits}
+use Rattle.answers.specs.Answers.{noneThere}
 use Rattle.span.specs.Span.{Span, span, inside, at, Tidy}
 use Rattle.span.specs.Operations.{holds}
 use Rattle.span.proofs.Holding.{at-upto}
@@ -22,7 +23,7 @@ use Rattle.key.proofs.Laws.{key-fits, rank-key}
 use Rattle.key.proofs.Lawful.{Lawful}
 use Rattle.outcomes.specs.Stored.{places, Stored, spans, ranges, storing, wellFormed}
 use Rattle.outcomes.specs.Numbers as Numbers
-use Rattle.outcomes.specs.Outcomes.{firstPlace, placed, found, lookup}
+use Rattle.outcomes.specs.Outcomes.{firstPlace, rangeAtSound, lookupSound, lookup}
 use Rattle.outcomes.specs.declared.Found.{Found}
 use Rattle.outcomes.specs.declared.Found.the-variants as Found
 use Rattle.outcomes.proofs.Formed.{formed, shape, good, length-ranges, getD-ranges}
@@ -60,7 +61,7 @@ module _ {kind : Kind} {m : Stored} (p : Proper kind m) where
   proper-tidy = good (p .sound) .tidy
 
   -- so its lookup is never refused with 4
-  pub lookup-found : (k : ℤ) → lookup kind m k ≡ found kind m k
+  pub lookup-found : (k : ℤ) → lookup kind m k ≡ lookupSound kind m k
   unfolding lookup
   lookup-found k = rw proper-formed
 
@@ -68,8 +69,8 @@ module _ {kind : Kind} {m : Stored} (p : Proper kind m) where
   many = length-ranges kind (length (m .starts)) m (shape (p .sound)) (good (p .sound) .held)
 
   -- the value at a place is that of the range there
-  value-placed : (i : ℕ) → valueOf (placed m i) ≡ labelAt (ranges kind m) i
-  unfolding placed
+  value-placed : (i : ℕ) → valueOf (rangeAtSound m i) ≡ labelAt (ranges kind m) i
+  unfolding rangeAtSound
   value-placed i = rw many (elim (decLt i (m .count)) [
     | yes q ↦
         let is = getD-ranges kind (length (m .starts)) m (shape (p .sound)) (good (p .sound) .held) i (span 0 0 0) q in
@@ -79,21 +80,21 @@ module _ {kind : Kind} {m : Stored} (p : Proper kind m) where
 
   -- what lookup tells of a key is what the ranges hold there
   pub value-at : (k : ℤ) → valueAt kind m k ≡ at (ranges kind m) (rank k)
-  unfolding found
+  unfolding lookupSound
   value-at k = ap valueOf (lookup-found k) ∙ value-placed (firstPlace (holds (rank k)) (ranges kind m)) ∙ sym (first-at (rank k) (ranges kind m))
 
-  placed-none : (i : ℕ) → valueOf (placed m i) ≡ none → placed m i ≡ Found.Refused 5
-  unfolding placed
+  placed-none : (i : ℕ) → valueOf (rangeAtSound m i) ≡ none → rangeAtSound m i ≡ Found.Refused noneThere
+  unfolding rangeAtSound
   placed-none i = go (ltb i (m .count))
     where
-      go : (t : Bool) → valueOf (cond t (Found.Range (getD (m .starts) i (pos 0)) (getD (m .ends) i (pos 0)) (getD (m .values) i 0)) (Found.Refused 5)) ≡ none
-          → cond t (Found.Range (getD (m .starts) i (pos 0)) (getD (m .ends) i (pos 0)) (getD (m .values) i 0)) (Found.Refused 5) ≡ Found.Refused 5
+      go : (t : Bool) → valueOf (cond t (Found.Range (getD (m .starts) i (pos 0)) (getD (m .ends) i (pos 0)) (getD (m .values) i 0)) (Found.Refused noneThere)) ≡ none
+          → cond t (Found.Range (getD (m .starts) i (pos 0)) (getD (m .ends) i (pos 0)) (getD (m .values) i 0)) (Found.Refused noneThere) ≡ Found.Refused noneThere
       go true e = absurd (never (sym e))
       go false e = refl
 
   -- where nothing is held, the lookup answers 5
-  pub none-found : (k : ℤ) → valueAt kind m k ≡ none → lookup kind m k ≡ Found.Refused 5
-  unfolding found
+  pub none-found : (k : ℤ) → valueAt kind m k ≡ none → lookup kind m k ≡ Found.Refused noneThere
+  unfolding lookupSound
   none-found k e = lookup-found k ∙ placed-none (firstPlace (holds (rank k)) (ranges kind m)) (ap valueOf (sym (lookup-found k)) ∙ e)
 
 module _ {kind : Kind} (law : Lawful kind) where

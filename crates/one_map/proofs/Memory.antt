@@ -5,14 +5,15 @@ use mathlib.Core.Path.{_≡_, sym, subst, _∙_}
 use mathlib.Core.List.{List, [], _∷_, map}
 use lib.ListN.{getD, take}
 use lib.IntN.{ℤ}
+use Rattle.answers.specs.Answers.{done}
 use Rattle.span.specs.Span.{Span, at}
 use Rattle.key.specs.Range.{Kind, halfOpen}
 use Rattle.key.proofs.Lawful.{Lawful, half-open}
 use Rattle.outcomes.specs.Stored.{Stored}
-use Rattle.outcomes.specs.Outcomes.{Entry, entries, leaving, cleared, inserting, removing, extending}
+use Rattle.outcomes.specs.Outcomes.{Entry, entries, leaving, clear, insert, remove, bulkInsert}
 use Rattle.outcomes.proofs.Edits.{ranges-cleared}
 use Rattle.byte_form.specs.Layout.{rm01}
-use Rattle.byte_form.specs.Form.{entriesOf, formOf, reading, InMemory}
+use Rattle.byte_form.specs.Form.{entriesOf, formOf, read, InMemory}
 use Rattle.byte_form.proofs.Lawful.{rm01-lawful}
 use Rattle.byte_form.proofs.Forms.{write-read, read-write}
 use Rattle.one_map.specs.Events.{Proper, Event, insert, remove, bulkInsert, clear, readBytes, afterEvents, entryChange, effect}
@@ -45,11 +46,11 @@ unfolding entriesOf
 memory-u8 {m} i = map-u8 (m .count) (m .starts) (m .ends) (m .values) (i .values-fit)
 
 event-u8 : {kind : Kind} (x : Event kind) (m : Stored) → ValuesU8 x → AllGive IsU8 (effect x m .made)
-event-u8 {kind} (insert s e v) m u = accepted-gives IsU8 (inserting kind m s e v) _ (λ z. (u, tt))
-event-u8 {kind} (remove s e) m u = accepted-gives IsU8 (removing kind m s e) _ (λ z. (tt, tt))
-event-u8 {kind} (bulkInsert xs) m u = entries-u8 (extending kind m xs .told .applied) xs u
+event-u8 {kind} (insert s e v) m u = accepted-gives IsU8 (insert kind m s e v) _ (λ z. (u, tt))
+event-u8 {kind} (remove s e) m u = accepted-gives IsU8 (remove kind m s e) _ (λ z. (tt, tt))
+event-u8 {kind} (bulkInsert xs) m u = entries-u8 (bulkInsert kind m xs .told .applied) xs u
 event-u8 clear m u = tt
-event-u8 (readBytes is bs fit) m u = accepted-gives IsU8 (reading rm01 m bs) _ (λ z. memory-u8 (read-write rm01-lawful m bs fit (read-done m bs z) .memory))
+event-u8 (readBytes is bs fit) m u = accepted-gives IsU8 (read rm01 m bs) _ (λ z. memory-u8 (read-write rm01-lawful m bs fit (read-done m bs z) .memory))
 
 module _ {kind : Kind} (law : Lawful kind) where
   events-u8 : (xs : List (Event kind)) {m : Stored} → Proper kind m → AllU8 xs → Holds IsU8 kind m → Holds IsU8 kind (afterEvents xs m)
@@ -57,7 +58,7 @@ module _ {kind : Kind} (law : Lawful kind) where
   events-u8 [] p u h = h
   events-u8 (x ∷ xs) {m} p u h = events-u8 xs (event-proper law x p) (u .1) (event-values IsU8 law x p (event-u8 x m (u .0)) h)
 
-  new-u8 : Holds IsU8 kind (cleared kind)
+  new-u8 : Holds IsU8 kind (clear kind)
   unfolding at
   new-u8 k = subst (λ (xs : List Span). Gives IsU8 (at xs k)) (sym (ranges-cleared kind law)) tt
 
@@ -73,10 +74,10 @@ module _ {kind : Kind} (law : Lawful kind) where
   }
 
   -- any events from a new map leave a map as memory holds it
-  pub history-memory : (xs : List (Event kind)) → AllU8 xs → InMemory (afterEvents xs (cleared kind))
+  pub history-memory : (xs : List (Event kind)) → AllU8 xs → InMemory (afterEvents xs (clear kind))
   history-memory xs u = proper-memory (events-proper law xs (clear-proper law)) (events-u8 xs (clear-proper law) u new-u8)
 
 -- WRITTEN AND READ BACK: what any events leave of a half-open map is read from its written form, whatever map is overwritten
 pub history-read-back : (xs : List (Event halfOpen)) → AllU8 xs → (old : Stored)
-    → reading rm01 old (formOf rm01 (afterEvents xs (cleared halfOpen))) ≡ leaving 0 (afterEvents xs (cleared halfOpen))
+    → read rm01 old (formOf rm01 (afterEvents xs (clear halfOpen))) ≡ leaving done (afterEvents xs (clear halfOpen))
 history-read-back xs u old = write-read rm01-lawful old (history-memory half-open xs u) (proper-formed (events-proper half-open xs (clear-proper half-open)))

@@ -8,7 +8,7 @@ use mathlib.Core.Option.{Option, some, none}
 use borrow.Author.Tests.{lt-leb}
 use lib.IntN.{ℤ}
 use Rattle.span.specs.Span.{Span, inside, at, Ordered, Upto, Tidy, Means}
-use Rattle.span.specs.Operations.{Plain, gaps, unless, common, united, any, holds, links, count}
+use Rattle.span.specs.Operations.{Plain, uncovered, unless, common, united, any, holds, links, count}
 use Rattle.span.proofs.Laws.{the-only-one}
 use Rattle.span.proofs.Sets.{gaps-means, gaps-plain, common-means, common-plain}
 use Rattle.span.proofs.Union.{the-only-links, at-plain, ordered-united, plain-united}
@@ -18,8 +18,8 @@ use Rattle.key.specs.Range.{Kind}
 use Rattle.key.proofs.Laws.{rank-key}
 use Rattle.key.proofs.Lawful.{Lawful}
 use Rattle.outcomes.specs.Stored.{Stored, ranges}
-use Rattle.outcomes.specs.Outcomes.{writing, uncovered, gapsIn}
-use Rattle.outcomes.specs.Sets.{plain, SoundSet, totalIs, intersected, joining, totalled, intersecting, uniting, totalling}
+use Rattle.outcomes.specs.Outcomes.{intoLists, gapsSound, gaps}
+use Rattle.outcomes.specs.Sets.{plain, SoundSet, totalIs, intersectionSound, unionSound, totalSound, intersection, union, totalOf}
 use Rattle.outcomes.proofs.Storing.{upto-ranges}
 use Rattle.outcomes.proofs.Sets.{covers, plain-ranges, intersection-points, union-points, union-neighbours}
 use Rattle.one_map.specs.Events.{Proper, valueAt}
@@ -56,7 +56,7 @@ point-is false false e = refl
 -- GAPS of a proper map
 module _ {kind : Kind} {m : Stored} (p : Proper kind m) (s e : ℤ) (real : rank s < kind .past e) where
   abbrev free : List Span
-  free = gaps (rank s) (kind .past e) (ranges kind m)
+  free = uncovered (rank s) (kind .past e) (ranges kind m)
 
   free-means : Means free (λ k. unless (at (ranges kind m) k) (cond (inside (rank s) (kind .past e) k) (some 0) none))
   free-means = gaps-means (rank s) (kind .past e) 0 (ranges kind m) real (proper-tidy p .ordered)
@@ -73,8 +73,8 @@ module _ {kind : Kind} {m : Stored} (p : Proper kind m) (s e : ℤ) (real : rank
 
   -- THE ONLY LIST OF GAPS: a tidy list of just these instants is the one that is written
   pub one-gaps : (xs : List Span) → Tidy 0 xs → Plain xs → ((k : ℕ) → covers xs k ≡ (inside (rank s) (kind .past e) k && not (covers (ranges kind m) k)))
-      → (starts ends : List ℤ) → gapsIn kind m s e starts ends ≡ writing kind xs starts ends
-  unfolding gapsIn uncovered
+      → (starts ends : List ℤ) → gaps kind m s e starts ends ≡ intoLists kind xs starts ends
+  unfolding gaps gapsSound
   one-gaps xs t l points starts ends =
       let is : free ≡ xs = one-set free xs (free-means .tidy) t free-plain l (λ k. gaps-points k ∙ sym (points k)) in
       rw (proper-formed p, lt-leb (kind .past e) (rank s) real, is)
@@ -89,8 +89,8 @@ module _ {kind : Kind} {a b : Stored} (p : Proper kind a) (q : Proper kind b) (y
 
   -- THE ONLY INTERSECTION: a tidy list of the common points is the one that is written
   pub one-intersection : (xs : List Span) → Tidy 0 xs → Plain xs → ((k : ℕ) → covers xs k ≡ (covers (ranges kind a) k && covers (ranges kind b) k))
-      → (starts ends : List ℤ) → intersecting kind a b starts ends ≡ writing kind xs starts ends
-  unfolding intersecting intersected
+      → (starts ends : List ℤ) → intersection kind a b starts ends ≡ intoLists kind xs starts ends
+  unfolding intersection intersectionSound
   one-intersection xs t l points starts ends =
       let x = ranges kind a in
       let y′ = ranges kind b in
@@ -102,8 +102,8 @@ module _ {kind : Kind} {a b : Stored} (p : Proper kind a) (q : Proper kind b) (y
   -- THE ONLY UNION: an ascending list of the points of either, with two neighbours in one range just where one range of either set has both, is what is written
   pub one-union : (xs : List Span) → Ordered 0 xs → Plain xs → ((k : ℕ) → covers xs k ≡ (covers (ranges kind a) k || covers (ranges kind b) k))
       → ((k : ℕ) → any (links k) xs ≡ (any (links k) (ranges kind a) || any (links k) (ranges kind b)))
-      → (starts ends : List ℤ) → uniting kind a b starts ends ≡ writing kind xs starts ends
-  unfolding uniting joining
+      → (starts ends : List ℤ) → union kind a b starts ends ≡ intoLists kind xs starts ends
+  unfolding union unionSound
   one-union xs o l points pairs starts ends =
       let u = ordered-united 0 (ranges kind a) (ranges kind b) (proper-tidy p .ordered) (proper-tidy q .ordered) in
       let v = plain-united (ranges kind a) (ranges kind b) (plain-ranges kind a y) (plain-ranges kind b z) in
@@ -119,8 +119,8 @@ same-count f g (suc n) e = rw (same-count f g n (λ k h. e k (omega arith)), e n
 
 -- TOTAL: at how many keys the set's lookup finds a range
 pub total-keys : {kind : Kind} → Lawful kind → {m : Stored} → Proper kind m → plain m ≡ true
-    → totalling kind m ≡ totalIs (count (λ r. valueAt kind m (keyAt r)) keys)
-unfolding totalling totalled
+    → totalOf kind m ≡ totalIs (count (λ r. valueAt kind m (keyAt r)) keys)
+unfolding totalOf totalSound
 total-keys {kind} law {m} p z =
     let xs = ranges kind m in
     let told : ℕ → Option ℕ = λ r. valueAt kind m (keyAt r) in

@@ -11,17 +11,18 @@ use lib.Dec.{eqb, ltb, leb}
 use lib.ListN.{length, getD, drop, length-append, length-drop, length-map}
 use lib.Seq.{getD-append-add, getD-drop}
 use lib.IntN.{ℤ, pos}
+use Rattle.answers.specs.Answers.{done, emptyRange, tooMany, tooShort, notFormed, noneThere, noMap, totalOver}
 use Rattle.span.specs.Span.{Span, given}
-use Rattle.span.specs.Operations.{gaps, overlaps, any, holds, common, united, total}
+use Rattle.span.specs.Operations.{uncovered, spansOverlap, any, holds, common, united, spanTotal}
 use Rattle.key.specs.Rank.{rank, keys, keyAt}
-use Rattle.key.specs.Range.{Kind, halfOpen, rangeOf, empty}
+use Rattle.key.specs.Range.{Kind, halfOpen, spanOf, empty}
 use Rattle.outcomes.specs.Stored.{places, Stored, ranges, storing, wellFormed}
-use Rattle.outcomes.specs.Numbers.{toldOf, countOf, stretchOf, orderOf, totalOf}
+use Rattle.outcomes.specs.Numbers.{askedInC, countedInC, partInC, comparedInC, totalledInC}
 use Rattle.outcomes.specs.Numbers as Numbers
-use Rattle.outcomes.specs.Outcomes.{yesNo, comparedBy, isEqual, firstPlace, howMany, partOf, Entry, over, Written, Edited, leaving, extended}
-use Rattle.outcomes.specs.Outcomes.{placed, found, met, metPart, writing, uncovered, compared, editing, formed}
-use Rattle.outcomes.specs.Outcomes.{rangeAt, lookup, meeting, overlapping, gapsIn, ordering, equality, edited, extending}
-use Rattle.outcomes.specs.Sets.{plain, totalIs, notWritten, intersected, joining, totalled, formedSet, intersecting, uniting, totalling}
+use Rattle.outcomes.specs.Outcomes.{yesNo, comparedBy, isEqual, firstPlace, howMany, partOf, Entry, inFirstPlaces, Written, Edited, leaving, extended}
+use Rattle.outcomes.specs.Outcomes.{rangeAtSound, lookupSound, overlapsSound, overlappingSound, intoLists, gapsSound, orderSound, editSound, formed}
+use Rattle.outcomes.specs.Outcomes.{rangeAt, lookup, overlaps, overlapping, gaps, order, equal, edit, bulkInsert}
+use Rattle.outcomes.specs.Sets.{plain, totalIs, notWritten, intersectionSound, unionSound, totalSound, formedSet, intersection, union, totalOf}
 use Rattle.outcomes.specs.declared.Asked.{Asked}
 use Rattle.outcomes.specs.declared.Asked.the-variants as Asked
 use Rattle.outcomes.specs.declared.Counted.{Counted}
@@ -35,17 +36,17 @@ use Rattle.outcomes.specs.declared.Compared.the-variants as Compared
 use Rattle.outcomes.specs.declared.Totalled.{Totalled}
 use Rattle.outcomes.specs.declared.Totalled.the-variants as Totalled
 use Rattle.byte_form.specs.Layout.{rm01}
-use Rattle.byte_form.specs.Form.{formOf, Output, output, mapIn, isForm, reading}
+use Rattle.byte_form.specs.Form.{formOf, Output, output, mapIn, isForm, read}
 use Rattle.byte_form.specs.Form as Form
 
 -- EVERY OTHER FIELD IS 0 on any number but 0: yes or no
-pub told-zero : (a : Asked) → (toldOf a .answer ≡ 0 → ⊥) → toldOf a .yes ≡ false
+pub told-zero : (a : Asked) → (askedInC a .answer ≡ 0 → ⊥) → askedInC a .yes ≡ false
 told-zero Asked.Yes n = absurd (n refl)
 told-zero Asked.No n = refl
 told-zero (Asked.Refused r) n = refl
 
 -- a count
-pub count-zero : (a : Counted) → (countOf a .answer ≡ 0 → ⊥) → countOf a .count ≡ 0
+pub count-zero : (a : Counted) → (countedInC a .answer ≡ 0 → ⊥) → countedInC a .count ≡ 0
 count-zero (Counted.Count c) n = absurd (n refl)
 count-zero (Counted.Refused r) n = refl
 
@@ -56,52 +57,52 @@ range-zero (Found.Range s e v) n = absurd (n refl)
 range-zero (Found.Refused r) n = (refl, refl, refl)
 
 -- a part of the places
-pub stretch-zero : (a : Part) → (stretchOf a .answer ≡ 0 → ⊥) → (stretchOf a .place ≡ 0) × (stretchOf a .count ≡ 0)
+pub stretch-zero : (a : Part) → (partInC a .answer ≡ 0 → ⊥) → (partInC a .place ≡ 0) × (partInC a .count ≡ 0)
 stretch-zero (Part.Places i c) n = absurd (n refl)
 stretch-zero (Part.Refused r) n = (refl, refl)
 
 -- an order
-pub order-zero : (a : Compared) → (orderOf a .answer ≡ 0 → ⊥) → orderOf a .order ≡ pos 0
+pub order-zero : (a : Compared) → (comparedInC a .answer ≡ 0 → ⊥) → comparedInC a .order ≡ pos 0
 order-zero Compared.Less n = absurd (n refl)
 order-zero Compared.Equal n = absurd (n refl)
 order-zero Compared.Greater n = absurd (n refl)
 order-zero (Compared.Refused r) n = refl
 
 -- a total
-pub total-zero : (a : Totalled) → (totalOf a .answer ≡ 0 → ⊥) → totalOf a .total ≡ 0
+pub total-zero : (a : Totalled) → (totalledInC a .answer ≡ 0 → ⊥) → totalledInC a .total ≡ 0
 total-zero (Totalled.Total t) n = absurd (n refl)
 total-zero (Totalled.Refused r) n = refl
 
 -- ALL LENT MEMORY IS AS IT WAS on any number but 0: a map that is edited
 module _ (kind : Kind) (m : Stored) (s e : ℤ) (new : Option ℕ) where
   -- insert or remove, refused: the map is as it was
-  pub edit-unchanged : (edited kind m s e new .answer ≡ 0 → ⊥) → edited kind m s e new .left ≡ m
-  unfolding edited editing
+  pub edit-unchanged : (edit kind m s e new .answer ≡ 0 → ⊥) → edit kind m s e new .left ≡ m
+  unfolding edit editSound
   edit-unchanged n = go (wellFormed kind places m) (leb (kind .past e) (rank s)) (ltb places (length xs)) n
     where
       xs : List Span
       xs = given (rank s) (kind .past e) new (ranges kind m)
 
-      go : (f t u : Bool) → (cond f (cond t (leaving 1 m) (cond u (leaving 2 m) (leaving 0 (storing kind places xs)))) (leaving 4 m) .answer ≡ 0 → ⊥)
-          → cond f (cond t (leaving 1 m) (cond u (leaving 2 m) (leaving 0 (storing kind places xs)))) (leaving 4 m) .left ≡ m
+      go : (f t u : Bool) → (cond f (cond t (leaving emptyRange m) (cond u (leaving tooMany m) (leaving done (storing kind places xs)))) (leaving notFormed m) .answer ≡ 0 → ⊥)
+          → cond f (cond t (leaving emptyRange m) (cond u (leaving tooMany m) (leaving done (storing kind places xs)))) (leaving notFormed m) .left ≡ m
       go false t u n = refl
       go true true u n = refl
       go true false true n = refl
       go true false false n = absurd (n refl)
 
 -- a map that is read
-pub read-unchanged : (m : Stored) (bs : List ℕ) → (reading rm01 m bs .answer ≡ 0 → ⊥) → reading rm01 m bs .left ≡ m
-unfolding reading
+pub read-unchanged : (m : Stored) (bs : List ℕ) → (read rm01 m bs .answer ≡ 0 → ⊥) → read rm01 m bs .left ≡ m
+unfolding read
 read-unchanged m bs n = go (isForm rm01 bs) n
   where
-    go : (t : Bool) → (cond t (leaving 0 (mapIn rm01 bs)) (leaving 6 m) .answer ≡ 0 → ⊥) → cond t (leaving 0 (mapIn rm01 bs)) (leaving 6 m) .left ≡ m
+    go : (t : Bool) → (cond t (leaving done (mapIn rm01 bs)) (leaving noMap m) .answer ≡ 0 → ⊥) → cond t (leaving done (mapIn rm01 bs)) (leaving noMap m) .left ≡ m
     go true n = absurd (n refl)
     go false n = refl
 
 -- a list, and with it its places PAST THE COUNT, whatever is answered
 pub record Kept (w : Written) (starts ends : List ℤ) : Type 0 where
-  pub refused : (countOf (w .answer) .answer ≡ 0 → ⊥) → (w .starts ≡ starts) × (w .ends ≡ ends)
-  pub past : (k : ℕ) → countOf (w .answer) .count ≤ k → (getD (w .starts) k (pos 0) ≡ getD starts k (pos 0)) × (getD (w .ends) k (pos 0) ≡ getD ends k (pos 0))
+  pub refused : (countedInC (w .answer) .answer ≡ 0 → ⊥) → (w .starts ≡ starts) × (w .ends ≡ ends)
+  pub past : (k : ℕ) → countedInC (w .answer) .count ≤ k → (getD (w .starts) k (pos 0) ≡ getD starts k (pos 0)) × (getD (w .ends) k (pos 0) ≡ getD ends k (pos 0))
   pub long : (length (w .starts) ≡ length starts) × (length (w .ends) ≡ length ends)
 
 -- what is not written is kept
@@ -119,8 +120,8 @@ over-long : {A : Type 0} (new old : List A) → length new ≤ length old → le
 over-long new old h = omega (arith, length-append new (drop (length new) old), length-drop (length new) old)
 
 -- any list of ranges that is to be written
-pub writing-kept : (kind : Kind) (xs : List Span) (starts ends : List ℤ) → Kept (writing kind xs starts ends) starts ends
-unfolding writing
+pub writing-kept : (kind : Kind) (xs : List Span) (starts ends : List ℤ) → Kept (intoLists kind xs starts ends) starts ends
+unfolding intoLists
 writing-kept kind xs starts ends = go (ltb (min (length starts) (length ends)) (length xs)) refl
   where
     los : List ℤ
@@ -130,7 +131,7 @@ writing-kept kind xs starts ends = go (ltb (min (length starts) (length ends)) (
     his = map (λ (x : Span). kind .ending (x .hi)) xs
 
     go : (t : Bool) → ltb (min (length starts) (length ends)) (length xs) ≡ t
-        → Kept (cond t (notWritten 3 starts ends) (record { answer = Counted.Count (length xs); starts = over los starts; ends = over his ends })) starts ends
+        → Kept (cond t (notWritten tooShort starts ends) (record { answer = Counted.Count (length xs); starts = inFirstPlaces los starts; ends = inFirstPlaces his ends })) starts ends
     go true e = unwritten-kept 3 starts ends
     go false e =
         let h = ltb-false (min (length starts) (length ends)) (length xs) e in
@@ -149,39 +150,39 @@ kept-either false a b = b
 
 module _ (kind : Kind) (starts ends : List ℤ) where
   -- gaps
-  pub gaps-kept : (m : Stored) (s e : ℤ) → Kept (gapsIn kind m s e starts ends) starts ends
-  unfolding gapsIn uncovered
+  pub gaps-kept : (m : Stored) (s e : ℤ) → Kept (gaps kind m s e starts ends) starts ends
+  unfolding gaps gapsSound
   gaps-kept m s e =
-      let then = kept-either (empty (rangeOf kind s e 0)) (unwritten-kept 1 starts ends) (writing-kept kind _ starts ends) in
+      let then = kept-either (empty (spanOf kind s e 0)) (unwritten-kept 1 starts ends) (writing-kept kind _ starts ends) in
       kept-either (formed kind m) then (unwritten-kept 4 starts ends)
 
   -- intersection
-  pub intersection-kept : (a b : Stored) → Kept (intersecting kind a b starts ends) starts ends
-  unfolding intersecting intersected
+  pub intersection-kept : (a b : Stored) → Kept (intersection kind a b starts ends) starts ends
+  unfolding intersection intersectionSound
   intersection-kept a b = kept-either (formedSet kind a && formedSet kind b) (writing-kept kind _ starts ends) (unwritten-kept 4 starts ends)
 
   -- union
-  pub union-kept : (a b : Stored) → Kept (uniting kind a b starts ends) starts ends
-  unfolding uniting joining
+  pub union-kept : (a b : Stored) → Kept (union kind a b starts ends) starts ends
+  unfolding union unionSound
   union-kept a b = kept-either (formedSet kind a && formedSet kind b) (writing-kept kind _ starts ends) (unwritten-kept 4 starts ends)
 
 -- the bytes that a map is written into
 pub record BytesKept (o : Output) (out : List ℕ) : Type 0 where
-  pub refused : (countOf (o .answer) .answer ≡ 0 → ⊥) → o .out ≡ out
-  pub past : (k : ℕ) → countOf (o .answer) .count ≤ k → getD (o .out) k 0 ≡ getD out k 0
+  pub refused : (countedInC (o .answer) .answer ≡ 0 → ⊥) → o .out ≡ out
+  pub past : (k : ℕ) → countedInC (o .answer) .count ≤ k → getD (o .out) k 0 ≡ getD out k 0
   pub long : length (o .out) ≡ length out
 
 -- the writer of bytes
-pub write-kept : (m : Stored) (out : List ℕ) → BytesKept (Form.writing rm01 m out) out
-unfolding Form.writing Form.put
+pub write-kept : (m : Stored) (out : List ℕ) → BytesKept (Form.write rm01 m out) out
+unfolding Form.write Form.intoOutput
 write-kept m out = go (formed halfOpen m) (ltb (length out) (length bs)) refl
   where
     bs : List ℕ
     bs = formOf rm01 m
 
     go : (f t : Bool) → ltb (length out) (length bs) ≡ t
-        → BytesKept (cond f (cond t (output (Counted.Refused 3) out) (output (Counted.Count (length bs)) (bs ++ drop (length bs) out)))
-        (output (Counted.Refused 4) out)) out
+        → BytesKept (cond f (cond t (output (Counted.Refused tooShort) out) (output (Counted.Count (length bs)) (bs ++ drop (length bs) out)))
+        (output (Counted.Refused notFormed) out)) out
     go false t e = record { refused = λ n. refl; past = λ k l. refl; long = refl }
     go true true e = record { refused = λ n. refl; past = λ k l. refl; long = refl }
     go true false e = record {
@@ -205,32 +206,32 @@ firstNumber [] = 0
 firstNumber (x ∷ xs) = cond (x .applies) (x .number) (firstNumber xs)
 
 -- 4: the lent map is not well formed
-abbrev pub notFormed : Kind → Stored → Refusal
-notFormed kind m = refuse (not (formed kind m)) 4
+abbrev pub unformed : Kind → Stored → Refusal
+unformed kind m = refuse (not (formed kind m)) notFormed
 
 -- 4 too: some value of the lent set is not 0
 abbrev pub noSet : Stored → Refusal
-noSet m = refuse (not (plain m)) 4
+noSet m = refuse (not (plain m)) notFormed
 
 -- 1: the range is empty or reversed
-abbrev pub emptyRange : Kind → ℤ → ℤ → Refusal
-emptyRange kind s e = refuse (empty (rangeOf kind s e 0)) 1
+abbrev pub keyless : Kind → ℤ → ℤ → Refusal
+keyless kind s e = refuse (empty (spanOf kind s e 0)) emptyRange
 
 -- 9: the total is over 2^64 - 1
-abbrev pub totalOver : List Span → Refusal
-totalOver xs = refuse (not (ltb (total xs) keys)) 9
+abbrev pub overTotal : List Span → Refusal
+overTotal xs = refuse (not (ltb (spanTotal xs) keys)) totalOver
 
 -- 5: the map has no range at the place
-abbrev pub noneThere : Stored → ℕ → Refusal
-noneThere m i = refuse (not (ltb i (m .count))) 5
+abbrev pub nothingAt : Stored → ℕ → Refusal
+nothingAt m i = refuse (not (ltb i (m .count))) noneThere
 
 -- 2: the final ranges are more than a map has places
-abbrev pub tooMany : List Span → Refusal
-tooMany xs = refuse (ltb places (length xs)) 2
+abbrev pub overfull : List Span → Refusal
+overfull xs = refuse (ltb places (length xs)) tooMany
 
 -- 3: one of the two lent lists is too short
-abbrev pub tooShort : List Span → List ℤ → List ℤ → Refusal
-tooShort xs starts ends = refuse (ltb (min (length starts) (length ends)) (length xs)) 3
+abbrev pub overlong : List Span → List ℤ → List ℤ → Refusal
+overlong xs starts ends = refuse (ltb (min (length starts) (length ends)) (length xs)) tooShort
 
 -- the number of an answer that stands behind a test
 module _ {A : Type 0} (number : A → ℕ) {n r : ℕ} {x y : A} where
@@ -257,26 +258,26 @@ module _ {A : Type 0} (number : A → ℕ) {n r : ℕ} {x y : A} where
   all-pass true false u v a b = a
   all-pass false t u v a b = a
 
-told-done : (t : Bool) → toldOf (yesNo t) .answer ≡ 0
+told-done : (t : Bool) → askedInC (yesNo t) .answer ≡ 0
 told-done true = refl
 told-done false = refl
 
-order-done : (o : Ordering) → orderOf (comparedBy o) .answer ≡ 0
+order-done : (o : Ordering) → comparedInC (comparedBy o) .answer ≡ 0
 order-done Ordering·lt = refl
 order-done Ordering·eq = refl
 order-done Ordering·gt = refl
 
-part-done : (p : Span → Bool) (xs : List Span) → stretchOf (partOf p xs) .answer ≡ 0
+part-done : (p : Span → Bool) (xs : List Span) → partInC (partOf p xs) .answer ≡ 0
 unfolding partOf
 part-done p xs = go (eqb (howMany p xs) 0)
   where
-    go : (t : Bool) → stretchOf (cond t (Part.Places 0 0) (Part.Places (firstPlace p xs) (howMany p xs))) .answer ≡ 0
+    go : (t : Bool) → partInC (cond t (Part.Places 0 0) (Part.Places (firstPlace p xs) (howMany p xs))) .answer ≡ 0
     go true = refl
     go false = refl
 
 -- the number of each answer: of yes or no
 abbrev pub toldNumber : Asked → ℕ
-toldNumber a = toldOf a .answer
+toldNumber a = askedInC a .answer
 
 -- of a range found
 abbrev pub foundNumber : Found → ℕ
@@ -284,23 +285,23 @@ foundNumber a = Numbers.rangeOf a .answer
 
 -- of a part of the places
 abbrev pub partNumber : Part → ℕ
-partNumber a = stretchOf a .answer
+partNumber a = partInC a .answer
 
 -- of a comparison
 abbrev pub orderNumber : Compared → ℕ
-orderNumber a = orderOf a .answer
+orderNumber a = comparedInC a .answer
 
 -- of a total
 abbrev pub totalNumber : Totalled → ℕ
-totalNumber a = totalOf a .answer
+totalNumber a = totalledInC a .answer
 
 -- of a list that is written
 abbrev pub listNumber : Written → ℕ
-listNumber w = countOf (w .answer) .answer
+listNumber w = countedInC (w .answer) .answer
 
 -- of bytes that are written
 abbrev pub bytesNumber : Output → ℕ
-bytesNumber o = countOf (o .answer) .answer
+bytesNumber o = countedInC (o .answer) .answer
 
 -- of an edit
 abbrev pub editNumber : Edited → ℕ
@@ -309,89 +310,89 @@ editNumber o = o .answer
 module _ (kind : Kind) where
   -- EDIT: 4, 1, 2, and 2 is judged on the final map
   pub edit-order : (m : Stored) (s e : ℤ) (new : Option ℕ)
-      → edited kind m s e new .answer ≡ firstNumber (notFormed kind m ∷ emptyRange kind s e ∷ tooMany (given (rank s) (kind .past e) new (ranges kind m)) ∷ [])
-  unfolding edited editing
+      → edit kind m s e new .answer ≡ firstNumber (unformed kind m ∷ keyless kind s e ∷ overfull (given (rank s) (kind .past e) new (ranges kind m)) ∷ [])
+  unfolding edit editSound
   edit-order m s e new =
       let many = ltb places (length (given (rank s) (kind .past e) new (ranges kind m))) in
-      lets-pass editNumber (formed kind m) refl (refuses editNumber (empty (rangeOf kind s e 0)) refl (refuses editNumber many refl refl))
+      lets-pass editNumber (formed kind m) refl (refuses editNumber (empty (spanOf kind s e 0)) refl (refuses editNumber many refl refl))
 
   -- BULK INSERT: 4 before any entry is looked at; nothing is applied, and the map is as it was. Of each entry then 1, 2, as an edit
-  pub bulk-order : (m : Stored) (xs : List Entry) → formed kind m ≡ false → extending kind m xs ≡ extended (record { answer = 4; applied = 0 }) m
-  unfolding extending
+  pub bulk-order : (m : Stored) (xs : List Entry) → formed kind m ≡ false → bulkInsert kind m xs ≡ extended (record { answer = 4; applied = 0 }) m
+  unfolding bulkInsert
   bulk-order m xs f = rw f
 
   -- RANGE AT A PLACE: 4, 5
-  pub place-order : (m : Stored) (i : ℕ) → foundNumber (rangeAt kind m i) ≡ firstNumber (notFormed kind m ∷ noneThere m i ∷ [])
-  unfolding rangeAt placed
+  pub place-order : (m : Stored) (i : ℕ) → foundNumber (rangeAt kind m i) ≡ firstNumber (unformed kind m ∷ nothingAt m i ∷ [])
+  unfolding rangeAt rangeAtSound
   place-order m i = lets-pass foundNumber (formed kind m) refl (lets-pass foundNumber (ltb i (m .count)) refl refl)
 
   -- LOOKUP: 4, 5
   pub lookup-order : (m : Stored) (k : ℤ)
-      → foundNumber (lookup kind m k) ≡ firstNumber (notFormed kind m ∷ noneThere m (firstPlace (holds (rank k)) (ranges kind m)) ∷ [])
-  unfolding lookup found placed
+      → foundNumber (lookup kind m k) ≡ firstNumber (unformed kind m ∷ nothingAt m (firstPlace (holds (rank k)) (ranges kind m)) ∷ [])
+  unfolding lookup lookupSound rangeAtSound
   lookup-order m k = lets-pass foundNumber (formed kind m) refl (lets-pass foundNumber (ltb (firstPlace (holds (rank k)) (ranges kind m)) (m .count)) refl refl)
 
   -- OVERLAPS: 4, 1
-  pub overlaps-order : (m : Stored) (s e : ℤ) → toldNumber (meeting kind m s e) ≡ firstNumber (notFormed kind m ∷ emptyRange kind s e ∷ [])
-  unfolding meeting met
+  pub overlaps-order : (m : Stored) (s e : ℤ) → toldNumber (overlaps kind m s e) ≡ firstNumber (unformed kind m ∷ keyless kind s e ∷ [])
+  unfolding overlaps overlapsSound
   overlaps-order m s e =
-      let q = rangeOf kind s e 0 in
-      lets-pass toldNumber (formed kind m) refl (refuses toldNumber (empty q) refl (told-done (any (overlaps q) (ranges kind m))))
+      let q = spanOf kind s e 0 in
+      lets-pass toldNumber (formed kind m) refl (refuses toldNumber (empty q) refl (told-done (any (spansOverlap q) (ranges kind m))))
 
   -- OVERLAPPING: 4, 1
-  pub overlapping-order : (m : Stored) (s e : ℤ) → partNumber (overlapping kind m s e) ≡ firstNumber (notFormed kind m ∷ emptyRange kind s e ∷ [])
-  unfolding overlapping metPart
+  pub overlapping-order : (m : Stored) (s e : ℤ) → partNumber (overlapping kind m s e) ≡ firstNumber (unformed kind m ∷ keyless kind s e ∷ [])
+  unfolding overlapping overlappingSound
   overlapping-order m s e =
-      let q = rangeOf kind s e 0 in
-      lets-pass partNumber (formed kind m) refl (refuses partNumber (empty q) refl (part-done (overlaps q) (ranges kind m)))
+      let q = spanOf kind s e 0 in
+      lets-pass partNumber (formed kind m) refl (refuses partNumber (empty q) refl (part-done (spansOverlap q) (ranges kind m)))
 
   -- EQUALITY: 4 of the first map, then 4 of the second
-  pub equality-order : (a b : Stored) → toldNumber (equality kind a b) ≡ firstNumber (notFormed kind a ∷ notFormed kind b ∷ [])
-  unfolding equality
-  equality-order a b = both-pass toldNumber (formed kind a) (formed kind b) refl (told-done (isEqual (compared kind a b)))
+  pub equality-order : (a b : Stored) → toldNumber (equal kind a b) ≡ firstNumber (unformed kind a ∷ unformed kind b ∷ [])
+  unfolding equal
+  equality-order a b = both-pass toldNumber (formed kind a) (formed kind b) refl (told-done (isEqual (orderSound kind a b)))
 
   -- ORDER: 4 of the first map, then 4 of the second
-  pub ordering-order : (a b : Stored) → orderNumber (ordering kind a b) ≡ firstNumber (notFormed kind a ∷ notFormed kind b ∷ [])
-  unfolding ordering
-  ordering-order a b = both-pass orderNumber (formed kind a) (formed kind b) refl (order-done (compared kind a b))
+  pub ordering-order : (a b : Stored) → orderNumber (order kind a b) ≡ firstNumber (unformed kind a ∷ unformed kind b ∷ [])
+  unfolding order
+  ordering-order a b = both-pass orderNumber (formed kind a) (formed kind b) refl (order-done (orderSound kind a b))
 
   -- a list: 3
-  writing-order : (xs : List Span) (starts ends : List ℤ) → listNumber (writing kind xs starts ends) ≡ firstNumber (tooShort xs starts ends ∷ [])
-  unfolding writing
+  writing-order : (xs : List Span) (starts ends : List ℤ) → listNumber (intoLists kind xs starts ends) ≡ firstNumber (overlong xs starts ends ∷ [])
+  unfolding intoLists
   writing-order xs starts ends = refuses listNumber (ltb (min (length starts) (length ends)) (length xs)) refl refl
 
   -- GAPS: 4, 1, 3
   pub gaps-order : (m : Stored) (s e : ℤ) (starts ends : List ℤ)
-      → listNumber (gapsIn kind m s e starts ends)
-      ≡ firstNumber (notFormed kind m ∷ emptyRange kind s e ∷ tooShort (gaps (rank s) (kind .past e) (ranges kind m)) starts ends ∷ [])
-  unfolding gapsIn uncovered
+      → listNumber (gaps kind m s e starts ends)
+      ≡ firstNumber (unformed kind m ∷ keyless kind s e ∷ overlong (uncovered (rank s) (kind .past e) (ranges kind m)) starts ends ∷ [])
+  unfolding gaps gapsSound
   gaps-order m s e starts ends =
-      let last = writing-order (gaps (rank s) (kind .past e) (ranges kind m)) starts ends in
-      lets-pass listNumber (formed kind m) refl (refuses listNumber (empty (rangeOf kind s e 0)) refl last)
+      let last = writing-order (uncovered (rank s) (kind .past e) (ranges kind m)) starts ends in
+      lets-pass listNumber (formed kind m) refl (refuses listNumber (empty (spanOf kind s e 0)) refl last)
 
   -- INTERSECTION: 4 of the first set, then 4 of the second, 3
   pub intersection-order : (a b : Stored) (starts ends : List ℤ)
-      → listNumber (intersecting kind a b starts ends)
-      ≡ firstNumber (notFormed kind a ∷ noSet a ∷ notFormed kind b ∷ noSet b ∷ tooShort (common (ranges kind a) (ranges kind b)) starts ends ∷ [])
-  unfolding intersecting intersected
+      → listNumber (intersection kind a b starts ends)
+      ≡ firstNumber (unformed kind a ∷ noSet a ∷ unformed kind b ∷ noSet b ∷ overlong (common (ranges kind a) (ranges kind b)) starts ends ∷ [])
+  unfolding intersection intersectionSound
   intersection-order a b starts ends =
       all-pass listNumber (formed kind a) (plain a) (formed kind b) (plain b) refl (writing-order (common (ranges kind a) (ranges kind b)) starts ends)
 
   -- UNION: 4 of the first set, then 4 of the second, 3
   pub union-order : (a b : Stored) (starts ends : List ℤ)
-      → listNumber (uniting kind a b starts ends)
-      ≡ firstNumber (notFormed kind a ∷ noSet a ∷ notFormed kind b ∷ noSet b ∷ tooShort (united (ranges kind a) (ranges kind b)) starts ends ∷ [])
-  unfolding uniting joining
+      → listNumber (union kind a b starts ends)
+      ≡ firstNumber (unformed kind a ∷ noSet a ∷ unformed kind b ∷ noSet b ∷ overlong (united (ranges kind a) (ranges kind b)) starts ends ∷ [])
+  unfolding union unionSound
   union-order a b starts ends =
       all-pass listNumber (formed kind a) (plain a) (formed kind b) (plain b) refl (writing-order (united (ranges kind a) (ranges kind b)) starts ends)
 
   -- TOTAL: 4, 9
-  pub total-order : (m : Stored) → totalNumber (totalling kind m) ≡ firstNumber (notFormed kind m ∷ noSet m ∷ totalOver (ranges kind m) ∷ [])
-  unfolding totalling totalled totalIs
-  total-order m = both-pass totalNumber (formed kind m) (plain m) refl (lets-pass totalNumber (ltb (total (ranges kind m)) keys) refl refl)
+  pub total-order : (m : Stored) → totalNumber (totalOf kind m) ≡ firstNumber (unformed kind m ∷ noSet m ∷ overTotal (ranges kind m) ∷ [])
+  unfolding totalOf totalSound totalIs
+  total-order m = both-pass totalNumber (formed kind m) (plain m) refl (lets-pass totalNumber (ltb (spanTotal (ranges kind m)) keys) refl refl)
 
 -- THE WRITER of bytes: 4, 3
 pub write-order : (m : Stored) (out : List ℕ)
-    → bytesNumber (Form.writing rm01 m out) ≡ firstNumber (notFormed halfOpen m ∷ refuse (ltb (length out) (length (formOf rm01 m))) 3 ∷ [])
-unfolding Form.writing Form.put
+    → bytesNumber (Form.write rm01 m out) ≡ firstNumber (unformed halfOpen m ∷ refuse (ltb (length out) (length (formOf rm01 m))) tooShort ∷ [])
+unfolding Form.write Form.intoOutput
 write-order m out = lets-pass bytesNumber (formed halfOpen m) refl (refuses bytesNumber (ltb (length out) (length (formOf rm01 m))) refl refl)

@@ -14,11 +14,11 @@ use Rattle.span.proofs.Sets.{at-zero}
 use Rattle.key.specs.Range.{Kind}
 use Rattle.key.proofs.Lawful.{Lawful}
 use Rattle.outcomes.specs.Stored.{places, Stored, ranges}
-use Rattle.outcomes.specs.Outcomes.{Edited, inserting, removing, cleared, extending}
+use Rattle.outcomes.specs.Outcomes.{Edited, insert, remove, clear, bulkInsert}
 use Rattle.outcomes.specs.Sets.{plain}
 use Rattle.outcomes.proofs.Formed.{all-noughts}
 use Rattle.outcomes.proofs.Sets.{plain-ranges}
-use Rattle.set_ops.specs.Answers.{pairs, setInserting, setRemoving, setExtending, setLookup}
+use Rattle.set_ops.specs.Answers.{pairs, setInsert, setRemove, setBulkInsert, setLookup}
 use Rattle.set_ops.proofs.Laws.{plain-storing}
 use Rattle.one_map.specs.Events.{Proper, valueAt, happens, afterEvents, lastValue, entryChange, effect}
 use Rattle.one_map.specs.SetEvents.{SetEvent, setInsert, setRemove, setBulkInsert, setClear, setHappens, afterSetEvents, ofMap, setValueAt}
@@ -48,14 +48,14 @@ pairs-zero (suc n) (s ∷ ss) (e ∷ es) = (refl, pairs-zero n ss es)
 
 -- an event of a set gives 0 or nothing
 event-zero : (kind : Kind) (x : SetEvent) (m : Stored) → AllGive IsZero (effect (ofMap kind x) m .made)
-event-zero kind (setInsert s e) m = accepted-gives IsZero (inserting kind m s e 0) _ (λ z. (refl, tt))
-event-zero kind (setRemove s e) m = accepted-gives IsZero (removing kind m s e) _ (λ z. (tt, tt))
-event-zero kind (setBulkInsert ss es) m = pairs-zero (extending kind m (pairs ss es) .told .applied) ss es
+event-zero kind (setInsert s e) m = accepted-gives IsZero (insert kind m s e 0) _ (λ z. (refl, tt))
+event-zero kind (setRemove s e) m = accepted-gives IsZero (remove kind m s e) _ (λ z. (tt, tt))
+event-zero kind (setBulkInsert ss es) m = pairs-zero (bulkInsert kind m (pairs ss es) .told .applied) ss es
 event-zero kind setClear m = tt
 
 -- of a set, what happens is what happens to the map
 pub set-as-map : (kind : Kind) (x : SetEvent) (m : Stored) → plain m ≡ true → setHappens kind x m ≡ happens (ofMap kind x) m
-unfolding setInserting setRemoving setExtending
+unfolding setInsert setRemove setBulkInsert
 set-as-map kind (setInsert s e) m z = rw z
 set-as-map kind (setRemove s e) m z = rw z
 set-as-map kind (setBulkInsert ss es) m z = rw z
@@ -63,8 +63,8 @@ set-as-map kind setClear m z = refl
 
 module _ {kind : Kind} (law : Lawful kind) where
   -- a new map is a set
-  pub new-set : plain (cleared kind) ≡ true
-  unfolding cleared
+  pub new-set : plain (clear kind) ≡ true
+  unfolding clear
   new-set = plain-storing kind places [] tt
 
   -- A SET STAYS A SET, whatever happens
@@ -85,7 +85,7 @@ module _ {kind : Kind} (law : Lawful kind) where
 
   -- HISTORIES OF SETS: after any events from a new set, each key is covered exactly where the last event over it covered it
   pub set-last-value-held : (xs : List SetEvent) (k : ℤ)
-      → setValueAt kind (afterSetEvents kind xs (cleared kind)) k ≡ lastValue (map (ofMap kind) xs) (cleared kind) k none
+      → setValueAt kind (afterSetEvents kind xs (clear kind)) k ≡ lastValue (map (ofMap kind) xs) (clear kind) k none
   unfolding setLookup
   set-last-value-held xs k =
       let (is, z) = sets-as-maps xs (clear-proper law) new-set in
@@ -93,8 +93,8 @@ module _ {kind : Kind} (law : Lawful kind) where
 
   -- and two histories that agree at every key leave the same stored set, unused places included
   pub same-set-histories : (xs ys : List SetEvent)
-      → ((k : ℤ) → SFits w64 k → lastValue (map (ofMap kind) xs) (cleared kind) k none ≡ lastValue (map (ofMap kind) ys) (cleared kind) k none)
-      → afterSetEvents kind xs (cleared kind) ≡ afterSetEvents kind ys (cleared kind)
+      → ((k : ℤ) → SFits w64 k → lastValue (map (ofMap kind) xs) (clear kind) k none ≡ lastValue (map (ofMap kind) ys) (clear kind) k none)
+      → afterSetEvents kind xs (clear kind) ≡ afterSetEvents kind ys (clear kind)
   same-set-histories xs ys e =
       let new = clear-proper law in
       sets-as-maps xs new new-set .0 ∙ same-histories law (map (ofMap kind) xs) (map (ofMap kind) ys) e ∙ sym (sets-as-maps ys new new-set .0)

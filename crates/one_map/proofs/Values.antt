@@ -17,7 +17,7 @@ use Rattle.key.specs.Rank.{rank}
 use Rattle.key.specs.Range.{Kind}
 use Rattle.key.proofs.Lawful.{Lawful}
 use Rattle.outcomes.specs.Stored.{Stored, ranges}
-use Rattle.outcomes.specs.Outcomes.{Edited, Change, changes}
+use Rattle.outcomes.specs.Outcomes.{Edited, Change, spanEdits}
 use Rattle.outcomes.proofs.Formed.{shape, good, length-ranges, getD-ranges}
 use Rattle.one_map.specs.Events.{Proper, Event, happens, Effect, ifAccepted, effect}
 use Rattle.one_map.proofs.Known.{proper-tidy}
@@ -42,8 +42,8 @@ module _ (P : ℕ → Type 0) where
   gives-either true new old a b = a
   gives-either false new old a b = b
 
-  last-gives : (kind : Kind) (cs : List Change) (k : ℕ) (old : Option ℕ) → AllGive cs → Gives old → Gives (last (changes kind cs) k old)
-  unfolding changes last
+  last-gives : (kind : Kind) (cs : List Change) (k : ℕ) (old : Option ℕ) → AllGive cs → Gives old → Gives (last (spanEdits kind cs) k old)
+  unfolding spanEdits last
   last-gives kind [] k old a b = b
   last-gives kind (c ∷ cs) k old a b =
       last-gives kind cs k _ (a .1) (gives-either (inside (rank (c .start)) (kind .past (c .end)) k) (c .new) old (a .0) b)

@@ -8,16 +8,17 @@ use mathlib.Core.Option.{Option, some, none}
 use lib.Dec.{eqb}
 use lib.ListN.{length, take}
 use lib.IntN.{ℤ}
+use Rattle.answers.specs.Answers.{done}
 use Rattle.span.specs.Span.{inside, last}
 use Rattle.key.specs.Rank.{rank}
 use Rattle.key.specs.Range.{Kind, halfOpen}
 use Rattle.outcomes.specs.Stored.{places, Stored, Sound}
-use Rattle.outcomes.specs.Outcomes.{Entry, Edited, leaving, Change, lookup, cleared, inserting, removing, extending, changes}
+use Rattle.outcomes.specs.Outcomes.{Entry, Edited, leaving, Change, lookup, clear, insert, remove, bulkInsert, spanEdits}
 use Rattle.outcomes.specs.declared.Found.{Found}
 use Rattle.outcomes.specs.declared.Found.the-variants as Found
 use Rattle.byte_form.specs.Layout.{rm01}
 use Rattle.byte_form.specs.Bytes.{Bytes}
-use Rattle.byte_form.specs.Form.{entriesOf, mapIn, reading}
+use Rattle.byte_form.specs.Form.{entriesOf, mapIn, read}
 
 -- a well-formed map with all its places, its keys i64
 pub record Proper (kind : Kind) (m : Stored) : Type 0 where
@@ -65,11 +66,11 @@ AllU8 (x ∷ xs) = ValuesU8 x × AllU8 xs
 
 -- what an event answers, and the map that it leaves, accepted or refused
 abbrev pub happens : {kind : Kind} → Event kind → Stored → Edited
-happens {kind} (insert s e v) m = inserting kind m s e v
-happens {kind} (remove s e) m = removing kind m s e
-happens {kind} (bulkInsert xs) m = leaving (extending kind m xs .told .answer) (extending kind m xs .left)
-happens {kind} clear m = leaving 0 (cleared kind)
-happens {kind} (readBytes is bs fit) m = reading rm01 m bs
+happens {kind} (insert s e v) m = insert kind m s e v
+happens {kind} (remove s e) m = remove kind m s e
+happens {kind} (bulkInsert xs) m = leaving (bulkInsert kind m xs .told .answer) (bulkInsert kind m xs .left)
+happens {kind} clear m = leaving done (clear kind)
+happens {kind} (readBytes is bs fit) m = read rm01 m bs
 
 -- the map after some events
 unfoldable pub afterEvents : {kind : Kind} → List (Event kind) → Stored → Stored
@@ -99,15 +100,15 @@ entryChange x = record { start = x .start; end = x .end; new = some (x .value) }
 
 -- WHAT AN EVENT DID. Of a bulk insert the entries that were applied stay, refused or not; a read puts the ranges in its bytes in place of all that was held
 abbrev pub effect : {kind : Kind} → Event kind → Stored → Effect
-effect {kind} (insert s e v) m = ifAccepted (inserting kind m s e v) (changed (record { start = s; end = e; new = some v } ∷ []))
-effect {kind} (remove s e) m = ifAccepted (removing kind m s e) (changed (record { start = s; end = e; new = none } ∷ []))
-effect {kind} (bulkInsert xs) m = changed (map entryChange (take (extending kind m xs .told .applied) xs))
+effect {kind} (insert s e v) m = ifAccepted (insert kind m s e v) (changed (record { start = s; end = e; new = some v } ∷ []))
+effect {kind} (remove s e) m = ifAccepted (remove kind m s e) (changed (record { start = s; end = e; new = none } ∷ []))
+effect {kind} (bulkInsert xs) m = changed (map entryChange (take (bulkInsert kind m xs .told .applied) xs))
 effect {kind} clear m = anew []
-effect {kind} (readBytes is bs fit) m = ifAccepted (reading rm01 m bs) (anew (map entryChange (entriesOf (mapIn rm01 bs))))
+effect {kind} (readBytes is bs fit) m = ifAccepted (read rm01 m bs) (anew (map entryChange (entriesOf (mapIn rm01 bs))))
 
 -- what an effect leaves at a key where old was held: what the last change over the key gives, or else old, unless all that was held is gone
 unfoldable pub leftAt : Kind → Effect → ℤ → Option ℕ → Option ℕ
-leftAt kind x k old = last (changes kind (x .made)) (rank k) (cond (x .fresh) none old)
+leftAt kind x k old = last (spanEdits kind (x .made)) (rank k) (cond (x .fresh) none old)
 
 -- THE LAST VALUE that some events, in order, gave a key, or none; and old where they did not touch it
 unfoldable pub lastValue : {kind : Kind} → List (Event kind) → Stored → ℤ → Option ℕ → Option ℕ

@@ -3,10 +3,11 @@ use Prim.Native.Nat.{ℕ}
 use mathlib.Core.List.{List, [], _∷_}
 use mathlib.Core.Option.{Option}
 use lib.IntN.{ℤ}
+use Rattle.answers.specs.Answers.{done}
 use Rattle.key.specs.Range.{Kind}
 use Rattle.outcomes.specs.Stored.{Stored}
-use Rattle.outcomes.specs.Outcomes.{Edited, leaving, cleared}
-use Rattle.set_ops.specs.Answers.{pairs, setInserting, setRemoving, setExtending, setLookup}
+use Rattle.outcomes.specs.Outcomes.{Edited, leaving, clear}
+use Rattle.set_ops.specs.Answers.{pairs, setInsert, setRemove, setBulkInsert, setLookup}
 use Rattle.one_map.specs.Events.{Event, insert, remove, bulkInsert, clear, valueOf}
 
 -- AN EVENT OF A SET: insert of a range, remove of a range, bulk insert of two lent lists of starts and ends, and clear. No set is read from bytes
@@ -18,10 +19,10 @@ pub data SetEvent : Type 0 where
 
 -- what an event answers, and the set that it leaves, accepted or refused
 abbrev pub setHappens : Kind → SetEvent → Stored → Edited
-setHappens kind (setInsert s e) m = setInserting kind m s e
-setHappens kind (setRemove s e) m = setRemoving kind m s e
-setHappens kind (setBulkInsert ss es) m = leaving (setExtending kind m (pairs ss es) .told .answer) (setExtending kind m (pairs ss es) .left)
-setHappens kind setClear m = leaving 0 (cleared kind)
+setHappens kind (setInsert s e) m = setInsert kind m s e
+setHappens kind (setRemove s e) m = setRemove kind m s e
+setHappens kind (setBulkInsert ss es) m = leaving (setBulkInsert kind m (pairs ss es) .told .answer) (setBulkInsert kind m (pairs ss es) .left)
+setHappens kind setClear m = leaving done (clear kind)
 
 -- the set after some events
 unfoldable pub afterSetEvents : Kind → List SetEvent → Stored → Stored

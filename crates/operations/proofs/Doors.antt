@@ -5,11 +5,12 @@ use mathlib.Core.Bool.{true, false, _&&_}
 use mathlib.Core.List.{List}
 use lib.ListN.{length}
 use lib.IntN.{ℤ}
+use Rattle.answers.specs.Answers.{notFormed}
 use Rattle.key.specs.Range.{Kind, kindOf}
 use Rattle.key.specs.declared.RangeKind.{RangeKind}
 use Rattle.outcomes.specs.Stored.{Stored}
-use Rattle.outcomes.specs.Outcomes.{Written, writing}
-use Rattle.outcomes.specs.Sets.{SoundSet, formedSet, notWritten, intersected, joining, intersecting, uniting}
+use Rattle.outcomes.specs.Outcomes.{Written, intoLists}
+use Rattle.outcomes.specs.Sets.{SoundSet, formedSet, notWritten, intersectionSound, unionSound, intersection, union}
 use Rattle.two_sets.specs.InnerSides.{Side}
 use Rattle.two_sets.proofs.Doors.{rows-are}
 use Rattle.intersection.proofs.Steps as intersection
@@ -26,21 +27,21 @@ most Operation.Union = union.most
 
 -- THE UNCHECKED DOOR
 pub answered : (operation : Operation) (kind : RangeKind) {a b : Stored} → SoundSet (kindOf kind) a → SoundSet (kindOf kind) b → (os oe : List ℤ) {w : Written}
-    → w ≡ writing (kindOf kind) (foundBy operation kind (a .starts) (a .ends) (a .count) (b .starts) (b .ends) (b .count)) os oe
+    → w ≡ intoLists (kindOf kind) (foundBy operation kind (a .starts) (a .ends) (a .count) (b .starts) (b .ends) (b .count)) os oe
     → w ≡ combined operation (kindOf kind) a b os oe
-unfolding intersected joining
+unfolding intersectionSound unionSound
 answered Operation.Intersection kind s t os oe e = rw (← rows-are (kindOf kind) s, ← rows-are (kindOf kind) t) e
 answered Operation.Union kind s t os oe e = rw (← rows-are (kindOf kind) s, ← rows-are (kindOf kind) t) e
 
 -- THE DOOR OF ANY SETS: one of the two is no set; and both are
 module _ (kind : Kind) (a b : Stored) (os oe : List ℤ) where
-  pub no-sets : (operation : Operation) → (formedSet kind a && formedSet kind b) ≡ false → notWritten 4 os oe ≡ combinedAny operation kind a b os oe
-  unfolding intersecting uniting
+  pub no-sets : (operation : Operation) → (formedSet kind a && formedSet kind b) ≡ false → notWritten notFormed os oe ≡ combinedAny operation kind a b os oe
+  unfolding intersection union
   no-sets Operation.Intersection h = rw h
   no-sets Operation.Union h = rw h
 
   pub both-sets : (operation : Operation) → (formedSet kind a && formedSet kind b) ≡ true
       → combined operation kind a b os oe ≡ combinedAny operation kind a b os oe
-  unfolding intersecting uniting
+  unfolding intersection union
   both-sets Operation.Intersection h = rw h
   both-sets Operation.Union h = rw h

@@ -7,7 +7,7 @@ use Rattle.key.specs.Range.{Kind}
 use Rattle.key.specs.declared.RangeKind.{RangeKind}
 use Rattle.outcomes.specs.Stored.{Stored}
 use Rattle.outcomes.specs.Outcomes.{Written}
-use Rattle.outcomes.specs.Sets.{intersected, joining, intersecting, uniting}
+use Rattle.outcomes.specs.Sets.{intersectionSound, unionSound, intersection, union}
 use Rattle.intersection.specs.InnerFound.{shared}
 use Rattle.union.specs.InnerFound.{either}
 use Rattle.operations.specs.declared.Operation.{Operation}
@@ -20,10 +20,10 @@ foundBy Operation.Union = either
 
 -- what it answers of two sets that are sound
 abbrev pub combined : Operation → Kind → Stored → Stored → List ℤ → List ℤ → Written
-combined Operation.Intersection = intersected
-combined Operation.Union = joining
+combined Operation.Intersection = intersectionSound
+combined Operation.Union = unionSound
 
 -- and of any two
 abbrev pub combinedAny : Operation → Kind → Stored → Stored → List ℤ → List ℤ → Written
-combinedAny Operation.Intersection = intersecting
-combinedAny Operation.Union = uniting
+combinedAny Operation.Intersection = intersection
+combinedAny Operation.Union = union

@@ -1,21 +1,23 @@
 // Module 4: the operations on two sets, from operations.rs of rangemap. They differ in their walk alone (crates `intersection` and `union`).
 // Nothing is written before it is known that the lent lists are long enough; the ranges are counted for that only where there may be too many.
+use answers::NOT_FORMED;
+use answers::TOO_SHORT;
 use key::RangeKind;
+use key::Value;
 use outcomes::Counted;
-use outcomes::NOT_FORMED;
 use outcomes::PLACES;
-use outcomes::TOO_SHORT;
 use range_list::shorter;
 use two_sets::are_sets;
 use two_sets::roomy;
 ghost use mathlib.Core.Path.{_≡_};
 ghost use Prim.Native.Nat.{_≤_};
 ghost use lib.ListN.{length};
+ghost use Rattle.lent.specs.Moments.{was, becomes};
 ghost use Rattle.key.specs.InnerDecides.{Decides};
 ghost use Rattle.key.specs.Range.{kindOf};
-ghost use Rattle.outcomes.specs.Stored.{lent, stored};
+ghost use Rattle.outcomes.specs.Stored.{lent, stored, atEntry, atEntryWith};
 ghost use Rattle.outcomes.specs.Sets.{SoundSet};
-ghost use Rattle.range_list.specs.InnerLists.{wrote, Room};
+ghost use Rattle.range_list.specs.InnerLists.{wrote, ListRoom};
 ghost use Rattle.two_sets.specs.InnerSides.{Side};
 ghost use Rattle.two_sets.specs.InnerLists.{Ended};
 ghost use Rattle.operations.specs.InnerOperation.{foundBy, combined, combinedAny};
@@ -39,8 +41,8 @@ fn counted(
 ) -> usize
     requires { ⌜ Side (kindOf kind) (now «starts_a») (now «ends_a») «count_a»
         × Side (kindOf kind) (now «starts_b») (now «ends_b») «count_b» ⌝ }
-    ensures { λ r. ⌜ r ≡ length (foundBy operation kind (now («starts_a» .entry)) (now («ends_a» .entry)) «count_a»
-        (now («starts_b» .entry)) (now («ends_b» .entry)) «count_b») ⌝ }
+    ensures { λ r. ⌜ r ≡ length (foundBy operation kind (was «starts_a») (was «ends_a») «count_a»
+        (was «starts_b») (was «ends_b») «count_b») ⌝ }
 {
     match operation {
         Operation::Intersection => intersection::counted(
@@ -79,11 +81,11 @@ fn write(
 ) -> usize
     requires { ⌜ Side (kindOf kind) (now «starts_a») (now «ends_a») «count_a»
         × Side (kindOf kind) (now «starts_b») (now «ends_b») «count_b»
-        × Room 0 (foundBy operation kind (now «starts_a») (now «ends_a») «count_a» (now «starts_b») (now «ends_b») «count_b»)
+        × ListRoom 0 (foundBy operation kind (now «starts_a») (now «ends_a») «count_a» (now «starts_b») (now «ends_b») «count_b»)
         (now «out_starts») (now «out_ends») ⌝ }
-    ensures { λ r. ⌜ Ended (kindOf kind) 0 (foundBy operation kind (now («starts_a» .entry)) (now («ends_a» .entry)) «count_a»
-        (now («starts_b» .entry)) (now («ends_b» .entry)) «count_b»)
-        (now («out_starts» .entry)) (now («out_ends» .entry)) r (now («out_starts» .exit)) (now («out_ends» .exit)) ⌝ }
+    ensures { λ r. ⌜ Ended (kindOf kind) 0 (foundBy operation kind (was «starts_a») (was «ends_a») «count_a»
+        (was «starts_b») (was «ends_b») «count_b»)
+        (was «out_starts») (was «out_ends») r (becomes «out_starts») (becomes «out_ends») ⌝ }
 {
     match operation {
         Operation::Intersection => intersection::write(
@@ -125,8 +127,8 @@ fn fits(
 ) -> bool
     requires { ⌜ Side (kindOf kind) (now «starts_a») (now «ends_a») «count_a»
         × Side (kindOf kind) (now «starts_b») (now «ends_b») «count_b» ⌝ }
-    ensures { λ r. ⌜ Decides r (length (foundBy operation kind (now («starts_a» .entry)) (now («ends_a» .entry)) «count_a»
-        (now («starts_b» .entry)) (now («ends_b» .entry)) «count_b») ≤ room) ⌝ }
+    ensures { λ r. ⌜ Decides r (length (foundBy operation kind (was «starts_a») (was «ends_a») «count_a»
+        (was «starts_b») (was «ends_b») «count_b») ≤ room) ⌝ }
 {
     if roomy(count_a, count_b, room) {
         return true;
@@ -154,20 +156,20 @@ pub fn combine_unchecked(
     count_a: usize,
     starts_a: &[i64],
     ends_a: &[i64],
-    values_a: &[u8],
+    values_a: &[Value],
     count_b: usize,
     starts_b: &[i64],
     ends_b: &[i64],
-    values_b: &[u8],
+    values_b: &[Value],
     out_starts: &mut [i64],
     out_ends: &mut [i64],
 ) -> Counted
     requires { ⌜ SoundSet (kindOf kind) (stored «count_a» (now «starts_a») (now «ends_a») (now «values_a»))
         × SoundSet (kindOf kind) (stored «count_b» (now «starts_b») (now «ends_b») (now «values_b»)) ⌝ }
-    ensures { λ r. ⌜ wrote r (now («out_starts» .exit)) (now («out_ends» .exit)) ≡ combined operation (kindOf kind)
-        (stored «count_a» (now («starts_a» .entry)) (now («ends_a» .entry)) (now («values_a» .entry)))
-        (stored «count_b» (now («starts_b» .entry)) (now («ends_b» .entry)) (now («values_b» .entry)))
-        (now («out_starts» .entry)) (now («out_ends» .entry)) ⌝ }
+    ensures { λ r. ⌜ wrote r (becomes «out_starts») (becomes «out_ends») ≡ combined operation (kindOf kind)
+        (atEntryWith «count_a» «starts_a» «ends_a» «values_a»)
+        (atEntryWith «count_b» «starts_b» «ends_b» «values_b»)
+        (was «out_starts») (was «out_ends») ⌝ }
 {
     let room = shorter(out_starts.len(), out_ends.len());
     if !fits(
@@ -205,18 +207,18 @@ pub fn combine<'a, 'b>(
     count_a: &'a usize,
     starts_a: &'a [i64; PLACES],
     ends_a: &'a [i64; PLACES],
-    values_a: &'a [u8; PLACES],
+    values_a: &'a [Value; PLACES],
     count_b: &'b usize,
     starts_b: &'b [i64; PLACES],
     ends_b: &'b [i64; PLACES],
-    values_b: &'b [u8; PLACES],
+    values_b: &'b [Value; PLACES],
     out_starts: &mut [i64],
     out_ends: &mut [i64],
 ) -> Counted
-    ensures { λ r. ⌜ wrote r (now («out_starts» .exit)) (now («out_ends» .exit)) ≡ combinedAny operation (kindOf kind)
-        (lent («count_a» .entry) («starts_a» .entry) («ends_a» .entry) («values_a» .entry))
-        (lent («count_b» .entry) («starts_b» .entry) («ends_b» .entry) («values_b» .entry))
-        (now («out_starts» .entry)) (now («out_ends» .entry)) ⌝ }
+    ensures { λ r. ⌜ wrote r (becomes «out_starts») (becomes «out_ends») ≡ combinedAny operation (kindOf kind)
+        (atEntry «count_a» «starts_a» «ends_a» «values_a»)
+        (atEntry «count_b» «starts_b» «ends_b» «values_b»)
+        (was «out_starts») (was «out_ends») ⌝ }
 {
     if !are_sets(
         kind,

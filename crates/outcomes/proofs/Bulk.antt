@@ -10,14 +10,15 @@ use borrow.Author.Tests.{eq-eqb, ne-eqb}
 use lib.Dec.{leb, ltb}
 use lib.ListN.{length, getD, take}
 use lib.IntN.{ℤ, pos}
+use Rattle.answers.specs.Answers.{done, emptyRange, tooMany}
 use Rattle.key.specs.Rank.{rank}
-use Rattle.key.specs.Range.{Kind, rangeOf}
+use Rattle.key.specs.Range.{Kind, spanOf}
 use Rattle.key.proofs.Lawful.{Lawful}
 use Rattle.span.specs.Span.{Span, given}
 use Rattle.outcomes.specs.Stored.{places, Stored, spans, ranges, storing, wellFormed, Sound}
-use Rattle.outcomes.specs.Outcomes.{Entry, entries, Edited, leaving, editing, edited, extended, inserts, Change, run}
+use Rattle.outcomes.specs.Outcomes.{Entry, entries, Edited, leaving, editSound, edit, extended, bulkInsertSound, Change, edits}
 use Rattle.outcomes.proofs.Formed.{formed}
-use Rattle.outcomes.proofs.Edits.{done, edit-sound, edit-length}
+use Rattle.outcomes.proofs.Edits.{edit-accepted, edit-sound, edit-length}
 
 abbrev entry : ℤ → ℤ → ℕ → Entry
 entry s e v = record { start = s; end = e; value = v }
@@ -45,7 +46,7 @@ getD-entries (s ∷ ss) (e ∷ es) (v ∷ vs) (suc k) h = getD-entries ss es vs 
 
 -- the range of an entry
 abbrev pub range : Kind → Entry → Span
-range kind x = rangeOf kind (x .start) (x .end) (x .value)
+range kind x = spanOf kind (x .start) (x .end) (x .value)
 
 -- the first ranges of three lists are those of their first entries
 pub entries-ranges : (kind : Kind) (n : ℕ) (ss es : List ℤ) (vs : List ℕ) → take n (spans kind ss es vs) ≡ map (range kind) (take n (entries ss es vs))
@@ -57,44 +58,44 @@ entries-ranges kind (suc n) (s ∷ ss) (e ∷ es) [] = refl
 entries-ranges kind (suc n) (s ∷ ss) (e ∷ es) (v ∷ vs) = rw (entries-ranges kind n ss es vs)
 
 module _ (kind : Kind) (m : Stored) (i : ℕ) (x : Entry) (xs : List Entry) {a : ℕ} {left : Stored}
-    (is : leaving a left ≡ editing kind places m (x .start) (x .end) (some (x .value))) where
-  answer-is : editing kind places m (x .start) (x .end) (some (x .value)) .answer ≡ a
+    (is : leaving a left ≡ editSound kind places m (x .start) (x .end) (some (x .value))) where
+  answer-is : editSound kind places m (x .start) (x .end) (some (x .value)) .answer ≡ a
   answer-is = ap (λ (o : Edited). o .answer) (sym is)
 
-  left-is : editing kind places m (x .start) (x .end) (some (x .value)) .left ≡ left
+  left-is : editSound kind places m (x .start) (x .end) (some (x .value)) .left ≡ left
   left-is = ap (λ (o : Edited). o .left) (sym is)
 
   -- a refused entry leaves the map as it was
   unchanged : (a ≡ 0 → ⊥) → left ≡ m
-  unfolding editing
+  unfolding editSound
   unchanged n = sym left-is ∙ go (leb (kind .past (x .end)) (rank (x .start))) (ltb places (length (given (rank (x .start)) (kind .past (x .end)) (some (x .value)) (ranges kind m)))) answer-is
     where
       go : (t u : Bool)
-          → cond t (leaving 1 m) (cond u (leaving 2 m) (leaving 0 (storing kind places (given (rank (x .start)) (kind .past (x .end)) (some (x .value)) (ranges kind m))))) .answer ≡ a
-          → cond t (leaving 1 m) (cond u (leaving 2 m) (leaving 0 (storing kind places (given (rank (x .start)) (kind .past (x .end)) (some (x .value)) (ranges kind m))))) .left ≡ m
+          → cond t (leaving emptyRange m) (cond u (leaving tooMany m) (leaving done (storing kind places (given (rank (x .start)) (kind .past (x .end)) (some (x .value)) (ranges kind m))))) .answer ≡ a
+          → cond t (leaving emptyRange m) (cond u (leaving tooMany m) (leaving done (storing kind places (given (rank (x .start)) (kind .past (x .end)) (some (x .value)) (ranges kind m))))) .left ≡ m
       go true u e = refl
       go false true e = refl
       go false false e = absurd (n (sym e))
 
-  pub entry-refused : (a ≡ 0 → ⊥) → extended (record { answer = a; applied = i }) left ≡ inserts kind m i (x ∷ xs)
-  unfolding inserts
+  pub entry-refused : (a ≡ 0 → ⊥) → extended (record { answer = a; applied = i }) left ≡ bulkInsertSound kind m i (x ∷ xs)
+  unfolding bulkInsertSound
   entry-refused n = rw (answer-is, ne-eqb a 0 n, unchanged n)
 
-  pub entry-done : a ≡ 0 → inserts kind left (suc i) xs ≡ inserts kind m i (x ∷ xs)
-  unfolding inserts
+  pub entry-done : a ≡ 0 → bulkInsertSound kind left (suc i) xs ≡ bulkInsertSound kind m i (x ∷ xs)
+  unfolding bulkInsertSound
   entry-done e = rw (answer-is, eq-eqb a 0 e, left-is)
 
   pub entry-sound : Lawful kind → Sound kind m → a ≡ 0 → Sound kind left × (length (left .starts) ≡ places)
   entry-sound law sound e =
-      let d = done kind places m (x .start) (x .end) (some (x .value)) (answer-is ∙ e) in
+      let d = edit-accepted kind places m (x .start) (x .end) (some (x .value)) (answer-is ∙ e) in
       let t = formed kind (length (m .starts)) m (sound .well) .tidy in (
         subst (Sound kind) left-is (edit-sound kind law places m t (x .start) (x .end) (some (x .value)) d),
         ap (λ (r : Stored). length (r .starts)) (sym left-is) ∙ edit-length kind law places m t (x .start) (x .end) (some (x .value)) d,
       )
 
 -- an edit of a well-formed map
-edited-well : (kind : Kind) (m : Stored) (s e : ℤ) (new : Option ℕ) → wellFormed kind places m ≡ true → edited kind m s e new ≡ editing kind places m s e new
-unfolding edited
+edited-well : (kind : Kind) (m : Stored) (s e : ℤ) (new : Option ℕ) → wellFormed kind places m ≡ true → edit kind m s e new ≡ editSound kind places m s e new
+unfolding edit
 edited-well kind m s e new w = rw w
 
 -- BULK INSERT is that many single inserts, none refused
@@ -103,24 +104,24 @@ single x = record { start = x .start; end = x .end; new = some (x .value) }
 
 module _ (kind : Kind) (law : Lawful kind) where
   pub record Singles (m : Stored) (n : ℕ) (es : List Entry) : Type 0 where
-    pub from : n ≤ inserts kind m n es .told .applied
-    pub same : run kind m (map single (take (inserts kind m n es .told .applied - n) es)) ≡ leaving 0 (inserts kind m n es .left)
+    pub from : n ≤ bulkInsertSound kind m n es .told .applied
+    pub same : edits kind m (map single (take (bulkInsertSound kind m n es .told .applied - n) es)) ≡ leaving done (bulkInsertSound kind m n es .left)
 
   none-taken : (n : ℕ) (es : List Entry) → take (n - n) es ≡ []
   none-taken n es = let z : n - n ≡ 0 = omega arith in rw z
 
   singles : (m : Stored) (n : ℕ) (es : List Entry) → Sound kind m → length (m .starts) ≡ places → Singles m n es
-  unfolding inserts run
+  unfolding bulkInsertSound edits
   singles m n [] s p = record { from = omega arith; same = rw (none-taken n []) }
   singles m n (x ∷ xs) s p =
-      let one = editing kind places m (x .start) (x .end) (some (x .value)) in
+      let one = editSound kind places m (x .start) (x .end) (some (x .value)) in
       elim (decLt 0 (one .answer)) [
         | no p0 ↦
             let e : one .answer ≡ 0 = omega arith in
             let (sound, len) = entry-sound kind m n x xs {a = one .answer} {left = one .left} refl law s e in
             let r = singles (one .left) (suc n) xs sound len in
-            let is : inserts kind m n (x ∷ xs) ≡ inserts kind (one .left) (suc n) xs = sym (entry-done kind m n x xs {a = one .answer} {left = one .left} refl e) in
-            let k = inserts kind (one .left) (suc n) xs .told .applied in
+            let is : bulkInsertSound kind m n (x ∷ xs) ≡ bulkInsertSound kind (one .left) (suc n) xs = sym (entry-done kind m n x xs {a = one .answer} {left = one .left} refl e) in
+            let k = bulkInsertSound kind (one .left) (suc n) xs .told .applied in
             let f = r .from in
             let t : k - n ≡ suc (k - suc n) = omega arith in
             let w : wellFormed kind places m ≡ true = subst (λ (j : ℕ). wellFormed kind j m ≡ true) p (s .well) in
@@ -130,13 +131,13 @@ module _ (kind : Kind) (law : Lawful kind) where
             }
         | yes p0 ↦
             let e : one .answer ≡ 0 → ⊥ = omega arith in
-            let is : inserts kind m n (x ∷ xs) ≡ extended (record { answer = one .answer; applied = n }) (one .left) = sym (entry-refused kind m n x xs {a = one .answer} {left = one .left} refl e) in
+            let is : bulkInsertSound kind m n (x ∷ xs) ≡ extended (record { answer = one .answer; applied = n }) (one .left) = sym (entry-refused kind m n x xs {a = one .answer} {left = one .left} refl e) in
             record { from = rw is (omega arith); same = rw (is, none-taken n (x ∷ xs), unchanged kind m n x xs {a = one .answer} {left = one .left} refl e) }
       ]
 
   pub bulk-singles : (m : Stored) (es : List Entry) → Sound kind m → length (m .starts) ≡ places
-      → run kind m (map single (take (inserts kind m 0 es .told .applied) es)) ≡ leaving 0 (inserts kind m 0 es .left)
+      → edits kind m (map single (take (bulkInsertSound kind m 0 es .told .applied) es)) ≡ leaving done (bulkInsertSound kind m 0 es .left)
   bulk-singles m es s p =
-      let k = inserts kind m 0 es .told .applied in
+      let k = bulkInsertSound kind m 0 es .told .applied in
       let z : k - 0 ≡ k = omega arith in
       rw z at (singles m 0 es s p .same)

@@ -2,23 +2,24 @@
 use Prim.Native.Nat.{Ordering, Ordering·lt, Ordering·eq, Ordering·gt}
 use mathlib.Core.Path.{_≡_, refl}
 use mathlib.Core.Bool.{Bool, true, false, _&&_, cond}
+use Rattle.answers.specs.Answers.{notFormed}
 use Rattle.key.specs.Range.{Kind}
 use Rattle.outcomes.specs.Stored.{Stored}
 use Rattle.outcomes.specs.declared.Asked.the-variants as Asked
 use Rattle.outcomes.specs.declared.Compared.the-variants as Compared
 use Rattle.outcomes.specs.Numbers.{equalOf}
-use Rattle.outcomes.specs.Outcomes.{yesNo, isEqual, comparedBy, compared, formed, ordering, equality}
+use Rattle.outcomes.specs.Outcomes.{yesNo, isEqual, comparedBy, orderSound, formed, order, equal}
 
 equal-by : (o : Ordering) → equalOf (comparedBy o) ≡ yesNo (isEqual o)
 equal-by Ordering·lt = refl
 equal-by Ordering·eq = refl
 equal-by Ordering·gt = refl
 
-told : (t : Bool) (o : Ordering) → equalOf (cond t (comparedBy o) (Compared.Refused 4)) ≡ cond t (yesNo (isEqual o)) (Asked.Refused 4)
+told : (t : Bool) (o : Ordering) → equalOf (cond t (comparedBy o) (Compared.Refused notFormed)) ≡ cond t (yesNo (isEqual o)) (Asked.Refused notFormed)
 told true o = equal-by o
 told false o = refl
 
 -- two maps are equal where neither comes first, and refused as they are there
-pub equal-ordering : (kind : Kind) (a b : Stored) → equalOf (ordering kind a b) ≡ equality kind a b
-unfolding ordering equality
-equal-ordering kind a b = told (formed kind a && formed kind b) (compared kind a b)
+pub equal-ordering : (kind : Kind) (a b : Stored) → equalOf (order kind a b) ≡ equal kind a b
+unfolding order equal
+equal-ordering kind a b = told (formed kind a && formed kind b) (orderSound kind a b)

@@ -11,7 +11,7 @@ use lib.Seq.{getD-drop, getD-take, length-take-le}
 use lib.IntN.{ℤ, pos, negsuc}
 use Rattle.span.specs.Span.{Span, span, Tidy, tidy}
 use Rattle.span.proofs.Tests.{both, tidy-yes, yes-tidy}
-use Rattle.key.specs.Range.{Kind, rangeOf}
+use Rattle.key.specs.Range.{Kind, spanOf}
 use Rattle.outcomes.specs.Stored.{Stored, spans, ranges, isZero, zeros, noughts, unused, wellFormed, Spare, Sound}
 
 pub record Formed (kind : Kind) (n : ℕ) (m : Stored) : Type 0 where
@@ -94,7 +94,7 @@ length-spans kind (s ∷ ss) (e ∷ es) [] p q = absurd (omega arith)
 length-spans kind (s ∷ ss) (e ∷ es) (v ∷ vs) p q = ap suc (length-spans kind ss es vs (omega arith) (omega arith))
 
 pub getD-spans : (kind : Kind) (ss es : List ℤ) (vs : List ℕ) (k : ℕ) (d : Span) → length es ≡ length ss → length vs ≡ length ss → k < length ss
-    → getD (spans kind ss es vs) k d ≡ rangeOf kind (getD ss k (pos 0)) (getD es k (pos 0)) (getD vs k 0)
+    → getD (spans kind ss es vs) k d ≡ spanOf kind (getD ss k (pos 0)) (getD es k (pos 0)) (getD vs k 0)
 unfolding spans
 getD-spans kind [] es vs k d p q h = absurd (omega arith)
 getD-spans kind (s ∷ ss) [] vs k d p q h = absurd (omega arith)
@@ -113,7 +113,7 @@ module _ (kind : Kind) (n : ℕ) (m : Stored) (shape : Shaped n m) (held : m .co
   unfolding ranges
   length-ranges = length-take-le (m .count) _ (omega (arith, length-spans kind (m .starts) (m .ends) (m .values) (omega arith) (omega arith)))
 
-  pub getD-ranges : (k : ℕ) (d : Span) → k < m .count → getD (ranges kind m) k d ≡ rangeOf kind (getD (m .starts) k (pos 0)) (getD (m .ends) k (pos 0)) (getD (m .values) k 0)
+  pub getD-ranges : (k : ℕ) (d : Span) → k < m .count → getD (ranges kind m) k d ≡ spanOf kind (getD (m .starts) k (pos 0)) (getD (m .ends) k (pos 0)) (getD (m .values) k 0)
   unfolding ranges
   getD-ranges k d h = getD-take (m .count) _ k d h ∙ getD-spans kind (m .starts) (m .ends) (m .values) k d (omega arith) (omega arith) (omega arith)
 

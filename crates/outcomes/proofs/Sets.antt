@@ -11,7 +11,7 @@ use lib.Dec.{eqb}
 use lib.ListN.{length, take}
 use lib.IntN.{ℤ}
 use Rattle.span.specs.Span.{Span, Ordered}
-use Rattle.span.specs.Operations.{Plain, common, when, united, any, holds, links, total}
+use Rattle.span.specs.Operations.{Plain, common, when, united, any, holds, links, spanTotal}
 use Rattle.span.proofs.Tests.{both}
 use Rattle.span.proofs.Sets.{common-means, common-plain}
 use Rattle.span.proofs.Union.{holds-united, links-united, at-plain}
@@ -21,7 +21,7 @@ use Rattle.key.specs.Range.{Kind}
 use Rattle.key.proofs.Answers.{one-answer}
 use Rattle.outcomes.specs.Stored.{Stored, spans, ranges, noughts}
 use Rattle.outcomes.specs.Outcomes.{Written}
-use Rattle.outcomes.specs.Sets.{plain, SoundSet, intersected}
+use Rattle.outcomes.specs.Sets.{plain, SoundSet, intersectionSound}
 use Rattle.outcomes.specs.declared.Counted.{Counted}
 use Rattle.outcomes.proofs.Formed.{Formed, formed, length-ranges}
 
@@ -92,8 +92,8 @@ module _ (kind : Kind) {a b : Stored} (s : SoundSet kind a) (t : SoundSet kind b
   pub intersection-swaps : common (ranges kind a) (ranges kind b) ≡ common (ranges kind b) (ranges kind a)
   intersection-swaps = common-swap (ranges kind a) (ranges kind b) (set-ordered kind s) (set-ordered kind t) (set-plain kind s) (set-plain kind t)
 
-  pub intersected-swaps : (starts ends : List ℤ) → intersected kind a b starts ends ≡ intersected kind b a starts ends
-  unfolding intersected
+  pub intersected-swaps : (starts ends : List ℤ) → intersectionSound kind a b starts ends ≡ intersectionSound kind b a starts ends
+  unfolding intersectionSound
   intersected-swaps starts ends = rw intersection-swaps
 
   -- UNION: an instant is in it exactly when it is in one of the two. This says nothing of neighbours
@@ -115,8 +115,8 @@ module _ (kind : Kind) {a b : Stored} (s : SoundSet kind a) (t : SoundSet kind b
   union-few = omega (arith, length-united (ranges kind a) (ranges kind b), set-few kind s, set-few kind t)
 
   -- TOTALS: those of the union and of the intersection add up to those of the two sets
-  pub totals-add : total (united (ranges kind a) (ranges kind b)) + total (common (ranges kind a) (ranges kind b))
-      ≡ total (ranges kind a) + total (ranges kind b)
+  pub totals-add : spanTotal (united (ranges kind a) (ranges kind b)) + spanTotal (common (ranges kind a) (ranges kind b))
+      ≡ spanTotal (ranges kind a) + spanTotal (ranges kind b)
   totals-add = total-both (ranges kind a) (ranges kind b) (set-ordered kind s) (set-ordered kind t) (set-plain kind s) (set-plain kind t)
 
 -- ONE OUTCOME of a list that is written: the answer, and both lent lists. A total has `one-answer`

@@ -7,9 +7,9 @@ use Rattle.outcomes.specs.declared.Outcome.{Outcome}
 use Rattle.outcomes.specs.declared.Outcome.the-variants as Outcome
 
 -- its number
-abbrev pub numberOf : Outcome → ℕ
-numberOf Outcome.Done = 0
-numberOf (Outcome.Refused n) = n
+abbrev pub outcomeInC : Outcome → ℕ
+outcomeInC Outcome.Done = 0
+outcomeInC (Outcome.Refused n) = n
 
 -- the outcome with a number
 abbrev pub outcomeOf : ℕ → Outcome

@@ -1,6 +1,7 @@
 -- Each answer as C and Rust see it: its number, and its values, 0 where document 01 says 0.
 use mathlib.Core.Bool.{true, false}
 use lib.IntN.{pos, negsuc}
+use Rattle.answers.specs.Answers.{done, noneThere}
 use Rattle.outcomes.specs.declared.Asked.{Asked}
 use Rattle.outcomes.specs.declared.Asked.the-variants as Asked
 use Rattle.outcomes.specs.declared.Told.{Told}
@@ -20,29 +21,29 @@ use Rattle.outcomes.specs.declared.Totalled.{Totalled}
 use Rattle.outcomes.specs.declared.Totalled.the-variants as Totalled
 use Rattle.outcomes.specs.declared.Total.{Total}
 
-abbrev pub toldOf : Asked → Told
-toldOf Asked.Yes = record { answer = 0; yes = true }
-toldOf Asked.No = record { answer = 0; yes = false }
-toldOf (Asked.Refused n) = record { answer = n; yes = false }
+abbrev pub askedInC : Asked → Told
+askedInC Asked.Yes = record { answer = done; yes = true }
+askedInC Asked.No = record { answer = done; yes = false }
+askedInC (Asked.Refused n) = record { answer = n; yes = false }
 
-abbrev pub countOf : Counted → Count
-countOf (Counted.Count n) = record { answer = 0; count = n }
-countOf (Counted.Refused n) = record { answer = n; count = 0 }
+abbrev pub countedInC : Counted → Count
+countedInC (Counted.Count n) = record { answer = done; count = n }
+countedInC (Counted.Refused n) = record { answer = n; count = 0 }
 
-abbrev pub rangeOf : Found → Range
-rangeOf (Found.Range s e v) = record { answer = 0; start = s; end = e; value = v }
-rangeOf Found.Nothing = record { answer = 5; start = pos 0; end = pos 0; value = 0 }
-rangeOf (Found.Refused n) = record { answer = n; start = pos 0; end = pos 0; value = 0 }
+abbrev pub foundInC : Found → Range
+foundInC (Found.Range s e v) = record { answer = done; start = s; end = e; value = v }
+foundInC Found.Nothing = record { answer = noneThere; start = pos 0; end = pos 0; value = 0 }
+foundInC (Found.Refused n) = record { answer = n; start = pos 0; end = pos 0; value = 0 }
 
-abbrev pub stretchOf : Part → Stretch
-stretchOf (Part.Places i n) = record { answer = 0; place = i; count = n }
-stretchOf (Part.Refused n) = record { answer = n; place = 0; count = 0 }
+abbrev pub partInC : Part → Stretch
+partInC (Part.Places i n) = record { answer = done; place = i; count = n }
+partInC (Part.Refused n) = record { answer = n; place = 0; count = 0 }
 
-abbrev pub orderOf : Compared → Order
-orderOf Compared.Less = record { answer = 0; order = negsuc 0 }
-orderOf Compared.Equal = record { answer = 0; order = pos 0 }
-orderOf Compared.Greater = record { answer = 0; order = pos 1 }
-orderOf (Compared.Refused n) = record { answer = n; order = pos 0 }
+abbrev pub comparedInC : Compared → Order
+comparedInC Compared.Less = record { answer = done; order = negsuc 0 }
+comparedInC Compared.Equal = record { answer = done; order = pos 0 }
+comparedInC Compared.Greater = record { answer = done; order = pos 1 }
+comparedInC (Compared.Refused n) = record { answer = n; order = pos 0 }
 
 -- two maps are equal where neither comes first
 abbrev pub equalOf : Compared → Asked
@@ -51,6 +52,6 @@ equalOf Compared.Equal = Asked.Yes
 equalOf Compared.Greater = Asked.No
 equalOf (Compared.Refused n) = Asked.Refused n
 
-abbrev pub totalOf : Totalled → Total
-totalOf (Totalled.Total n) = record { answer = 0; total = n }
-totalOf (Totalled.Refused n) = record { answer = n; total = 0 }
+abbrev pub totalledInC : Totalled → Total
+totalledInC (Totalled.Total n) = record { answer = done; total = n }
+totalledInC (Totalled.Refused n) = record { answer = n; total = 0 }

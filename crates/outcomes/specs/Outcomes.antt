@@ -10,10 +10,11 @@ use mathlib.Core.Option.{Option, some, none}
 use lib.Dec.{eqb, ltb}
 use lib.ListN.{length, getD, drop}
 use lib.IntN.{ℤ, pos}
+use Rattle.answers.specs.Answers.{done, emptyRange, tooMany, tooShort, notFormed}
 use Rattle.span.specs.Span.{Span, given, Edit}
-use Rattle.span.specs.Operations.{gaps, overlaps, any, holds, order}
+use Rattle.span.specs.Operations.{uncovered, spansOverlap, any, holds, spanOrder}
 use Rattle.key.specs.Rank.{rank, keyAt}
-use Rattle.key.specs.Range.{Kind, rangeOf, empty}
+use Rattle.key.specs.Range.{Kind, spanOf, empty}
 use Rattle.outcomes.specs.Stored.{places, Stored, ranges, storing, wellFormed}
 use Rattle.outcomes.specs.declared.Asked.{Asked}
 use Rattle.outcomes.specs.declared.Asked.the-variants as Asked
@@ -27,7 +28,7 @@ use Rattle.outcomes.specs.declared.Compared.{Compared}
 use Rattle.outcomes.specs.declared.Compared.the-variants as Compared
 use Rattle.outcomes.specs.declared.Applied.{Applied}
 use Rattle.outcomes.specs.declared.Count.{Count}
-use Rattle.outcomes.specs.Numbers.{countOf}
+use Rattle.outcomes.specs.Numbers.{countedInC}
 
 abbrev pub yesNo : Bool → Asked
 yesNo true = Asked.Yes
@@ -72,8 +73,8 @@ entries (s ∷ ss) (e ∷ es) [] = []
 entries (s ∷ ss) (e ∷ es) (v ∷ vs) = record { start = s; end = e; value = v } ∷ entries ss es vs
 
 -- a lent list with other elements in its first places
-abbrev pub over : List ℤ → List ℤ → List ℤ
-over new old = new ++ drop (length new) old
+abbrev pub inFirstPlaces : List ℤ → List ℤ → List ℤ
+inFirstPlaces new old = new ++ drop (length new) old
 
 -- what a list of ranges answers that is written into two lent lists, and what these hold then
 pub record Written : Type 0 where
@@ -83,7 +84,7 @@ pub record Written : Type 0 where
 
 -- what C and Rust see of it: the number and the count, and what the lent lists hold
 pub record Listed (r : Count) (starts ends : List ℤ) (w : Written) : Type 0 where
-  pub number : r ≡ countOf (w .answer)
+  pub number : r ≡ countedInC (w .answer)
   pub starts-are : starts ≡ w .starts
   pub ends-are : ends ≡ w .ends
 
@@ -112,60 +113,60 @@ pub record Change : Type 0 where
 -- OF A WELL-FORMED MAP
 
 -- the range and the value at a place
-unfoldable pub placed : Stored → ℕ → Found
-placed m i = cond (ltb i (m .count)) (Found.Range (getD (m .starts) i (pos 0)) (getD (m .ends) i (pos 0)) (getD (m .values) i 0)) Found.Nothing
+unfoldable pub rangeAtSound : Stored → ℕ → Found
+rangeAtSound m i = cond (ltb i (m .count)) (Found.Range (getD (m .starts) i (pos 0)) (getD (m .ends) i (pos 0)) (getD (m .values) i 0)) Found.Nothing
 
 module _ (kind : Kind) where
   -- the range that holds a key, and its value
-  unfoldable pub found : Stored → ℤ → Found
-  found m k = placed m (firstPlace (holds (rank k)) (ranges kind m))
+  unfoldable pub lookupSound : Stored → ℤ → Found
+  lookupSound m k = rangeAtSound m (firstPlace (holds (rank k)) (ranges kind m))
 
   -- does some range hold the key
-  unfoldable pub contained : Stored → ℤ → Asked
-  contained m k = yesNo (any (holds (rank k)) (ranges kind m))
+  unfoldable pub containsSound : Stored → ℤ → Asked
+  containsSound m k = yesNo (any (holds (rank k)) (ranges kind m))
 
   -- does some range have a key of the query
-  unfoldable pub met : Stored → ℤ → ℤ → Asked
-  met m s e = let q = rangeOf kind s e 0 in cond (empty q) (Asked.Refused 1) (yesNo (any (overlaps q) (ranges kind m)))
+  unfoldable pub overlapsSound : Stored → ℤ → ℤ → Asked
+  overlapsSound m s e = let q = spanOf kind s e 0 in cond (empty q) (Asked.Refused emptyRange) (yesNo (any (spansOverlap q) (ranges kind m)))
 
   -- which consecutive stored part meets the query
-  unfoldable pub metPart : Stored → ℤ → ℤ → Part
-  metPart m s e = let q = rangeOf kind s e 0 in cond (empty q) (Part.Refused 1) (partOf (overlaps q) (ranges kind m))
+  unfoldable pub overlappingSound : Stored → ℤ → ℤ → Part
+  overlappingSound m s e = let q = spanOf kind s e 0 in cond (empty q) (Part.Refused emptyRange) (partOf (spansOverlap q) (ranges kind m))
 
   -- ranges into the first places of two lent lists, if these are long enough: they are as long as the shorter one
-  unfoldable pub writing : List Span → List ℤ → List ℤ → Written
-  writing xs starts ends =
+  unfoldable pub intoLists : List Span → List ℤ → List ℤ → Written
+  intoLists xs starts ends =
       cond (ltb (min (length starts) (length ends)) (length xs))
-      (record { answer = Counted.Refused 3; starts = starts; ends = ends })
+      (record { answer = Counted.Refused tooShort; starts = starts; ends = ends })
       (record {
         answer = Counted.Count (length xs);
-        starts = over (map (λ (x : Span). keyAt (x .lo)) xs) starts;
-        ends = over (map (λ (x : Span). kind .ending (x .hi)) xs) ends;
+        starts = inFirstPlaces (map (λ (x : Span). keyAt (x .lo)) xs) starts;
+        ends = inFirstPlaces (map (λ (x : Span). kind .ending (x .hi)) xs) ends;
       })
 
   -- the maximal uncovered ranges inside the outer range, ascending
-  unfoldable pub uncovered : Stored → ℤ → ℤ → List ℤ → List ℤ → Written
-  uncovered m s e starts ends =
-      let q = rangeOf kind s e 0 in
-      cond (empty q) (record { answer = Counted.Refused 1; starts = starts; ends = ends }) (writing (gaps (q .lo) (q .hi) (ranges kind m)) starts ends)
+  unfoldable pub gapsSound : Stored → ℤ → ℤ → List ℤ → List ℤ → Written
+  gapsSound m s e starts ends =
+      let q = spanOf kind s e 0 in
+      cond (empty q) (record { answer = Counted.Refused emptyRange; starts = starts; ends = ends }) (intoLists (gapsSound (q .lo) (q .hi) (ranges kind m)) starts ends)
 
   -- triples of start, end and value place by place, a prefix first
-  unfoldable pub compared : Stored → Stored → Ordering
-  compared a b = order (ranges kind a) (ranges kind b)
+  unfoldable pub orderSound : Stored → Stored → Ordering
+  orderSound a b = spanOrder (ranges kind a) (ranges kind b)
 
   -- an edit gives the range a value, or none. Whether the map of n places would be too small is judged on the final map
-  unfoldable pub editing : ℕ → Stored → ℤ → ℤ → Option ℕ → Edited
-  editing n m s e new =
-      let q = rangeOf kind s e 0 in
+  unfoldable pub editSound : ℕ → Stored → ℤ → ℤ → Option ℕ → Edited
+  editSound n m s e new =
+      let q = spanOf kind s e 0 in
       let xs = given (q .lo) (q .hi) new (ranges kind m) in
-      cond (empty q) (leaving 1 m) (cond (ltb n (length xs)) (leaving 2 m) (leaving 0 (storing kind n xs)))
+      cond (empty q) (leaving emptyRange m) (cond (ltb n (length xs)) (leaving tooMany m) (leaving done (storing kind n xs)))
 
   -- in list order, up to the first refusal; n were applied before
-  unfoldable pub inserts : Stored → ℕ → List Entry → Extended
-  inserts m n [] = record { told = record { answer = 0; applied = n }; left = m }
-  inserts m n (x ∷ xs) =
-      let one = editing places m (x .start) (x .end) (some (x .value)) in
-      cond (eqb (one .answer) 0) (inserts (one .left) (suc n) xs) (record { told = record { answer = one .answer; applied = n }; left = m })
+  unfoldable pub bulkInsertSound : Stored → ℕ → List Entry → Extended
+  bulkInsertSound m n [] = record { told = record { answer = done; applied = n }; left = m }
+  bulkInsertSound m n (x ∷ xs) =
+      let one = editSound places m (x .start) (x .end) (some (x .value)) in
+      cond (eqb (one .answer) done) (bulkInsertSound (one .left) (suc n) xs) (record { told = record { answer = one .answer; applied = n }; left = m })
 
   -- OF ANY MAP
 
@@ -175,15 +176,15 @@ module _ (kind : Kind) where
 
   -- EMPTY: is nothing held
   unfoldable pub isEmpty : Stored → Asked
-  isEmpty m = cond (formed m) (yesNo (eqb (m .count) 0)) (Asked.Refused 4)
+  isEmpty m = cond (formed m) (yesNo (eqb (m .count) 0)) (Asked.Refused notFormed)
 
   -- COUNT: how many ranges are held
-  unfoldable pub counting : Stored → Counted
-  counting m = cond (formed m) (Counted.Count (m .count)) (Counted.Refused 4)
+  unfoldable pub countOf : Stored → Counted
+  countOf m = cond (formed m) (Counted.Count (m .count)) (Counted.Refused notFormed)
 
   -- RANGE AT A PLACE
   unfoldable pub rangeAt : Stored → ℕ → Found
-  rangeAt m i = cond (formed m) (placed m i) (Found.Refused 4)
+  rangeAt m i = cond (formed m) (rangeAtSound m i) (Found.Refused notFormed)
 
   -- FIRST and LAST
   abbrev pub firstOf : Stored → Found
@@ -194,57 +195,57 @@ module _ (kind : Kind) where
 
   -- LOOKUP
   unfoldable pub lookup : Stored → ℤ → Found
-  lookup m k = cond (formed m) (found m k) (Found.Refused 4)
+  lookup m k = cond (formed m) (lookupSound m k) (Found.Refused notFormed)
 
   -- CONTAINS
-  unfoldable pub containing : Stored → ℤ → Asked
-  containing m k = cond (formed m) (contained m k) (Asked.Refused 4)
+  unfoldable pub contains : Stored → ℤ → Asked
+  contains m k = cond (formed m) (containsSound m k) (Asked.Refused notFormed)
 
   -- OVERLAPS
-  unfoldable pub meeting : Stored → ℤ → ℤ → Asked
-  meeting m s e = cond (formed m) (met m s e) (Asked.Refused 4)
+  unfoldable pub overlaps : Stored → ℤ → ℤ → Asked
+  overlaps m s e = cond (formed m) (overlapsSound m s e) (Asked.Refused notFormed)
 
   -- OVERLAPPING
   unfoldable pub overlapping : Stored → ℤ → ℤ → Part
-  overlapping m s e = cond (formed m) (metPart m s e) (Part.Refused 4)
+  overlapping m s e = cond (formed m) (overlappingSound m s e) (Part.Refused notFormed)
 
   -- GAPS
-  unfoldable pub gapsIn : Stored → ℤ → ℤ → List ℤ → List ℤ → Written
-  gapsIn m s e starts ends = cond (formed m) (uncovered m s e starts ends) (record { answer = Counted.Refused 4; starts = starts; ends = ends })
+  unfoldable pub gaps : Stored → ℤ → ℤ → List ℤ → List ℤ → Written
+  gaps m s e starts ends = cond (formed m) (gapsSound m s e starts ends) (record { answer = Counted.Refused notFormed; starts = starts; ends = ends })
 
   -- EQUALITY and ORDER of two maps
-  unfoldable pub equality : Stored → Stored → Asked
-  equality a b = cond (formed a && formed b) (yesNo (isEqual (compared a b))) (Asked.Refused 4)
+  unfoldable pub equal : Stored → Stored → Asked
+  equal a b = cond (formed a && formed b) (yesNo (isEqual (orderSound a b))) (Asked.Refused notFormed)
 
-  unfoldable pub ordering : Stored → Stored → Compared
-  ordering a b = cond (formed a && formed b) (comparedBy (compared a b)) (Compared.Refused 4)
+  unfoldable pub order : Stored → Stored → Compared
+  order a b = cond (formed a && formed b) (comparedBy (orderSound a b)) (Compared.Refused notFormed)
 
   -- CLEAR, and a new map: nothing is held. Clear overwrites its map, so it does not check it
-  unfoldable pub cleared : Stored
-  cleared = storing kind places []
+  unfoldable pub clear : Stored
+  clear = storing kind places []
 
   -- AN EDIT
-  unfoldable pub edited : Stored → ℤ → ℤ → Option ℕ → Edited
-  edited m s e new = cond (formed m) (editing places m s e new) (leaving 4 m)
+  unfoldable pub edit : Stored → ℤ → ℤ → Option ℕ → Edited
+  edit m s e new = cond (formed m) (editSound places m s e new) (leaving notFormed m)
 
   -- INSERT gives the value to each instant of the range and no other
-  abbrev pub inserting : Stored → ℤ → ℤ → ℕ → Edited
-  inserting m s e v = edited m s e (some v)
+  abbrev pub insert : Stored → ℤ → ℤ → ℕ → Edited
+  insert m s e v = edit m s e (some v)
 
   -- REMOVE uncovers exactly the range
-  abbrev pub removing : Stored → ℤ → ℤ → Edited
-  removing m s e = edited m s e none
+  abbrev pub remove : Stored → ℤ → ℤ → Edited
+  remove m s e = edit m s e none
 
   -- BULK INSERT: the count applied is returned, and earlier entries stay
-  unfoldable pub extending : Stored → List Entry → Extended
-  extending m xs = cond (formed m) (inserts m 0 xs) (record { told = record { answer = 4; applied = 0 }; left = m })
+  unfoldable pub bulkInsert : Stored → List Entry → Extended
+  bulkInsert m xs = cond (formed m) (bulkInsertSound m 0 xs) (record { told = record { answer = notFormed; applied = 0 }; left = m })
 
   -- EDITS in order, up to the first refusal
-  unfoldable pub run : Stored → List Change → Edited
-  run m [] = leaving 0 m
-  run m (c ∷ cs) = let one = edited m (c .start) (c .end) (c .new) in cond (eqb (one .answer) 0) (run (one .left) cs) one
+  unfoldable pub edits : Stored → List Change → Edited
+  edits m [] = leaving done m
+  edits m (c ∷ cs) = let one = edit m (c .start) (c .end) (c .new) in cond (eqb (one .answer) done) (edits (one .left) cs) one
 
   -- the same edits of instants
-  unfoldable pub changes : List Change → List Edit
-  changes [] = []
-  changes (c ∷ cs) = let q = rangeOf kind (c .start) (c .end) 0 in record { lo = q .lo; hi = q .hi; new = c .new } ∷ changes cs
+  unfoldable pub spanEdits : List Change → List Edit
+  spanEdits [] = []
+  spanEdits (c ∷ cs) = let q = spanOf kind (c .start) (c .end) 0 in record { lo = q .lo; hi = q .hi; new = c .new } ∷ spanEdits cs

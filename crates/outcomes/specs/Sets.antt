@@ -7,11 +7,12 @@ use mathlib.Core.Bool.{Bool, true, _&&_, cond}
 use mathlib.Core.List.{List}
 use lib.Dec.{ltb}
 use lib.IntN.{ℤ}
-use Rattle.span.specs.Operations.{common, united, total}
+use Rattle.answers.specs.Answers.{notFormed, totalOver}
+use Rattle.span.specs.Operations.{common, united, spanTotal}
 use Rattle.key.specs.Rank.{keys}
 use Rattle.key.specs.Range.{Kind}
 use Rattle.outcomes.specs.Stored.{Stored, ranges, noughts, Sound}
-use Rattle.outcomes.specs.Outcomes.{Written, writing, formed}
+use Rattle.outcomes.specs.Outcomes.{Written, intoLists, formed}
 use Rattle.outcomes.specs.declared.Counted.the-variants as Counted
 use Rattle.outcomes.specs.declared.Totalled.{Totalled}
 use Rattle.outcomes.specs.declared.Totalled.the-variants as Totalled
@@ -27,7 +28,7 @@ pub record SoundSet (kind : Kind) (m : Stored) : Type 0 where
 
 -- a number of keys, where a u64 holds it, and else 9
 unfoldable pub totalIs : ℕ → Totalled
-totalIs n = cond (ltb n keys) (Totalled.Total n) (Totalled.Refused 9)
+totalIs n = cond (ltb n keys) (Totalled.Total n) (Totalled.Refused totalOver)
 
 -- what a list answers that is not written: the lent lists are as they were
 abbrev pub notWritten : ℕ → List ℤ → List ℤ → Written
@@ -37,17 +38,17 @@ module _ (kind : Kind) where
   -- OF WELL-FORMED SETS
 
   -- the common points as maximal ranges, ascending
-  unfoldable pub intersected : Stored → Stored → List ℤ → List ℤ → Written
-  intersected a b starts ends = writing kind (common (ranges kind a) (ranges kind b)) starts ends
+  unfoldable pub intersectionSound : Stored → Stored → List ℤ → List ℤ → Written
+  intersectionSound a b starts ends = intoLists kind (common (ranges kind a) (ranges kind b)) starts ends
 
   -- the points of either, ascending and disjoint, as document 01 has them: ranges that overlap become one, and ranges that only touch stay apart.
   -- Two theorems of proofs/Sets say what `united` is: `union-points` which points it has, `union-neighbours` which two neighbouring points lie in one range
-  unfoldable pub joining : Stored → Stored → List ℤ → List ℤ → Written
-  joining a b starts ends = writing kind (united (ranges kind a) (ranges kind b)) starts ends
+  unfoldable pub unionSound : Stored → Stored → List ℤ → List ℤ → Written
+  unionSound a b starts ends = intoLists kind (united (ranges kind a) (ranges kind b)) starts ends
 
   -- how many keys are covered
-  unfoldable pub totalled : Stored → Totalled
-  totalled m = totalIs (total (ranges kind m))
+  unfoldable pub totalSound : Stored → Totalled
+  totalSound m = totalIs (spanTotal (ranges kind m))
 
   -- OF ANY SETS
 
@@ -56,13 +57,13 @@ module _ (kind : Kind) where
   formedSet m = formed kind m && plain m
 
   -- INTERSECTION
-  unfoldable pub intersecting : Stored → Stored → List ℤ → List ℤ → Written
-  intersecting a b starts ends = cond (formedSet a && formedSet b) (intersected a b starts ends) (notWritten 4 starts ends)
+  unfoldable pub intersection : Stored → Stored → List ℤ → List ℤ → Written
+  intersection a b starts ends = cond (formedSet a && formedSet b) (intersectionSound a b starts ends) (notWritten notFormed starts ends)
 
   -- UNION
-  unfoldable pub uniting : Stored → Stored → List ℤ → List ℤ → Written
-  uniting a b starts ends = cond (formedSet a && formedSet b) (joining a b starts ends) (notWritten 4 starts ends)
+  unfoldable pub union : Stored → Stored → List ℤ → List ℤ → Written
+  union a b starts ends = cond (formedSet a && formedSet b) (unionSound a b starts ends) (notWritten notFormed starts ends)
 
   -- TOTAL
-  unfoldable pub totalling : Stored → Totalled
-  totalling m = cond (formedSet m) (totalled m) (Totalled.Refused 4)
+  unfoldable pub totalOf : Stored → Totalled
+  totalOf m = cond (formedSet m) (totalSound m) (Totalled.Refused notFormed)

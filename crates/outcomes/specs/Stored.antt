@@ -4,6 +4,7 @@ use mathlib.Core.Path.{_≡_}
 use mathlib.Core.Bool.{Bool, true, false, _&&_}
 use mathlib.Core.List.{List, [], _∷_, _++_, map}
 use denote.Ref.{RefT, now}
+use denote.Triple.Both.{Both}
 use lib.Dec.{eqb, leb}
 use lib.ListN.{length, getD, take, drop, replicate}
 use lib.IntN.{ℤ, pos, negsuc}
@@ -11,7 +12,7 @@ use mir.Syntax.{w64}
 use mir.Val.{SFits}
 use Rattle.span.specs.Span.{Span, tidy}
 use Rattle.key.specs.Rank.{keyAt}
-use Rattle.key.specs.Range.{Kind, rangeOf}
+use Rattle.key.specs.Range.{Kind, spanOf}
 
 -- how many places a map has. `places_of` ties it to the constant of the code
 abbrev pub places : ℕ
@@ -31,12 +32,24 @@ stored n ss es vs = record { count = n; starts = ss; ends = es; values = vs }
 abbrev pub lent : RefT ℕ → RefT (List ℤ) → RefT (List ℤ) → RefT (List ℕ) → Stored
 lent n ss es vs = stored (now n) (now ss) (now es) (now vs)
 
+-- the map that a function is lent, at its entry and at its exit; where its count is no reference but a number, at its entry
+module _ {A B C D : Type 0} where
+  abbrev pub atEntry : Both (RefT ℕ) A → Both (RefT (List ℤ)) B → Both (RefT (List ℤ)) C → Both (RefT (List ℕ)) D → Stored
+  atEntry n ss es vs = lent (n .entry) (ss .entry) (es .entry) (vs .entry)
+
+  abbrev pub atExit : Both A (RefT ℕ) → Both B (RefT (List ℤ)) → Both C (RefT (List ℤ)) → Both D (RefT (List ℕ)) → Stored
+  atExit n ss es vs = lent (n .exit) (ss .exit) (es .exit) (vs .exit)
+
+module _ {B C D : Type 0} where
+  abbrev pub atEntryWith : ℕ → Both (RefT (List ℤ)) B → Both (RefT (List ℤ)) C → Both (RefT (List ℕ)) D → Stored
+  atEntryWith n ss es vs = stored n (now (ss .entry)) (now (es .entry)) (now (vs .entry))
+
 -- the ranges of three lists, place by place, as spans
 unfoldable pub spans : Kind → List ℤ → List ℤ → List ℕ → List Span
 spans kind [] es vs = []
 spans kind (s ∷ ss) [] vs = []
 spans kind (s ∷ ss) (e ∷ es) [] = []
-spans kind (s ∷ ss) (e ∷ es) (v ∷ vs) = rangeOf kind s e v ∷ spans kind ss es vs
+spans kind (s ∷ ss) (e ∷ es) (v ∷ vs) = spanOf kind s e v ∷ spans kind ss es vs
 
 -- the ranges that a map holds: those of its first `count` places
 unfoldable pub ranges : Kind → Stored → List Span

@@ -1,9 +1,12 @@
 // What the functions of a map answer. Inside, an answer is an enum whose refusing case holds the number of document 01's table;
 // C and Rust see it as a struct of numbers. Both kinds of map, and the sets, share them.
+use answers::DONE;
+use answers::NONE_THERE;
+use key::Value;
 ghost use mathlib.Core.Path.{_≡_};
 ghost use Rattle.outcomes.specs.Stored.{places};
-ghost use Rattle.outcomes.specs.Numbers.{toldOf, countOf, rangeOf, stretchOf, orderOf, equalOf, totalOf};
-ghost use Rattle.outcomes.specs.InnerOutcome.{numberOf, outcomeOf};
+ghost use Rattle.outcomes.specs.Numbers.{askedInC, countedInC, foundInC, partInC, comparedInC, equalOf, totalledInC};
+ghost use Rattle.outcomes.specs.InnerOutcome.{outcomeInC, outcomeOf};
 
 // How many places a map has.
 pub const PLACES: usize = 512;
@@ -14,21 +17,6 @@ pub fn places_of() -> usize
 {
     PLACES
 }
-
-// The numbers of document 01's table that maps answer.
-pub const DONE: u8 = 0;
-
-pub const EMPTY_RANGE: u8 = 1;
-
-pub const TOO_MANY: u8 = 2;
-
-pub const TOO_SHORT: u8 = 3;
-
-pub const NOT_FORMED: u8 = 4;
-
-pub const NONE_THERE: u8 = 5;
-
-pub const TOTAL_OVER: u8 = 9;
 
 // Yes or no.
 pub enum Asked {
@@ -57,7 +45,7 @@ pub struct Count {
 
 // A stored range and its value, or that there is none.
 pub enum Found {
-    Range(i64, i64, u8),
+    Range(i64, i64, Value),
     Nothing,
     Refused(u8),
 }
@@ -67,7 +55,7 @@ pub struct Range {
     pub answer: u8,
     pub start: i64,
     pub end: i64,
-    pub value: u8,
+    pub value: Value,
 }
 
 // A consecutive part of the places: the first, and how many.
@@ -123,15 +111,15 @@ pub struct Applied {
 }
 
 pub fn told_of(a: Asked) -> Told
-    ensures { λ n. ⌜ n ≡ toldOf a ⌝ }
+    ensures { λ n. ⌜ n ≡ askedInC a ⌝ }
 {
     match a {
         Asked::Yes => Told {
-            answer: 0,
+            answer: DONE,
             yes: true,
         },
         Asked::No => Told {
-            answer: 0,
+            answer: DONE,
             yes: false,
         },
         Asked::Refused(n) => Told {
@@ -142,11 +130,11 @@ pub fn told_of(a: Asked) -> Told
 }
 
 pub fn count_of(a: Counted) -> Count
-    ensures { λ n. ⌜ n ≡ countOf a ⌝ }
+    ensures { λ n. ⌜ n ≡ countedInC a ⌝ }
 {
     match a {
         Counted::Count(n) => Count {
-            answer: 0,
+            answer: DONE,
             count: n,
         },
         Counted::Refused(n) => Count {
@@ -157,11 +145,11 @@ pub fn count_of(a: Counted) -> Count
 }
 
 pub fn range_of(a: Found) -> Range
-    ensures { λ n. ⌜ n ≡ rangeOf a ⌝ }
+    ensures { λ n. ⌜ n ≡ foundInC a ⌝ }
 {
     match a {
         Found::Range(s, e, v) => Range {
-            answer: 0,
+            answer: DONE,
             start: s,
             end: e,
             value: v,
@@ -182,11 +170,11 @@ pub fn range_of(a: Found) -> Range
 }
 
 pub fn stretch_of(a: Part) -> Stretch
-    ensures { λ n. ⌜ n ≡ stretchOf a ⌝ }
+    ensures { λ n. ⌜ n ≡ partInC a ⌝ }
 {
     match a {
         Part::Places(i, n) => Stretch {
-            answer: 0,
+            answer: DONE,
             place: i,
             count: n,
         },
@@ -199,19 +187,19 @@ pub fn stretch_of(a: Part) -> Stretch
 }
 
 pub fn order_of(a: Compared) -> Order
-    ensures { λ n. ⌜ n ≡ orderOf a ⌝ }
+    ensures { λ n. ⌜ n ≡ comparedInC a ⌝ }
 {
     match a {
         Compared::Less => Order {
-            answer: 0,
+            answer: DONE,
             order: -1,
         },
         Compared::Equal => Order {
-            answer: 0,
+            answer: DONE,
             order: 0,
         },
         Compared::Greater => Order {
-            answer: 0,
+            answer: DONE,
             order: 1,
         },
         Compared::Refused(n) => Order {
@@ -222,11 +210,11 @@ pub fn order_of(a: Compared) -> Order
 }
 
 pub fn total_of(a: Totalled) -> Total
-    ensures { λ n. ⌜ n ≡ totalOf a ⌝ }
+    ensures { λ n. ⌜ n ≡ totalledInC a ⌝ }
 {
     match a {
         Totalled::Total(n) => Total {
-            answer: 0,
+            answer: DONE,
             total: n,
         },
         Totalled::Refused(n) => Total {
@@ -237,7 +225,7 @@ pub fn total_of(a: Totalled) -> Total
 }
 
 pub fn number_of(a: Outcome) -> u8
-    ensures { λ n. ⌜ n ≡ numberOf a ⌝ }
+    ensures { λ n. ⌜ n ≡ outcomeInC a ⌝ }
 {
     match a {
         Outcome::Done => DONE,

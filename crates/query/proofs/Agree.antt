@@ -16,7 +16,7 @@ use Rattle.key.specs.Rank.{rank}
 use Rattle.key.specs.Range.{halfOpen}
 use Rattle.key.proofs.Lawful.{half-open}
 use Rattle.outcomes.specs.Stored.{Stored, ranges}
-use Rattle.outcomes.specs.Outcomes.{Written, writing, yesNo}
+use Rattle.outcomes.specs.Outcomes.{Written, intoLists, yesNo}
 use Rattle.outcomes.specs.Sets.{notWritten}
 use Rattle.outcomes.specs.declared.Asked.{Asked}
 use Rattle.outcomes.specs.declared.Asked.the-variants as Asked
@@ -24,20 +24,20 @@ use Rattle.outcomes.specs.declared.Counted.{Counted}
 use Rattle.outcomes.specs.declared.Counted.the-variants as Counted
 use Rattle.outcomes.specs.declared.Count.{Count}
 use Rattle.outcomes.proofs.Sets.{covers}
-use Rattle.range_list.specs.InnerColumns.{rows}
+use Rattle.range_list.specs.InnerColumns.{listed}
 use Rattle.query_text.specs.Grammar.{Query, Is}
 use Rattle.query_text.proofs.Unambiguous.{unambiguous}
 use Rattle.query.specs.Result.{isTrue, marked}
 use Rattle.query.proofs.Result.{result-means}
 use Rattle.query.proofs.Hours.{ends-within}
 use Rattle.query.proofs.Instants.{result-plain, result-covers, marks-maximal, marks-cover}
-use Rattle.query.specs.Answers.{resultOf, queried, queriedAt, querying, queryingAt}
+use Rattle.query.specs.Answers.{resultOf, queryRangesSound, queryAtSound, queryRanges, queryAt}
 use Rattle.query.proofs.ReadBack.{read-back}
 use Rattle.query.proofs.ByCases.{Asks, isIn, Answered, refusal, shown, queried-answers, querying-answers}
 
 -- the ranges in the first n places of the two lists
 abbrev pub writtenRanges : ℕ → Written → List Span
-writtenRanges n w = rows halfOpen (w .starts) (w .ends) n
+writtenRanges n w = listed halfOpen (w .starts) (w .ends) n
 
 -- a refusal is no count, and yes or no is no refusal
 pub refused-counted : {A : Type 0} {m n : ℕ} → Counted.Refused m ≡ Counted.Count n → A
@@ -48,8 +48,8 @@ told-refused true e = absurd (let z : _≡_ {A = ℕ} 0 1 = cc in omega arith)
 told-refused false e = absurd (let z : _≡_ {A = ℕ} 0 1 = cc in omega arith)
 
 -- a list that is not written is too long
-pub writing-refused : (xs : List Span) (os oe : List ℤ) (n : ℕ) → writing halfOpen xs os oe .answer ≡ Counted.Refused n → n ≡ 3
-unfolding writing
+pub writing-refused : (xs : List Span) (os oe : List ℤ) (n : ℕ) → intoLists halfOpen xs os oe .answer ≡ Counted.Refused n → n ≡ 3
+unfolding intoLists
 writing-refused xs os oe n = lt-cases (min (length os) (length oe)) (length xs) (λ (w : Written). w .answer ≡ Counted.Refused n → n ≡ 3)
     (λ h e. cc) (λ h e. absurd (let z : _≡_ {A = ℕ} 0 1 = cc in omega arith))
 
@@ -63,8 +63,8 @@ module _ {a b : Stored} {s e : ℤ} {bytes : List ℕ} {q : Query} (asks : Asks 
       let u = ends-within (rank s) (rank e) (ranges halfOpen a) (ranges halfOpen b) (asks .real) (asks .first-tidy) (asks .second-tidy) q .upto in
       upto-more {b = rank e} (resultOf a b s e q) (half-open .ends-within e) u
 
-  pub comes-back : (os oe : List ℤ) (n : ℕ) → writing halfOpen (resultOf a b s e q) os oe .answer ≡ Counted.Count n
-      → writtenRanges n (writing halfOpen (resultOf a b s e q) os oe) ≡ resultOf a b s e q
+  pub comes-back : (os oe : List ℤ) (n : ℕ) → intoLists halfOpen (resultOf a b s e q) os oe .answer ≡ Counted.Count n
+      → writtenRanges n (intoLists halfOpen (resultOf a b s e q) os oe) ≡ resultOf a b s e q
   comes-back os oe n c =
       let p = result-plain (rank s) (rank e) (ranges halfOpen a) (ranges halfOpen b) (asks .real) (asks .first-tidy) (asks .second-tidy) q in
       read-back halfOpen half-open (resultOf a b s e q) os oe (asks-means .tidy .ordered) p reaches n c
@@ -119,28 +119,28 @@ module _ {a b : Stored} {s e : ℤ} {bytes : List ℕ} {os oe : List ℤ} {k : �
 
 -- OF ANY MAPS
 module _ (a b : Stored) (s e : ℤ) (bytes : List ℕ) (os oe : List ℤ) where
-  pub written-means : (n : ℕ) → querying a b s e bytes os oe .answer ≡ Counted.Count n → IsResult a b s e bytes (writtenRanges n (querying a b s e bytes os oe))
+  pub written-means : (n : ℕ) → queryRanges a b s e bytes os oe .answer ≡ Counted.Count n → IsResult a b s e bytes (writtenRanges n (queryRanges a b s e bytes os oe))
   written-means = answered-means (querying-answers a b s e bytes os oe s)
 
-  pub written-only : (n : ℕ) (m : List Span) → querying a b s e bytes os oe .answer ≡ Counted.Count n → IsResult a b s e bytes m
-      → m ≡ writtenRanges n (querying a b s e bytes os oe)
+  pub written-only : (n : ℕ) (m : List Span) → queryRanges a b s e bytes os oe .answer ≡ Counted.Count n → IsResult a b s e bytes m
+      → m ≡ writtenRanges n (queryRanges a b s e bytes os oe)
   written-only n m c r = one-result r (written-means n c)
 
-  pub entries-agree : (k : ℤ) (n : ℕ) → querying a b s e bytes os oe .answer ≡ Counted.Count n
-      → queryingAt a b s e bytes k ≡ yesNo (covers (writtenRanges n (querying a b s e bytes os oe)) (rank k))
+  pub entries-agree : (k : ℤ) (n : ℕ) → queryRanges a b s e bytes os oe .answer ≡ Counted.Count n
+      → queryAt a b s e bytes k ≡ yesNo (covers (writtenRanges n (queryRanges a b s e bytes os oe)) (rank k))
   entries-agree k = answered-agree (querying-answers a b s e bytes os oe k)
 
-  pub refused-at : (k : ℤ) (n : ℕ) → queryingAt a b s e bytes k ≡ Asked.Refused n → querying a b s e bytes os oe ≡ notWritten n os oe
+  pub refused-at : (k : ℤ) (n : ℕ) → queryAt a b s e bytes k ≡ Asked.Refused n → queryRanges a b s e bytes os oe ≡ notWritten n os oe
   refused-at k = answered-at (querying-answers a b s e bytes os oe k)
 
-  pub refused-list : (k : ℤ) (n : ℕ) → (n ≡ 3 → ⊥) → querying a b s e bytes os oe .answer ≡ Counted.Refused n → queryingAt a b s e bytes k ≡ Asked.Refused n
+  pub refused-list : (k : ℤ) (n : ℕ) → (n ≡ 3 → ⊥) → queryRanges a b s e bytes os oe .answer ≡ Counted.Refused n → queryAt a b s e bytes k ≡ Asked.Refused n
   refused-list k = answered-list (querying-answers a b s e bytes os oe k)
 
 -- OF WELL-FORMED MAPS: what the unchecked doors promise
 module _ (a b : Stored) (ta : Tidy 0 (ranges halfOpen a)) (tb : Tidy 0 (ranges halfOpen b)) (s e : ℤ) (bytes : List ℕ) (os oe : List ℤ) where
-  pub queried-means : (n : ℕ) → queried a b s e bytes os oe .answer ≡ Counted.Count n → IsResult a b s e bytes (writtenRanges n (queried a b s e bytes os oe))
+  pub queried-means : (n : ℕ) → queryRangesSound a b s e bytes os oe .answer ≡ Counted.Count n → IsResult a b s e bytes (writtenRanges n (queryRangesSound a b s e bytes os oe))
   queried-means = answered-means (queried-answers a b s e bytes os oe s ta tb)
 
-  pub queried-agree : (k : ℤ) (n : ℕ) → queried a b s e bytes os oe .answer ≡ Counted.Count n
-      → queriedAt a b s e bytes k ≡ yesNo (covers (writtenRanges n (queried a b s e bytes os oe)) (rank k))
+  pub queried-agree : (k : ℤ) (n : ℕ) → queryRangesSound a b s e bytes os oe .answer ≡ Counted.Count n
+      → queryAtSound a b s e bytes k ≡ yesNo (covers (writtenRanges n (queryRangesSound a b s e bytes os oe)) (rank k))
   queried-agree k = answered-agree (queried-answers a b s e bytes os oe k ta tb)

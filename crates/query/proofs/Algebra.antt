@@ -11,7 +11,7 @@ use Rattle.span.proofs.Holding.{ordered-from}
 use Rattle.span.proofs.Laws.{reworded, nothing, itself}
 use Rattle.span.proofs.Sets.{ordered-within, at-within, chosen-means}
 use Rattle.query_text.specs.Grammar.{Query, first, second, no, both, either}
-use Rattle.query_text.specs.Meaning.{holds, truth}
+use Rattle.query_text.specs.Meaning.{holdsValue, truth}
 use Rattle.query_text.proofs.Alike as alike
 use Rattle.query_text.proofs.Alike.{Alike}
 use Rattle.query.specs.Result.{result, isTrue, marked}
@@ -28,7 +28,7 @@ always-either true true = refl
 always-either true false = refl
 always-either false t = refl
 
-chosen-mark : (w : Bool) (d : ℕ) (x : Option ℕ) → is d (cond w x none) ≡ marked (w && holds d x)
+chosen-mark : (w : Bool) (d : ℕ) (x : Option ℕ) → is d (cond w x none) ≡ marked (w && holdsValue d x)
 chosen-mark true d none = refl
 chosen-mark true d (some v) = refl
 chosen-mark false d x = refl
@@ -42,7 +42,7 @@ module _ (lo hi : ℕ) (a b : List Span) (real : lo < hi) (ta : Tidy 0 a) (tb : 
   unfolding at
   at-window k = refl
 
-  chosen-within : (d : ℕ) (m : List Span) → Tidy 0 m → Means (chosen d (within lo hi m)) (λ k. marked (inside lo hi k && holds d (at m k)))
+  chosen-within : (d : ℕ) (m : List Span) → Tidy 0 m → Means (chosen d (within lo hi m)) (λ k. marked (inside lo hi k && holdsValue d (at m k)))
   chosen-within d m t =
       let o = ordered-from {b = lo} {c = 0} (within lo hi m) (omega arith) (ordered-within lo hi m (t .ordered)) in
       reworded (chosen-means d (within lo hi m) o) (λ k. rw (at-within lo hi m k (t .ordered)) (chosen-mark (inside lo hi k) d (at m k)))

@@ -6,18 +6,19 @@ use mathlib.Core.Bool.{_&&_}
 use mathlib.Core.List.{List}
 use lib.ListN.{length, length-take}
 use lib.IntN.{ℤ}
+use Rattle.answers.specs.Answers.{tooShort, notFormed}
 use Rattle.span.specs.Span.{Span}
 use Rattle.span.proofs.Tests.{both, cases, lt-cases}
 use Rattle.key.specs.Rank.{rank}
 use Rattle.key.specs.Range.{halfOpen}
 use Rattle.outcomes.specs.Stored.{places, Stored, spans, ranges}
-use Rattle.outcomes.specs.Outcomes.{Written, writing, formed}
+use Rattle.outcomes.specs.Outcomes.{Written, intoLists, formed}
 use Rattle.outcomes.specs.declared.Asked.{Asked}
 use Rattle.outcomes.specs.declared.Counted.the-variants as Counted
 use Rattle.outcomes.proofs.Formed as formed
 use Rattle.query_text.specs.Grammar.{Query}
 use Rattle.query.proofs.Few.{query-few}
-use Rattle.query.specs.Answers.{resultOf, querying}
+use Rattle.query.specs.Answers.{resultOf, queryRanges}
 use Rattle.query.proofs.ByCases.{Asks, Answered, refusal, shown, querying-answers}
 use Rattle.query.proofs.Agree.{refused-counted}
 
@@ -33,14 +34,14 @@ result-few {a} {b} {s} {e} {bytes} {q} asks =
 
 -- a list is written whole, and it is where there is room
 module _ (xs : List Span) (os oe : List ℤ) where
-  writing-counted : (n : ℕ) → writing halfOpen xs os oe .answer ≡ Counted.Count n → n ≡ length xs
-  unfolding writing
+  writing-counted : (n : ℕ) → intoLists halfOpen xs os oe .answer ≡ Counted.Count n → n ≡ length xs
+  unfolding intoLists
   writing-counted n = lt-cases (min (length os) (length oe)) (length xs) (λ (w : Written). w .answer ≡ Counted.Count n → n ≡ length xs)
       (λ h c. refused-counted c) (λ h c. cc)
 
-  writing-room : length xs ≤ length os → length xs ≤ length oe → writing halfOpen xs os oe .answer ≡ Counted.Refused 3 → ⊥
-  unfolding writing
-  writing-room p q = lt-cases (min (length os) (length oe)) (length xs) (λ (w : Written). w .answer ≡ Counted.Refused 3 → ⊥)
+  writing-room : length xs ≤ length os → length xs ≤ length oe → intoLists halfOpen xs os oe .answer ≡ Counted.Refused tooShort → ⊥
+  unfolding intoLists
+  writing-room p q = lt-cases (min (length os) (length oe)) (length xs) (λ (w : Written). w .answer ≡ Counted.Refused tooShort → ⊥)
       (λ h c. omega arith) (λ h c. let z : _≡_ {A = ℕ} 0 1 = cc in omega arith)
 
 -- of either door
@@ -50,26 +51,26 @@ module _ {a b : Stored} {s e : ℤ} {bytes : List ℕ} {os oe : List ℤ} {k : �
   answered-few (shown q asks) n c = omega (arith, result-few asks, writing-counted (resultOf a b s e q) os oe n c)
 
   pub answered-room : {w : Written} {t : Asked} → Answered a b s e bytes os oe k w t → a .count + b .count + 1 ≤ length os → a .count + b .count + 1 ≤ length oe
-      → w .answer ≡ Counted.Refused 3 → ⊥
+      → w .answer ≡ Counted.Refused tooShort → ⊥
   answered-room (refusal m r) p q c = r .not-short cc
   answered-room (shown x asks) p q c = writing-room (resultOf a b s e x) os oe (omega (arith, result-few asks)) (omega (arith, result-few asks)) c
 
 -- of any maps
 module _ (a b : Stored) (s e : ℤ) (bytes : List ℕ) (os oe : List ℤ) where
   -- maps that are not refused hold no more than a map may
-  not-refused : (querying a b s e bytes os oe .answer ≡ Counted.Refused 4 → ⊥) → (a .count ≤ places) × (b .count ≤ places)
-  unfolding querying
+  not-refused : (queryRanges a b s e bytes os oe .answer ≡ Counted.Refused notFormed → ⊥) → (a .count ≤ places) × (b .count ≤ places)
+  unfolding queryRanges
   not-refused = cases (formed halfOpen a && formed halfOpen b)
-      (λ (w : Written). (w .answer ≡ Counted.Refused 4 → ⊥) → (a .count ≤ places) × (b .count ≤ places))
+      (λ (w : Written). (w .answer ≡ Counted.Refused notFormed → ⊥) → (a .count ≤ places) × (b .count ≤ places))
       (λ t f. let (x, y) = both (formed halfOpen a) (formed halfOpen b) t in (formed.formed halfOpen places a x .held, formed.formed halfOpen places b y .held))
       (λ t f. absurd (f refl))
 
-  pub written-few : (n : ℕ) → querying a b s e bytes os oe .answer ≡ Counted.Count n → n ≤ 2 * places + 1
+  pub written-few : (n : ℕ) → queryRanges a b s e bytes os oe .answer ≡ Counted.Count n → n ≤ 2 * places + 1
   written-few n c =
       let (x, y) = not-refused (λ r. let z : _≡_ {A = ℕ} 0 1 = cc in omega arith) in
       omega (arith, answered-few (querying-answers a b s e bytes os oe s) n c)
 
-  pub room-enough : 2 * places + 1 ≤ length os → 2 * places + 1 ≤ length oe → querying a b s e bytes os oe .answer ≡ Counted.Refused 3 → ⊥
+  pub room-enough : 2 * places + 1 ≤ length os → 2 * places + 1 ≤ length oe → queryRanges a b s e bytes os oe .answer ≡ Counted.Refused tooShort → ⊥
   room-enough p q c =
       let (x, y) = not-refused (λ r. let z : _≡_ {A = ℕ} 3 4 = cc in omega arith) in
       answered-room (querying-answers a b s e bytes os oe s) (omega arith) (omega arith) c

@@ -6,7 +6,7 @@ use mathlib.Core.Bool.{Bool, true, false, _&&_, _||_, not}
 use mathlib.Core.List.{List, [], _∷_}
 use mathlib.Core.Option.{some, none}
 use Rattle.span.specs.Span.{Span, span, inside, at, Tidy}
-use Rattle.span.specs.Operations.{total, tally}
+use Rattle.span.specs.Operations.{spanTotal, tally}
 use Rattle.span.proofs.Tests.{yes-in}
 use Rattle.span.proofs.Local.{upto-at}
 use Rattle.span.proofs.Total.{EndsBy, total-pairs}
@@ -51,8 +51,8 @@ module _ (lo hi : ℕ) (a b : List Span) (real : lo < hi) (ta : Tidy 0 a) (tb : 
       record { ordered = o; upto = upto-at 0 hi (here q) o in-window }
 
   -- TRUE AND NOT TRUE fill the window
-  pub hours-add-up : (q : Query) → total (result lo hi a b q) + total (result lo hi a b (no q)) ≡ hi - lo
-  unfolding isTrue truth total at
+  pub hours-add-up : (q : Query) → spanTotal (result lo hi a b q) + spanTotal (result lo hi a b (no q)) ≡ hi - lo
+  unfolding isTrue truth spanTotal at
   hours-add-up q =
       let window : EndsBy hi (span lo hi 0 ∷ []) = record { ordered = (omega arith, real, tt); upto = (omega arith, tt) } in
       let nothing : EndsBy hi [] = record { ordered = tt; upto = tt } in
@@ -62,7 +62,7 @@ module _ (lo hi : ℕ) (a b : List Span) (real : lo < hi) (ta : Tidy 0 a) (tb : 
 
   -- EITHER AND BOTH have together as many instants as the two
   pub hours-of-two : (p q : Query)
-      → total (result lo hi a b (either p q)) + total (result lo hi a b (both p q)) ≡ total (result lo hi a b p) + total (result lo hi a b q)
+      → spanTotal (result lo hi a b (either p q)) + spanTotal (result lo hi a b (both p q)) ≡ spanTotal (result lo hi a b p) + spanTotal (result lo hi a b q)
   unfolding isTrue truth
   hours-of-two p q =
       total-pairs (ends-within (either p q)) (ends-within (both p q)) (ends-within p) (ends-within q)

@@ -10,11 +10,11 @@ use Rattle.span.specs.Operations.{common, chosen, is, when, unless}
 use Rattle.span.proofs.Laws.{only, reworded}
 use Rattle.span.proofs.Sets.{gaps-means, common-means, over-means, chosen-means}
 use Rattle.query_text.specs.Grammar.{Query, first, second, no, both, either}
-use Rattle.query_text.specs.Meaning.{holds, truth}
+use Rattle.query_text.specs.Meaning.{holdsValue, truth}
 use Rattle.query.specs.Result.{result, isTrue, marked}
 
 -- what the operations of spans are of marks
-is-mark : (d : ℕ) (x : Option ℕ) → is d x ≡ marked (holds d x)
+is-mark : (d : ℕ) (x : Option ℕ) → is d x ≡ marked (holdsValue d x)
 is-mark d none = refl
 is-mark d (some v) = refl
 
@@ -46,11 +46,11 @@ module _ (lo hi : ℕ) (a b : List Span) (real : lo < hi) (ta : Tidy 0 a) (tb : 
   window-ordered : Ordered 0 (span lo hi 0 ∷ [])
   window-ordered = (omega arith, real, tt)
 
-  atom-means : (d : ℕ) (m : List Span) → Tidy 0 m → Means (common (span lo hi 0 ∷ []) (chosen d m)) (λ k. marked (inside lo hi k && holds d (at m k)))
+  atom-means : (d : ℕ) (m : List Span) → Tidy 0 m → Means (common (span lo hi 0 ∷ []) (chosen d m)) (λ k. marked (inside lo hi k && holdsValue d (at m k)))
   atom-means d m t =
       let c = chosen-means d m (t .ordered) in
       reworded (common-means (span lo hi 0 ∷ []) (chosen d m) window-ordered (c .tidy .ordered))
-      (λ k. rw (window k, c .holds k, is-mark d (at m k)) (when-mark (inside lo hi k) (holds d (at m k))))
+      (λ k. rw (window k, c .holds k, is-mark d (at m k)) (when-mark (inside lo hi k) (holdsValue d (at m k))))
 
   pub result-means : (q : Query) → Means (result lo hi a b q) (λ k. marked (isTrue lo hi a b q k))
   unfolding result isTrue truth

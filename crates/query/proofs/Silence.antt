@@ -10,7 +10,7 @@ use lib.Pow.{pow-add, pow-pos}
 use borrow.Author.Tests.{lt-ltb, le-ltb}
 use Rattle.query_text.specs.declared.truth.Truth.{Truth}
 use Rattle.query_text.specs.InnerTable.{isOne, says}
-use Rattle.query.specs.InnerWalk.{Clear, Silent}
+use Rattle.query.specs.InnerWalk.{NoBits, Silent}
 
 -- a number whose lowest n bits are 0
 low-bit : (y m b : ℕ) → y % 2 ^ (suc m + b) ≡ 0 → y / 2 ^ b % 2 ≡ 0
@@ -31,18 +31,18 @@ no-bit x i n e b h =
     rw (g, low-bit (x / 2 ^ i) (n - suc b) b f) refl
 
 module _ (t : Truth) (n : ℕ) where
-  pub silent-low : n < 5 → Clear (t .low) (11 * n) → Silent t n
+  pub silent-low : n < 5 → NoBits (t .low) (11 * n) → Silent t n
   unfolding says
   silent-low h c m le = rw (lt-ltb (11 * n + m) 64 (omega arith)) (c m le)
 
-  pub silent-high : 5 < n → Clear (t .high) (11 * n - 64) → Silent t n
+  pub silent-high : 5 < n → NoBits (t .high) (11 * n - 64) → Silent t n
   unfolding says
   silent-high h c m le =
       let s : 11 * n + m - 64 ≡ 11 * n - 64 + m = omega arith in
       rw (le-ltb (11 * n + m) 64 (omega arith), s) (c m le)
 
 -- class 5: 9 bits of the low word, and 2 of the high one
-pub silent-five : (t : Truth) → t .high % 4 ≡ 0 → Clear (t .low) 55 → Silent t 5
+pub silent-five : (t : Truth) → t .high % 4 ≡ 0 → NoBits (t .low) 55 → Silent t 5
 unfolding says
 silent-five t e c m le = elim (decLt m 9) [
   | yes q ↦ rw (lt-ltb (55 + m) 64 (omega arith)) (c m le)

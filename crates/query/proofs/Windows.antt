@@ -6,7 +6,7 @@ use mathlib.Core.Bool.{Bool, true, false, _&&_}
 use mathlib.Core.List.{List, []}
 use mathlib.Core.Option.{none}
 use Rattle.span.specs.Span.{Span, inside, at, Tidy, or-else}
-use Rattle.span.specs.Operations.{over, total, tally}
+use Rattle.span.specs.Operations.{laidOver, spanTotal, tally}
 use Rattle.span.proofs.Tests.{below, among, beyond, place, in-yes, in-no, in-same}
 use Rattle.span.proofs.Laws.{reworded}
 use Rattle.span.proofs.Sets.{over-means}
@@ -40,19 +40,19 @@ module _ (lo mid hi : ℕ) (a b : List Span) (left : lo < mid) (right : mid < hi
   real = omega arith
 
   -- the spans of the one and those of the other, joined where they touch
-  pub windows-join : over (result lo mid a b q) (result mid hi a b q) ≡ result lo hi a b q
+  pub windows-join : laidOver (result lo mid a b q) (result mid hi a b q) ≡ result lo hi a b q
   unfolding isTrue
   windows-join =
       let x = result-means lo mid a b left ta tb q in
       let y = result-means mid hi a b right ta tb q in
       let two = over-means (result lo mid a b q) (result mid hi a b q) (x .tidy .ordered) y in
-      result-only lo hi a b real ta tb q (over (result lo mid a b q) (result mid hi a b q)) (reworded two (λ k.
+      result-only lo hi a b real ta tb q (laidOver (result lo mid a b q) (result mid hi a b q)) (reworded two (λ k.
       let t = truth q (at a k) (at b k) in
       let P : Bool → Bool → Bool → Type 0 = λ u v w. or-else (marked (u && t)) (marked (v && t)) ≡ marked (w && t) in
       rw (x .holds k) (by-part lo mid hi left right k P (first-mark t) (λ w. refl))))
 
-  pub windows-add-up : total (result lo mid a b q) + total (result mid hi a b q) ≡ total (result lo hi a b q)
-  unfolding isTrue total at
+  pub windows-add-up : spanTotal (result lo mid a b q) + spanTotal (result mid hi a b q) ≡ spanTotal (result lo hi a b q)
+  unfolding isTrue spanTotal at
   windows-add-up =
       let x = result-means lo mid a b left ta tb q .holds in
       let y = result-means mid hi a b right ta tb q .holds in

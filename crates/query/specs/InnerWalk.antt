@@ -17,8 +17,8 @@ abbrev pub saysAt : Truth → List Span → List Span → ℕ → Bool
 saysAt t xs ys k = says t (classOf (at xs k)) (classOf (at ys k))
 
 -- 11 bits of a word from bit i on are 0
-abbrev pub Clear : ℕ → ℕ → Type 0
-Clear x i = (m : ℕ) → m ≤ 10 → isOne x (i + m) ≡ false
+abbrev pub NoBits : ℕ → ℕ → Type 0
+NoBits x i = (m : ℕ) → m ≤ 10 → isOne x (i + m) ≡ false
 
 -- a table says no of a class of the first map, whatever the second holds
 abbrev pub Silent : Truth → ℕ → Type 0

@@ -12,8 +12,8 @@ use Rattle.key.specs.Rank.{rank, keyAt}
 use Rattle.key.specs.Range.{halfOpen}
 use Rattle.key.specs.InnerDecides.{Decides}
 use Rattle.outcomes.specs.Stored.{Stored, ranges}
-use Rattle.outcomes.specs.Outcomes.{Written, writing}
-use Rattle.range_list.specs.InnerLists.{Room, Puts}
+use Rattle.outcomes.specs.Outcomes.{Written, intoLists}
+use Rattle.range_list.specs.InnerLists.{ListRoom, Puts}
 use Rattle.query_text.specs.declared.truth.Truth.{Truth}
 use Rattle.query.specs.Result.{marked}
 use Rattle.query.specs.InnerWalk.{saysAt}
@@ -35,7 +35,7 @@ pub record Counts (t : Truth) (xs ys : List Span) (p e n : ℕ) : Type 0 where
 pub record HasRoom (t : Truth) (xs ys : List Span) (p e n : ℕ) (os oe : List ℤ) : Type 0 where
   pub list : List Span
   pub to-come : ToCome t xs ys p e list
-  pub room : Room n list os oe
+  pub room : ListRoom n list os oe
 
 -- that list is written from place n on, and r is the place behind it
 pub record Writes (t : Truth) (xs ys : List Span) (p e n : ℕ) (os oe : List ℤ) (r : ℕ) (os₁ oe₁ : List ℤ) : Type 0 where
@@ -53,7 +53,7 @@ pub record Shuts (on : Bool) (n f g : ℕ) (os oe : List ℤ) (r : ℕ) (os₁ o
   pub ends : on ≡ false → f < g → (r ≡ n + 1) × (os₁ ≡ set os n (keyAt f)) × (oe₁ ≡ set oe n (keyAt g))
 
 -- there is a list of what the table says in the window, and it has at most one span more than the maps together: the caller knows that
-pub record Known (t : Truth) (a b : Stored) (s e : ℤ) : Type 0 where
+pub record Bounded (t : Truth) (a b : Stored) (s e : ℤ) : Type 0 where
   pub list : List Span
   pub to-come : ToCome t (ranges halfOpen a) (ranges halfOpen b) (rank s) (rank e) list
   pub few : length list ≤ a .count + b .count + 1
@@ -64,4 +64,4 @@ Measures t xs ys p e room r = (zs : List Span) → ToCome t xs ys p e zs → Dec
 
 -- what is written is that list
 abbrev pub WritesAll : Truth → Stored → Stored → ℤ → ℤ → List ℤ → List ℤ → Written → Type 0
-WritesAll t a b s e os oe w = (zs : List Span) → ToCome t (ranges halfOpen a) (ranges halfOpen b) (rank s) (rank e) zs → w ≡ writing halfOpen zs os oe
+WritesAll t a b s e os oe w = (zs : List Span) → ToCome t (ranges halfOpen a) (ranges halfOpen b) (rank s) (rank e) zs → w ≡ intoLists halfOpen zs os oe

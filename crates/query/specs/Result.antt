@@ -5,7 +5,7 @@ use mathlib.Core.Bool.{Bool, _&&_, cond}
 use mathlib.Core.List.{List, [], _∷_}
 use mathlib.Core.Option.{Option, some, none}
 use Rattle.span.specs.Span.{Span, span, inside, at}
-use Rattle.span.specs.Operations.{gaps, common, over, chosen}
+use Rattle.span.specs.Operations.{uncovered, common, laidOver, chosen}
 use Rattle.query_text.specs.Grammar.{Query, first, second, no, both, either}
 use Rattle.query_text.specs.Meaning.{truth}
 
@@ -13,9 +13,9 @@ use Rattle.query_text.specs.Meaning.{truth}
 unfoldable pub result : ℕ → ℕ → List Span → List Span → Query → List Span
 result lo hi a b (first d) = common (span lo hi 0 ∷ []) (chosen d a)
 result lo hi a b (second d) = common (span lo hi 0 ∷ []) (chosen d b)
-result lo hi a b (no q) = gaps lo hi (result lo hi a b q)
+result lo hi a b (no q) = uncovered lo hi (result lo hi a b q)
 result lo hi a b (both p q) = common (result lo hi a b p) (result lo hi a b q)
-result lo hi a b (either p q) = over (result lo hi a b p) (result lo hi a b q)
+result lo hi a b (either p q) = laidOver (result lo hi a b p) (result lo hi a b q)
 
 -- is the instant k in the result: it is in the window, and the query is true there
 unfoldable pub isTrue : ℕ → ℕ → List Span → List Span → Query → ℕ → Bool

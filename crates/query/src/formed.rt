@@ -1,5 +1,6 @@
 // The check of two lent maps.
 use key::RangeKind;
+use key::Value;
 use outcomes::PLACES;
 use store::check::well_formed;
 ghost use mathlib.Core.Path.{_≡_};
@@ -14,11 +15,11 @@ pub fn are_formed(
     count_a: usize,
     starts_a: &[i64; PLACES],
     ends_a: &[i64; PLACES],
-    values_a: &[u8; PLACES],
+    values_a: &[Value; PLACES],
     count_b: usize,
     starts_b: &[i64; PLACES],
     ends_b: &[i64; PLACES],
-    values_b: &[u8; PLACES],
+    values_b: &[Value; PLACES],
 ) -> bool
     ensures { λ r. ⌜ r ≡ (formed halfOpen (columns «count_a» («starts_a» .entry) («ends_a» .entry) («values_a» .entry))
         && formed halfOpen (columns «count_b» («starts_b» .entry) («ends_b» .entry) («values_b» .entry))) ⌝ }

@@ -7,6 +7,3 @@ pub mod ranges;
 pub mod seen;
 pub mod walk;
 pub mod written;
-
-// The number of document 01's table for bytes that are no query.
-pub const BAD_QUERY: u8 = 7;

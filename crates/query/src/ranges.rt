@@ -1,37 +1,39 @@
 // THE RANGES of a query: the true instants of a window, as maximal ranges, ascending.
-use crate::BAD_QUERY;
 use crate::formed::are_formed;
 use crate::walk::walk_at;
 use crate::written;
+use answers::BAD_QUERY;
+use answers::EMPTY_RANGE;
+use answers::NOT_FORMED;
+use answers::TOO_SHORT;
+use key::Value;
 use outcomes::Counted;
-use outcomes::EMPTY_RANGE;
-use outcomes::NOT_FORMED;
 use outcomes::PLACES;
-use outcomes::TOO_SHORT;
 use query_text::reader::Reading;
 use query_text::reader::read_query;
 use query_text::truth::Truth;
 use range_list::shorter;
 ghost use mathlib.Core.Path.{_≡_};
 ghost use Prim.Native.Nat.{_<_};
+ghost use Rattle.lent.specs.Moments.{was, becomes};
 ghost use Rattle.key.specs.Rank.{rank};
 ghost use Rattle.key.specs.Range.{halfOpen};
-ghost use Rattle.outcomes.specs.Stored.{lent, Sound};
+ghost use Rattle.outcomes.specs.Stored.{lent, Sound, atEntry};
 ghost use Rattle.range_list.specs.InnerLists.{wrote};
 ghost use Rattle.query.specs.InnerColumns.{columns};
-ghost use Rattle.query.specs.Answers.{queried, querying};
-ghost use Rattle.query.specs.InnerWritten.{Known, WritesAll};
+ghost use Rattle.query.specs.Answers.{queryRangesSound, queryRanges};
+ghost use Rattle.query.specs.InnerWritten.{Bounded, WritesAll};
 
 // What the table says in the window. Nothing is written before it is known that the lent lists are long enough.
 fn by_table(
     count_a: usize,
     starts_a: &[i64],
     ends_a: &[i64],
-    values_a: &[u8],
+    values_a: &[Value],
     count_b: usize,
     starts_b: &[i64],
     ends_b: &[i64],
-    values_b: &[u8],
+    values_b: &[Value],
     start: i64,
     end: i64,
     t: Truth,
@@ -39,10 +41,10 @@ fn by_table(
     out_ends: &mut [i64],
 ) -> Counted
     requires { ⌜ Sound halfOpen (columns «count_a» «starts_a» «ends_a» «values_a») × Sound halfOpen (columns «count_b» «starts_b» «ends_b» «values_b»)
-        × (rank start < rank end) × Known t (columns «count_a» «starts_a» «ends_a» «values_a») (columns «count_b» «starts_b» «ends_b» «values_b») start end ⌝ }
+        × (rank start < rank end) × Bounded t (columns «count_a» «starts_a» «ends_a» «values_a») (columns «count_b» «starts_b» «ends_b» «values_b») start end ⌝ }
     ensures { λ r. ⌜ WritesAll t (columns «count_a» («starts_a» .entry) («ends_a» .entry) («values_a» .entry))
         (columns «count_b» («starts_b» .entry) («ends_b» .entry) («values_b» .entry))
-        start end (now («out_starts» .entry)) (now («out_ends» .entry)) (wrote r (now («out_starts» .exit)) (now («out_ends» .exit))) ⌝ }
+        start end (was «out_starts») (was «out_ends») (wrote r (becomes «out_starts») (becomes «out_ends»)) ⌝ }
 {
     let w = walk_at(start);
     let room = shorter(out_starts.len(), out_ends.len());
@@ -84,11 +86,11 @@ pub fn query_unchecked(
     count_a: usize,
     starts_a: &[i64],
     ends_a: &[i64],
-    values_a: &[u8],
+    values_a: &[Value],
     count_b: usize,
     starts_b: &[i64],
     ends_b: &[i64],
-    values_b: &[u8],
+    values_b: &[Value],
     start: i64,
     end: i64,
     bytes: &[u8],
@@ -96,10 +98,10 @@ pub fn query_unchecked(
     out_ends: &mut [i64],
 ) -> Counted
     requires { ⌜ Sound halfOpen (columns «count_a» «starts_a» «ends_a» «values_a») × Sound halfOpen (columns «count_b» «starts_b» «ends_b» «values_b») ⌝ }
-    ensures { λ r. ⌜ wrote r (now («out_starts» .exit)) (now («out_ends» .exit))
-        ≡ queried (columns «count_a» («starts_a» .entry) («ends_a» .entry) («values_a» .entry))
+    ensures { λ r. ⌜ wrote r (becomes «out_starts») (becomes «out_ends»)
+        ≡ queryRangesSound (columns «count_a» («starts_a» .entry) («ends_a» .entry) («values_a» .entry))
         (columns «count_b» («starts_b» .entry) («ends_b» .entry) («values_b» .entry))
-        start end (now (bytes .entry)) (now («out_starts» .entry)) (now («out_ends» .entry)) ⌝ }
+        start end (was bytes) (was «out_starts») (was «out_ends») ⌝ }
 {
     if start >= end {
         return Counted::Refused(EMPTY_RANGE);
@@ -129,21 +131,21 @@ pub fn query(
     count_a: &usize,
     starts_a: &[i64; PLACES],
     ends_a: &[i64; PLACES],
-    values_a: &[u8; PLACES],
+    values_a: &[Value; PLACES],
     count_b: &usize,
     starts_b: &[i64; PLACES],
     ends_b: &[i64; PLACES],
-    values_b: &[u8; PLACES],
+    values_b: &[Value; PLACES],
     start: i64,
     end: i64,
     bytes: &[u8],
     out_starts: &mut [i64],
     out_ends: &mut [i64],
 ) -> Counted
-    ensures { λ r. ⌜ wrote r (now («out_starts» .exit)) (now («out_ends» .exit))
-        ≡ querying (lent («count_a» .entry) («starts_a» .entry) («ends_a» .entry) («values_a» .entry))
-        (lent («count_b» .entry) («starts_b» .entry) («ends_b» .entry) («values_b» .entry))
-        start end (now (bytes .entry)) (now («out_starts» .entry)) (now («out_ends» .entry)) ⌝ }
+    ensures { λ r. ⌜ wrote r (becomes «out_starts») (becomes «out_ends»)
+        ≡ queryRanges (atEntry «count_a» «starts_a» «ends_a» «values_a»)
+        (atEntry «count_b» «starts_b» «ends_b» «values_b»)
+        start end (was bytes) (was «out_starts») (was «out_ends») ⌝ }
 {
     if !are_formed(
         *count_a,

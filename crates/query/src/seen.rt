@@ -1,4 +1,5 @@
 // What one map holds from a key on, as a walk along the instants sees it.
+use key::Value;
 ghost use mathlib.Core.Path.{_≡_};
 ghost use Prim.Native.Nat.{_≤_, _<_, min};
 ghost use Rattle.key.specs.Rank.{rank};
@@ -17,7 +18,7 @@ pub struct Seen {
     pub place: usize,
 }
 
-fn class_of(value: u8) -> usize
+fn class_of(value: Value) -> usize
     ensures { λ r. ⌜ r ≡ min value 10 ⌝ }
 {
     if value < 10 { value as usize } else { OTHER }
@@ -28,7 +29,7 @@ fn caught_up(
     count: usize,
     starts: &[i64],
     ends: &[i64],
-    values: &[u8],
+    values: &[Value],
     place: usize,
     key: i64,
 ) -> usize
@@ -50,7 +51,7 @@ fn seen_at(
     count: usize,
     starts: &[i64],
     ends: &[i64],
-    values: &[u8],
+    values: &[Value],
     place: usize,
     key: i64,
     end: i64,
@@ -86,7 +87,7 @@ pub fn look(
     count: usize,
     starts: &[i64],
     ends: &[i64],
-    values: &[u8],
+    values: &[Value],
     place: usize,
     key: i64,
     end: i64,

@@ -1,5 +1,6 @@
 // THE WALK along the instants of two half-open maps: where it stands, and where the query changes between true and false.
 use crate::seen::look;
+use key::Value;
 use query_text::truth::Truth;
 ghost use mathlib.Core.Path.{_≡_};
 ghost use mathlib.Core.Bool.{true};
@@ -10,7 +11,7 @@ ghost use Rattle.key.specs.Rank.{rank};
 ghost use Rattle.key.specs.Range.{halfOpen};
 ghost use Rattle.outcomes.specs.Stored.{Sound};
 ghost use Rattle.query.specs.InnerColumns.{columns, spansOf};
-ghost use Rattle.query.specs.InnerWalk.{Clear, Silent, Stands, Cells, Edges};
+ghost use Rattle.query.specs.InnerWalk.{NoBits, Silent, Stands, Cells, Edges};
 
 // Where a walk is: a key, and in each map a place that trails it, so that a walk need not look at both.
 pub struct Walk {
@@ -35,7 +36,7 @@ pub fn walk_at(key: i64) -> Walk
 // Whether 11 bits of a word, from bit `i` on, are all 0.
 fn is_clear(word: u64, i: usize) -> bool
     requires { ⌜ i < 64 ⌝ }
-    ensures { λ r. ⌜ (r ≡ true → Clear word i) ⌝ }
+    ensures { λ r. ⌜ (r ≡ true → NoBits word i) ⌝ }
 {
     (word >> i) % 2048 == 0
 }
@@ -62,11 +63,11 @@ pub fn cell_at(
     count_a: usize,
     starts_a: &[i64],
     ends_a: &[i64],
-    values_a: &[u8],
+    values_a: &[Value],
     count_b: usize,
     starts_b: &[i64],
     ends_b: &[i64],
-    values_b: &[u8],
+    values_b: &[Value],
     t: Truth,
     w: Walk,
     end: i64,
@@ -98,11 +99,11 @@ pub fn quick_cell(
     count_a: usize,
     starts_a: &[i64],
     ends_a: &[i64],
-    values_a: &[u8],
+    values_a: &[Value],
     count_b: usize,
     starts_b: &[i64],
     ends_b: &[i64],
-    values_b: &[u8],
+    values_b: &[Value],
     t: Truth,
     w: Walk,
     end: i64,
@@ -141,11 +142,11 @@ pub fn edge(
     count_a: usize,
     starts_a: &[i64],
     ends_a: &[i64],
-    values_a: &[u8],
+    values_a: &[Value],
     count_b: usize,
     starts_b: &[i64],
     ends_b: &[i64],
-    values_b: &[u8],
+    values_b: &[Value],
     t: Truth,
     w: Walk,
     end: i64,

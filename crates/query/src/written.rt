@@ -2,6 +2,7 @@
 use crate::walk::Walk;
 use crate::walk::edge;
 use crate::walk::quick_cell;
+use key::Value;
 use query_text::truth::Truth;
 use range_list::put;
 use two_sets::pick;
@@ -10,23 +11,24 @@ ghost use mathlib.Core.Path.{_≡_};
 ghost use mathlib.Core.Bool.{false};
 ghost use Prim.Native.Nat.{_≤_, _<_};
 ghost use lib.ListN.{length};
+ghost use Rattle.lent.specs.Moments.{was, becomes};
 ghost use Rattle.key.specs.Rank.{rank};
 ghost use Rattle.key.specs.Range.{halfOpen};
 ghost use Rattle.outcomes.specs.Stored.{Sound};
 ghost use Rattle.query.specs.InnerColumns.{columns, spansOf};
 ghost use Rattle.query.specs.InnerWalk.{Stands};
-ghost use Rattle.query.specs.InnerWritten.{Counts, Known, Measures, HasRoom, Shuts, Writes};
+ghost use Rattle.query.specs.InnerWritten.{Counts, Bounded, Measures, HasRoom, Shuts, Writes};
 
 // How many ranges there are from the walk on, before `end`.
 fn count(
     count_a: usize,
     starts_a: &[i64],
     ends_a: &[i64],
-    values_a: &[u8],
+    values_a: &[Value],
     count_b: usize,
     starts_b: &[i64],
     ends_b: &[i64],
-    values_b: &[u8],
+    values_b: &[Value],
     t: Truth,
     w: Walk,
     end: i64,
@@ -92,11 +94,11 @@ pub fn fits(
     count_a: usize,
     starts_a: &[i64],
     ends_a: &[i64],
-    values_a: &[u8],
+    values_a: &[Value],
     count_b: usize,
     starts_b: &[i64],
     ends_b: &[i64],
-    values_b: &[u8],
+    values_b: &[Value],
     t: Truth,
     w: Walk,
     end: i64,
@@ -106,7 +108,7 @@ pub fn fits(
         × Sound halfOpen (columns «count_b» «starts_b» «ends_b» «values_b»)
         × Stands (spansOf «count_a» «starts_a» «ends_a» «values_a»)
         (spansOf «count_b» «starts_b» «ends_b» «values_b») w × (rank (w .key) ≤ rank end)
-        × Known t (columns «count_a» «starts_a» «ends_a» «values_a») (columns «count_b» «starts_b» «ends_b» «values_b») (w .key) end ⌝ }
+        × Bounded t (columns «count_a» «starts_a» «ends_a» «values_a») (columns «count_b» «starts_b» «ends_b» «values_b») (w .key) end ⌝ }
     ensures { λ r. ⌜ Measures t (spansOf «count_a» («starts_a» .entry) («ends_a» .entry) («values_a» .entry))
         (spansOf «count_b» («starts_b» .entry) («ends_b» .entry) («values_b» .entry)) (rank (w .key)) (rank end) room r ⌝ }
 {
@@ -142,7 +144,7 @@ fn shut(
     key: i64,
 ) -> usize
     requires { ⌜ (on ≡ false → rank start < rank key → (n < length (now «out_starts»)) × (n < length (now «out_ends»))) ⌝ }
-    ensures { λ r. ⌜ Shuts on n (rank start) (rank key) (now («out_starts» .entry)) (now («out_ends» .entry)) r (now («out_starts» .exit)) (now («out_ends» .exit)) ⌝ }
+    ensures { λ r. ⌜ Shuts on n (rank start) (rank key) (was «out_starts») (was «out_ends») r (becomes «out_starts») (becomes «out_ends») ⌝ }
 {
     if key <= start {
         return n;
@@ -159,11 +161,11 @@ pub fn write(
     count_a: usize,
     starts_a: &[i64],
     ends_a: &[i64],
-    values_a: &[u8],
+    values_a: &[Value],
     count_b: usize,
     starts_b: &[i64],
     ends_b: &[i64],
-    values_b: &[u8],
+    values_b: &[Value],
     t: Truth,
     w: Walk,
     end: i64,
@@ -178,7 +180,7 @@ pub fn write(
         (spansOf «count_b» «starts_b» «ends_b» «values_b») (rank (w .key)) (rank end) 0 (now «out_starts») (now «out_ends») ⌝ }
     ensures { λ r. ⌜ Writes t (spansOf «count_a» («starts_a» .entry) («ends_a» .entry) («values_a» .entry))
         (spansOf «count_b» («starts_b» .entry) («ends_b» .entry) («values_b» .entry))
-        (rank (w .key)) (rank end) 0 (now («out_starts» .entry)) (now («out_ends» .entry)) r (now («out_starts» .exit)) (now («out_ends» .exit)) ⌝ }
+        (rank (w .key)) (rank end) 0 (was «out_starts») (was «out_ends») r (becomes «out_starts») (becomes «out_ends») ⌝ }
 {
     let mut n = 0;
     let mut start = w.key;

@@ -7,7 +7,7 @@ use mathlib.Core.Path.{_≡_, refl}
 use mathlib.Core.List.{List, [], _∷_}
 use lib.ListN.{length}
 use Rattle.query_text.specs.Grammar.{Query, first, second, no, both, either, Is}
-use Rattle.query_text.specs.Reader.{got, bad, queryOf, read, reading, digit, atom, closed}
+use Rattle.query_text.specs.Reader.{got, bad, queryOf, readLevel, readSteps, digitThen, atom, closed}
 use Rattle.query_text.proofs.Unambiguous.{taken, refused}
 
 -- the bytes of a text of ASCII characters
@@ -33,7 +33,7 @@ Fails t = queryOf (bytes t) ≡ bad
 
 -- `unfolding all` opens every definition that a case computes with
 unfoldable all : Unit {0}
-unfolding queryOf read reading digit atom closed bytes nots ones
+unfolding queryOf readLevel readSteps digitThen atom closed bytes nots ones
 all = tt
 
 -- DOCUMENT 01'S CASES

@@ -8,7 +8,7 @@ use native.Mathlib.Omega.{arith}
 use borrow.Author.Tests.{eq-eqb, eqb-true}
 use lib.Dec.{eqb}
 use Rattle.query_text.specs.Grammar.{Query, Level, Spells, in-first, in-second, negated, grouped, a-factor, and-term, a-term, or-sum}
-use Rattle.query_text.specs.Meaning.{holds, truth}
+use Rattle.query_text.specs.Meaning.{holdsValue, truth}
 use Rattle.query_text.specs.InnerClasses.{classOf, classTruth}
 
 -- two tests that follow from each other are one
@@ -17,7 +17,7 @@ same-test true b f g = sym (f refl)
 same-test false true f g = g refl
 same-test false false f g = refl
 
-class-holds : (d : ℕ) (x : Option ℕ) → d ≤ 9 → eqb (classOf x) d ≡ holds d x
+class-holds : (d : ℕ) (x : Option ℕ) → d ≤ 9 → eqb (classOf x) d ≡ holdsValue d x
 class-holds d none h = same-test (eqb 10 d) false (λ e. let z = eqb-true 10 d e in absurd (omega arith))
     (λ e. let z : _≡_ {A = ℕ} 0 1 = cc in absurd (omega arith))
 class-holds d (some v) h = same-test (eqb (min v 10) d) (eqb v d)

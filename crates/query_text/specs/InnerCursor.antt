@@ -4,7 +4,7 @@ use mathlib.Core.Bool.{Bool, false, _&&_}
 use mathlib.Core.List.{List, [], _∷_}
 use lib.Dec.{leb}
 use lib.ListN.{length}
-use Rattle.query_text.specs.Grammar.{limit}
+use Rattle.query_text.specs.Grammar.{openLimit}
 use Rattle.query_text.specs.declared.cursor.Cursor.{Cursor}
 
 -- a cursor by its two fields
@@ -23,4 +23,4 @@ startsDigit (b ∷ bs) = isDigit b
 -- a cursor that stands in the bytes, with no more marks open than may be
 pub record Placed (bytes : List ℕ) (c : Cursor) : Type 0 where
   pub inside : c .at ≤ length bytes
-  pub few : c .marks ≤ limit
+  pub few : c .marks ≤ openLimit

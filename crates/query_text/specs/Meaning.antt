@@ -6,14 +6,14 @@ use lib.Dec.{eqb}
 use Rattle.query_text.specs.Grammar.{Query, first, second, no, both, either}
 
 -- does a map that holds x hold the value d
-abbrev pub holds : ℕ → Option ℕ → Bool
-holds d none = false
-holds d (some v) = eqb v d
+abbrev pub holdsValue : ℕ → Option ℕ → Bool
+holdsValue d none = false
+holdsValue d (some v) = eqb v d
 
 -- IS THE QUERY TRUE where the first map holds x and the second y
 unfoldable pub truth : Query → Option ℕ → Option ℕ → Bool
-truth (first d) x y = holds d x
-truth (second d) x y = holds d y
+truth (first d) x y = holdsValue d x
+truth (second d) x y = holdsValue d y
 truth (no q) x y = not (truth q x y)
 truth (both p q) x y = truth p x y && truth q x y
 truth (either p q) x y = truth p x y || truth q x y

@@ -3,7 +3,8 @@ ghost use mathlib.Core.Path.{_≡_};
 ghost use Prim.Native.Nat.{_+_, _-_, _^_, _≤_, _<_};
 ghost use lib.Dec.{leb};
 ghost use lib.ListN.{length, drop, getD};
-ghost use Rattle.query_text.specs.Grammar.{limit};
+ghost use Rattle.lent.specs.Moments.{was};
+ghost use Rattle.query_text.specs.Grammar.{openLimit};
 ghost use Rattle.query_text.specs.Reader.{starts};
 ghost use Rattle.query_text.specs.InnerCursor.{cursor, isDigit, startsDigit};
 
@@ -21,14 +22,14 @@ impl Cursor {
 
     // Whether no further mark may be opened.
     pub fn is_full(self) -> bool
-        ensures { λ r. ⌜ r ≡ leb limit (self .marks) ⌝ }
+        ensures { λ r. ⌜ r ≡ leb openLimit (self .marks) ⌝ }
     {
         self.marks >= Self::LIMIT
     }
 
     // Whether a byte comes next.
     pub fn sees(self, bytes: &[u8], byte: u8) -> bool
-        ensures { λ r. ⌜ r ≡ starts byte (drop (self .at) (now (bytes .entry))) ⌝ }
+        ensures { λ r. ⌜ r ≡ starts byte (drop (self .at) (was bytes)) ⌝ }
     {
         let at = self.at;
         if at >= bytes.len() {
@@ -39,7 +40,7 @@ impl Cursor {
 
     // Whether a digit comes next.
     pub fn sees_digit(self, bytes: &[u8]) -> bool
-        ensures { λ r. ⌜ r ≡ startsDigit (drop (self .at) (now (bytes .entry))) ⌝ }
+        ensures { λ r. ⌜ r ≡ startsDigit (drop (self .at) (was bytes)) ⌝ }
     {
         let at = self.at;
         if at >= bytes.len() {
@@ -51,7 +52,7 @@ impl Cursor {
     // The digit that comes next.
     pub fn digit(self, bytes: &[u8]) -> usize
         requires { ⌜ (self .at < length (now bytes)) × (48 ≤ getD (now bytes) (self .at) 0) ⌝ }
-        ensures { λ r. ⌜ r ≡ getD (now (bytes .entry)) (self .at) 0 - 48 ⌝ }
+        ensures { λ r. ⌜ r ≡ getD (was bytes) (self .at) 0 - 48 ⌝ }
     {
         let at = self.at;
         wide(bytes[at]) - 48
@@ -70,7 +71,7 @@ impl Cursor {
 
     // Past a mark, which is open from here.
     pub fn opened(self) -> Self
-        requires { ⌜ (self .at + 1 < 2 ^ 64) × (self .marks < limit) ⌝ }
+        requires { ⌜ (self .at + 1 < 2 ^ 64) × (self .marks < openLimit) ⌝ }
         ensures { λ r. ⌜ r ≡ cursor (self .at + 1) (self .marks + 1) ⌝ }
     {
         Cursor {

@@ -4,8 +4,9 @@ use crate::cursor::Cursor;
 use crate::truth::Truth;
 ghost use Prim.Native.Nat.{_-_, _≤_, _<_};
 ghost use lib.ListN.{length, drop};
-ghost use Rattle.query_text.specs.Grammar.{limit, factor as Level·factor, term as Level·term, sum as Level·sum};
-ghost use Rattle.query_text.specs.Reader.{digit, atom as Reader·atom, queryOf};
+ghost use Rattle.lent.specs.Moments.{was};
+ghost use Rattle.query_text.specs.Grammar.{openLimit, factor as Level·factor, term as Level·term, sum as Level·sum};
+ghost use Rattle.query_text.specs.Reader.{digitThen, atom as Reader·atom, queryOf};
 ghost use Rattle.query_text.specs.InnerClasses.{atomOf};
 ghost use Rattle.query_text.specs.InnerCursor.{Placed};
 ghost use Rattle.query_text.specs.InnerReading.{ReadAs, here, negation, grouping};
@@ -19,7 +20,7 @@ pub enum Reading {
 // A digit: the second map holds it, or else the first.
 fn holding(bytes: &[u8], c: Cursor, second: bool) -> Reading
     requires { ⌜ c .at ≤ length (now bytes) ⌝ }
-    ensures { λ r. ⌜ ReadAs (now (bytes .entry)) (c .marks) (digit (atomOf second) (drop (c .at) (now (bytes .entry)))) r ⌝ }
+    ensures { λ r. ⌜ ReadAs (was bytes) (c .marks) (digitThen (atomOf second) (drop (c .at) (was bytes))) r ⌝ }
 {
     if !c.sees_digit(bytes) {
         return Reading::Bad;
@@ -30,7 +31,7 @@ fn holding(bytes: &[u8], c: Cursor, second: bool) -> Reading
 // A or B, then a digit.
 fn atom(bytes: &[u8], c: Cursor) -> Reading
     requires { ⌜ c .at ≤ length (now bytes) ⌝ }
-    ensures { λ r. ⌜ ReadAs (now (bytes .entry)) (c .marks) (Reader·atom (drop (c .at) (now (bytes .entry)))) r ⌝ }
+    ensures { λ r. ⌜ ReadAs (was bytes) (c .marks) (Reader·atom (drop (c .at) (was bytes))) r ⌝ }
 {
     if c.sees(bytes, b'A') {
         return holding(bytes, c.next(), false);
@@ -43,8 +44,8 @@ fn atom(bytes: &[u8], c: Cursor) -> Reading
 
 // `!` and its operand. The mark is open until the operand ends.
 fn negated(bytes: &[u8], c: Cursor) -> Reading
-    requires { ⌜ (c .at < length (now bytes)) × (c .marks ≤ limit) ⌝ }
-    ensures { λ r. ⌜ ReadAs (now (bytes .entry)) (c .marks) (negation (limit - c .marks) (drop (c .at) (now (bytes .entry)))) r ⌝ }
+    requires { ⌜ (c .at < length (now bytes)) × (c .marks ≤ openLimit) ⌝ }
+    ensures { λ r. ⌜ ReadAs (was bytes) (c .marks) (negation (openLimit - c .marks) (drop (c .at) (was bytes))) r ⌝ }
 {
     if c.is_full() {
         return Reading::Bad;
@@ -57,8 +58,8 @@ fn negated(bytes: &[u8], c: Cursor) -> Reading
 
 // A query in parentheses.
 fn grouped(bytes: &[u8], c: Cursor) -> Reading
-    requires { ⌜ (c .at < length (now bytes)) × (c .marks ≤ limit) ⌝ }
-    ensures { λ r. ⌜ ReadAs (now (bytes .entry)) (c .marks) (grouping (limit - c .marks) (drop (c .at) (now (bytes .entry)))) r ⌝ }
+    requires { ⌜ (c .at < length (now bytes)) × (c .marks ≤ openLimit) ⌝ }
+    ensures { λ r. ⌜ ReadAs (was bytes) (c .marks) (grouping (openLimit - c .marks) (drop (c .at) (was bytes))) r ⌝ }
 {
     if c.is_full() {
         return Reading::Bad;
@@ -75,7 +76,7 @@ fn grouped(bytes: &[u8], c: Cursor) -> Reading
 // What binds tightest.
 fn factor(bytes: &[u8], c: Cursor) -> Reading
     requires { ⌜ Placed (now bytes) c ⌝ }
-    ensures { λ r. ⌜ ReadAs (now (bytes .entry)) (c .marks) (here Level·factor (now (bytes .entry)) c) r ⌝ }
+    ensures { λ r. ⌜ ReadAs (was bytes) (c .marks) (here Level·factor (was bytes) c) r ⌝ }
 {
     if c.sees(bytes, b'!') {
         return negated(bytes, c);
@@ -89,7 +90,7 @@ fn factor(bytes: &[u8], c: Cursor) -> Reading
 // Factors with `&` between them.
 fn term(bytes: &[u8], c: Cursor) -> Reading
     requires { ⌜ Placed (now bytes) c ⌝ }
-    ensures { λ r. ⌜ ReadAs (now (bytes .entry)) (c .marks) (here Level·term (now (bytes .entry)) c) r ⌝ }
+    ensures { λ r. ⌜ ReadAs (was bytes) (c .marks) (here Level·term (was bytes) c) r ⌝ }
 {
     let Reading::Got(d, t) = factor(bytes, c) else {
         return Reading::Bad;
@@ -106,7 +107,7 @@ fn term(bytes: &[u8], c: Cursor) -> Reading
 // Terms with `|` between them.
 fn sum(bytes: &[u8], c: Cursor) -> Reading
     requires { ⌜ Placed (now bytes) c ⌝ }
-    ensures { λ r. ⌜ ReadAs (now (bytes .entry)) (c .marks) (here Level·sum (now (bytes .entry)) c) r ⌝ }
+    ensures { λ r. ⌜ ReadAs (was bytes) (c .marks) (here Level·sum (was bytes) c) r ⌝ }
 {
     let Reading::Got(d, t) = term(bytes, c) else {
         return Reading::Bad;
@@ -125,7 +126,7 @@ const LONGEST: usize = 64;
 
 // THE QUERY that all the bytes are.
 pub fn read_query(bytes: &[u8]) -> Reading
-    ensures { λ r. ⌜ ReadAs (now (bytes .entry)) 0 (queryOf (now (bytes .entry))) r ⌝ }
+    ensures { λ r. ⌜ ReadAs (was bytes) 0 (queryOf (was bytes)) r ⌝ }
 {
     if bytes.len() > LONGEST {
         return Reading::Bad;

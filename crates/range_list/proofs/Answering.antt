@@ -10,16 +10,17 @@ use lib.Seq.{sets, sets-eq}
 use lib.IntN.{ℤ}
 use mir.Syntax.{w64}
 use mir.Val.{toZ}
+use Rattle.answers.specs.Answers.{tooShort}
 use Rattle.span.specs.Span.{Span}
 use Rattle.key.specs.Rank.{bitRank, keyAt}
 use Rattle.key.specs.Range.{Kind}
 use Rattle.key.proofs.Laws.{key-bits}
-use Rattle.outcomes.specs.Outcomes.{over, writing}
+use Rattle.outcomes.specs.Outcomes.{inFirstPlaces, intoLists}
 use Rattle.outcomes.specs.declared.Counted.the-variants as Counted
-use Rattle.range_list.specs.InnerLists.{wrote, startsOf, endsOf, Room, Puts}
+use Rattle.range_list.specs.InnerLists.{wrote, startsOf, endsOf, ListRoom, Puts}
 
 -- a lent list with stores in its first places
-sets-over : (vs l : List ℤ) → length vs ≤ length l → sets l 0 vs ≡ over vs l
+sets-over : (vs l : List ℤ) → length vs ≤ length l → sets l 0 vs ≡ inFirstPlaces vs l
 sets-over vs l h = let n : 0 + length vs ≡ length vs = omega arith in rw n at (sets-eq vs l 0 (omega arith))
 
 not-le : {a b : ℕ} → (a ≤ b → ⊥) → b < a
@@ -28,23 +29,23 @@ not-le {a} {b} h = elim (decLt b a) [ yes p ↦ p | no p ↦ absurd (h (omega ar
 -- THE ANSWERS: r is the room that there is, and xs the ranges
 module _ (kind : Kind) (xs : List Span) (os oe : List ℤ) {r : ℕ} (room : r ≡ min (length os) (length oe)) where
   -- there is no room
-  pub answers-short : (length xs ≤ r → ⊥) → wrote (Counted.Refused 3) os oe ≡ writing kind xs os oe
-  unfolding writing
+  pub answers-short : (length xs ≤ r → ⊥) → wrote (Counted.Refused tooShort) os oe ≡ intoLists kind xs os oe
+  unfolding intoLists
   answers-short f = let h = rw room at (not-le f) in rw (lt-ltb (min (length os) (length oe)) (length xs) h)
 
   -- there is
-  pub enough : length xs ≤ r → Room 0 xs os oe
+  pub enough : length xs ≤ r → ListRoom 0 xs os oe
   enough h = record { starts = omega (arith, room); ends = omega (arith, room) }
 
-  all-written : length xs ≤ r → wrote (Counted.Count (length xs)) (sets os 0 (startsOf xs)) (sets oe 0 (endsOf kind xs)) ≡ writing kind xs os oe
-  unfolding writing
+  all-written : length xs ≤ r → wrote (Counted.Count (length xs)) (sets os 0 (startsOf xs)) (sets oe 0 (endsOf kind xs)) ≡ intoLists kind xs os oe
+  unfolding intoLists
   all-written h =
       let a = sets-over (startsOf xs) os (omega (arith, room, length-map xs (λ (x : Span). keyAt (x .lo)))) in
       let b = sets-over (endsOf kind xs) oe (omega (arith, room, length-map xs (λ (x : Span). kind .ending (x .hi)))) in
       rw (a, b, le-ltb (min (length os) (length oe)) (length xs) (omega (arith, room)))
 
   -- and the ranges are written
-  pub answers-done : {n : ℕ} {os₁ oe₁ : List ℤ} → length xs ≤ r → (n ≡ length xs) × Puts kind 0 xs os oe os₁ oe₁ → wrote (Counted.Count n) os₁ oe₁ ≡ writing kind xs os oe
+  pub answers-done : {n : ℕ} {os₁ oe₁ : List ℤ} → length xs ≤ r → (n ≡ length xs) × Puts kind 0 xs os oe os₁ oe₁ → wrote (Counted.Count n) os₁ oe₁ ≡ intoLists kind xs os oe
   answers-done h w = rw (w .0, w .1 .starts, w .1 .ends) (all-written h)
 
 -- a start as the code writes it

@@ -23,7 +23,7 @@ abbrev pub endsOf : Kind → List Span → List ℤ
 endsOf kind xs = map (λ (x : Span). kind .ending (x .hi)) xs
 
 -- from place n on, two lent lists have room for ranges
-pub record Room (n : ℕ) (xs : List Span) (os oe : List ℤ) : Type 0 where
+pub record ListRoom (n : ℕ) (xs : List Span) (os oe : List ℤ) : Type 0 where
   pub starts : n + length xs ≤ length os
   pub ends : n + length xs ≤ length oe
 

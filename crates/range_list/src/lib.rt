@@ -2,6 +2,7 @@
 ghost use mathlib.Core.Path.{_≡_};
 ghost use Prim.Native.Nat.{_<_, min};
 ghost use lib.ListN.{length, set};
+ghost use Rattle.lent.specs.Moments.{was, becomes};
 
 // The lesser of two lengths.
 pub fn shorter(a: usize, b: usize) -> usize
@@ -16,7 +17,7 @@ pub fn shorter(a: usize, b: usize) -> usize
 // Writes a range into place `n`.
 pub fn put(out_starts: &mut [i64], out_ends: &mut [i64], n: usize, start: i64, end: i64)
     requires { ⌜ (n < length (now «out_starts»)) × (n < length (now «out_ends»)) ⌝ }
-    ensures { λ _. ⌜ (now («out_starts» .exit) ≡ set (now («out_starts» .entry)) n start) × (now («out_ends» .exit) ≡ set (now («out_ends» .entry)) n end) ⌝ }
+    ensures { λ _. ⌜ (becomes «out_starts» ≡ set (was «out_starts») n start) × (becomes «out_ends» ≡ set (was «out_ends») n end) ⌝ }
 {
     out_starts[n] = start;
     out_ends[n] = end;

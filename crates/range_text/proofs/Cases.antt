@@ -5,11 +5,11 @@ use lib.IntN.{pos, negsuc}
 use lib.ListN.{length}
 use Rattle.outcomes.specs.Stored.{stored}
 use Rattle.decimal.specs.Decimal.{spelled, decimalText, signedText}
-use Rattle.filling.specs.Filling.{ascii, pieceOf, leftBy, filled, series}
+use Rattle.filling.specs.Filling.{ascii, pieceOf, leftBy, filledIn, series}
 use Rattle.range_text.specs.RangeText.{rangeText, rangeLine, resultLine, rangesText, resultText}
 
 unfoldable all : Unit {0}
-unfolding spelled decimalText signedText pieceOf leftBy filled series rangeText rangeLine resultLine rangesText resultText
+unfolding spelled decimalText signedText pieceOf leftBy filledIn series rangeText rangeLine resultLine rangesText resultText
 all = tt
 
 -- 0..8>1 with 2..4>2 inserted

@@ -5,7 +5,7 @@ use lib.ListN.{getD}
 use lib.IntN.{ℤ, pos}
 use Rattle.outcomes.specs.Stored.{places, Stored}
 use Rattle.decimal.specs.Decimal.{signedText}
-use Rattle.filling.specs.Filling.{ascii, filled, series}
+use Rattle.filling.specs.Filling.{ascii, filledIn, series}
 
 -- START..END
 unfoldable pub rangeText : ℤ → ℤ → List ℕ
@@ -13,7 +13,7 @@ rangeText s e = signedText s ++ ascii ".." ++ signedText e
 
 -- the line of a range of a map
 unfoldable pub rangeLine : ℤ → ℤ → ℕ → List ℕ
-rangeLine s e v = rangeText s e ++ filled (ascii ">{\n") (v ∷ [])
+rangeLine s e v = rangeText s e ++ filledIn (ascii ">{\n") (v ∷ [])
 
 -- the line of a range of a result, which holds no value
 unfoldable pub resultLine : ℤ → ℤ → List ℕ

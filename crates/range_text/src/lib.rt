@@ -7,7 +7,8 @@ use text::put_byte;
 ghost use mathlib.Core.Path.{_≡_};
 ghost use Prim.Native.Nat.{_+_, _*_, _≤_};
 ghost use lib.ListN.{length};
-ghost use Rattle.outcomes.specs.Stored.{places, stored};
+ghost use Rattle.lent.specs.Moments.{was, becomes};
+ghost use Rattle.outcomes.specs.Stored.{places, atEntryWith};
 ghost use Rattle.filling.specs.Filling.{AddsWithin};
 ghost use Rattle.range_text.specs.RangeText.{rangeText, rangeLine, resultLine, rangesText, results, resultText};
 ghost use Rattle.range_text.specs.InnerRoom.{rangeRoom, rangeLineRoom, resultLineRoom, RangesRoom, ResultsRoom};
@@ -27,7 +28,7 @@ pub const RESULTS_ROOM: usize = RESULTS * 43;
 // A range, START..END.
 fn put_range(out: &mut [u8], at: usize, start: i64, end: i64) -> usize
     requires { ⌜ at + rangeRoom ≤ length (now out) ⌝ }
-    ensures { λ r. ⌜ AddsWithin rangeRoom (rangeText start end) (now (out .entry)) at (now (out .exit)) r ⌝ }
+    ensures { λ r. ⌜ AddsWithin rangeRoom (rangeText start end) (was out) at (becomes out) r ⌝ }
 {
     let dots = put_i64(out, at, start);
     let to = put(out, dots, b"..");
@@ -37,7 +38,7 @@ fn put_range(out: &mut [u8], at: usize, start: i64, end: i64) -> usize
 // The line of a range of a map.
 fn put_line(out: &mut [u8], at: usize, start: i64, end: i64, value: u8) -> usize
     requires { ⌜ at + rangeLineRoom ≤ length (now out) ⌝ }
-    ensures { λ r. ⌜ AddsWithin rangeLineRoom (rangeLine start end value) (now (out .entry)) at (now (out .exit)) r ⌝ }
+    ensures { λ r. ⌜ AddsWithin rangeLineRoom (rangeLine start end value) (was out) at (becomes out) r ⌝ }
 {
     let to = put_range(out, at, start, end);
     let numbers = [value as u64];
@@ -47,7 +48,7 @@ fn put_line(out: &mut [u8], at: usize, start: i64, end: i64, value: u8) -> usize
 // The line of a range of a result.
 fn put_result_line(out: &mut [u8], at: usize, start: i64, end: i64) -> usize
     requires { ⌜ at + resultLineRoom ≤ length (now out) ⌝ }
-    ensures { λ r. ⌜ AddsWithin resultLineRoom (resultLine start end) (now (out .entry)) at (now (out .exit)) r ⌝ }
+    ensures { λ r. ⌜ AddsWithin resultLineRoom (resultLine start end) (was out) at (becomes out) r ⌝ }
 {
     let to = put_range(out, at, start, end);
     put_byte(out, to, b'\n')
@@ -56,7 +57,7 @@ fn put_result_line(out: &mut [u8], at: usize, start: i64, end: i64) -> usize
 // The lines of the first `count` places.
 fn put_ranges(count: usize, starts: &[i64], ends: &[i64], values: &[u8], out: &mut [u8]) -> usize
     requires { ⌜ RangesRoom count (now starts) (now ends) (now values) (now out) ⌝ }
-    ensures { λ r. ⌜ AddsWithin (rangeLineRoom * count) (rangesText (stored count (now (starts .entry)) (now (ends .entry)) (now (values .entry)))) (now (out .entry)) 0 (now (out .exit)) r ⌝ }
+    ensures { λ r. ⌜ AddsWithin (rangeLineRoom * count) (rangesText (atEntryWith count starts ends values)) (was out) 0 (becomes out) r ⌝ }
 {
     let mut to = 0;
     let mut i = 0;
@@ -76,7 +77,7 @@ pub fn ranges_text(
     out: &mut [u8; RANGES_ROOM],
 ) -> usize
     requires { ⌜ count ≤ places ⌝ }
-    ensures { λ r. ⌜ AddsWithin (rangeLineRoom * count) (rangesText (stored count (now (starts .entry)) (now (ends .entry)) (now (values .entry)))) (now (out .entry)) 0 (now (out .exit)) r ⌝ }
+    ensures { λ r. ⌜ AddsWithin (rangeLineRoom * count) (rangesText (atEntryWith count starts ends values)) (was out) 0 (becomes out) r ⌝ }
 {
     put_ranges(count, starts, ends, values, out)
 }
@@ -84,7 +85,7 @@ pub fn ranges_text(
 // The lines of the first n places of a result.
 fn put_results(n: usize, starts: &[i64], ends: &[i64], out: &mut [u8]) -> usize
     requires { ⌜ ResultsRoom n (now starts) (now ends) (now out) ⌝ }
-    ensures { λ r. ⌜ AddsWithin (resultLineRoom * n) (resultText (now (starts .entry)) (now (ends .entry)) n) (now (out .entry)) 0 (now (out .exit)) r ⌝ }
+    ensures { λ r. ⌜ AddsWithin (resultLineRoom * n) (resultText (was starts) (was ends) n) (was out) 0 (becomes out) r ⌝ }
 {
     let mut to = 0;
     let mut i = 0;
@@ -103,7 +104,7 @@ pub fn result_text(
     out: &mut [u8; RESULTS_ROOM],
 ) -> usize
     requires { ⌜ n ≤ results ⌝ }
-    ensures { λ r. ⌜ AddsWithin (resultLineRoom * n) (resultText (now (starts .entry)) (now (ends .entry)) n) (now (out .entry)) 0 (now (out .exit)) r ⌝ }
+    ensures { λ r. ⌜ AddsWithin (resultLineRoom * n) (resultText (was starts) (was ends) n) (was out) 0 (becomes out) r ⌝ }
 {
     put_results(n, starts, ends, out)
 }

@@ -2,3 +2,4 @@
 pub mod Returns
 pub mod Laws
 pub mod Cases
+pub mod OneOutcome

@@ -8,31 +8,33 @@ use crate::overlaps;
 use crate::relation_numbers;
 use crate::touches;
 use key::RangeKind;
-ghost use mathlib.Core.Path.{_≡_};
-ghost use Rattle.key.specs.Range.{halfOpen};
-ghost use Rattle.relations.specs.Relations.{containing, overlapping, touching, intersecting, relationNumbers, commonNumbers};
+ghost use Rattle.relations.specs.Promises.{RangeContains, RangeOverlaps, RangeTouches, RangeIntersect};
 
+// Whether the key is in start..end.
 #[no_mangle]
 pub extern "C" fn range_contains(start: i64, end: i64, key: i64) -> Related
-    ensures { λ r. ⌜ r ≡ relationNumbers (containing halfOpen start end key) ⌝ }
+    ensures { λ r. ⌜ RangeContains start end key r ⌝ }
 {
     relation_numbers(contains(RangeKind::HalfOpen, start, end, key))
 }
 
+// Whether a key is in both ranges.
 #[no_mangle]
 pub extern "C" fn range_overlaps(start: i64, end: i64, other_start: i64, other_end: i64) -> Related
-    ensures { λ r. ⌜ r ≡ relationNumbers (overlapping halfOpen start end «other_start» «other_end») ⌝ }
+    ensures { λ r. ⌜ RangeOverlaps start end «other_start» «other_end» r ⌝ }
 {
     relation_numbers(overlaps(RangeKind::HalfOpen, start, end, other_start, other_end))
 }
 
+// Whether nothing lies between the two ranges; so ranges that overlap touch too.
 #[no_mangle]
 pub extern "C" fn range_touches(start: i64, end: i64, other_start: i64, other_end: i64) -> Related
-    ensures { λ r. ⌜ r ≡ relationNumbers (touching halfOpen start end «other_start» «other_end») ⌝ }
+    ensures { λ r. ⌜ RangeTouches start end «other_start» «other_end» r ⌝ }
 {
     relation_numbers(touches(RangeKind::HalfOpen, start, end, other_start, other_end))
 }
 
+// The keys of both ranges, from the greater start to the lesser end, or 5.
 #[no_mangle]
 pub extern "C" fn range_intersect(
     start: i64,
@@ -40,7 +42,7 @@ pub extern "C" fn range_intersect(
     other_start: i64,
     other_end: i64,
 ) -> Intersected
-    ensures { λ r. ⌜ r ≡ commonNumbers (intersecting halfOpen start end «other_start» «other_end») ⌝ }
+    ensures { λ r. ⌜ RangeIntersect start end «other_start» «other_end» r ⌝ }
 {
     common_numbers(intersect(RangeKind::HalfOpen, start, end, other_start, other_end))
 }

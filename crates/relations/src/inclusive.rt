@@ -8,17 +8,17 @@ use crate::overlaps;
 use crate::relation_numbers;
 use crate::touches;
 use key::RangeKind;
-ghost use mathlib.Core.Path.{_≡_};
-ghost use Rattle.key.specs.Range.{inclusive};
-ghost use Rattle.relations.specs.Relations.{containing, overlapping, touching, intersecting, relationNumbers, commonNumbers};
+ghost use Rattle.relations.specs.Promises.{RangeInclusiveContains, RangeInclusiveOverlaps, RangeInclusiveTouches, RangeInclusiveIntersect};
 
+// Whether the key is in start..=end.
 #[no_mangle]
 pub extern "C" fn range_inclusive_contains(start: i64, end: i64, key: i64) -> Related
-    ensures { λ r. ⌜ r ≡ relationNumbers (containing inclusive start end key) ⌝ }
+    ensures { λ r. ⌜ RangeInclusiveContains start end key r ⌝ }
 {
     relation_numbers(contains(RangeKind::Inclusive, start, end, key))
 }
 
+// Whether a key is in both ranges.
 #[no_mangle]
 pub extern "C" fn range_inclusive_overlaps(
     start: i64,
@@ -26,11 +26,12 @@ pub extern "C" fn range_inclusive_overlaps(
     other_start: i64,
     other_end: i64,
 ) -> Related
-    ensures { λ r. ⌜ r ≡ relationNumbers (overlapping inclusive start end «other_start» «other_end») ⌝ }
+    ensures { λ r. ⌜ RangeInclusiveOverlaps start end «other_start» «other_end» r ⌝ }
 {
     relation_numbers(overlaps(RangeKind::Inclusive, start, end, other_start, other_end))
 }
 
+// Whether nothing lies between the two ranges; so ranges that overlap touch too.
 #[no_mangle]
 pub extern "C" fn range_inclusive_touches(
     start: i64,
@@ -38,11 +39,12 @@ pub extern "C" fn range_inclusive_touches(
     other_start: i64,
     other_end: i64,
 ) -> Related
-    ensures { λ r. ⌜ r ≡ relationNumbers (touching inclusive start end «other_start» «other_end») ⌝ }
+    ensures { λ r. ⌜ RangeInclusiveTouches start end «other_start» «other_end» r ⌝ }
 {
     relation_numbers(touches(RangeKind::Inclusive, start, end, other_start, other_end))
 }
 
+// The keys of both ranges, from the greater start to the lesser end, or 5.
 #[no_mangle]
 pub extern "C" fn range_inclusive_intersect(
     start: i64,
@@ -50,7 +52,7 @@ pub extern "C" fn range_inclusive_intersect(
     other_start: i64,
     other_end: i64,
 ) -> Intersected
-    ensures { λ r. ⌜ r ≡ commonNumbers (intersecting inclusive start end «other_start» «other_end») ⌝ }
+    ensures { λ r. ⌜ RangeInclusiveIntersect start end «other_start» «other_end» r ⌝ }
 {
     common_numbers(intersect(RangeKind::Inclusive, start, end, other_start, other_end))
 }

@@ -3,6 +3,9 @@
 pub mod half_open;
 pub mod inclusive;
 
+use answers::DONE;
+use answers::EMPTY_RANGE;
+use answers::NONE_THERE;
 use key::RangeKind;
 use key::full;
 ghost use mathlib.Core.Path.{_≡_};
@@ -10,7 +13,7 @@ ghost use Prim.Native.Nat.{_<_};
 ghost use Rattle.key.specs.InnerDecides.{Decides};
 ghost use Rattle.key.specs.Rank.{rank};
 ghost use Rattle.key.specs.Range.{kindOf};
-ghost use Rattle.relations.specs.Relations.{containing, overlapping, touching, intersecting, relationNumbers, commonNumbers};
+ghost use Rattle.relations.specs.Relations.{rangeContains, rangesOverlap, rangesTouch, rangesIntersect, relationInC, commonInC};
 
 // Whether two ranges are related; there is no answer for a range that is empty or reversed.
 pub enum Relation {
@@ -42,7 +45,7 @@ pub struct Intersected {
 
 // Whether the key is in the range: not before its start, and before its end.
 pub fn contains(kind: RangeKind, start: i64, end: i64, key: i64) -> Relation
-    ensures { λ r. ⌜ r ≡ containing (kindOf kind) start end key ⌝ }
+    ensures { λ r. ⌜ r ≡ rangeContains (kindOf kind) start end key ⌝ }
 {
     if !full(kind, start, end) {
         return Relation::Empty;
@@ -68,7 +71,7 @@ fn both_full(kind: RangeKind, start: i64, end: i64, other_start: i64, other_end:
 
 // Whether some key is in both ranges: each starts before the other's end.
 pub fn overlaps(kind: RangeKind, start: i64, end: i64, other_start: i64, other_end: i64) -> Relation
-    ensures { λ r. ⌜ r ≡ overlapping (kindOf kind) start end «other_start» «other_end» ⌝ }
+    ensures { λ r. ⌜ r ≡ rangesOverlap (kindOf kind) start end «other_start» «other_end» ⌝ }
 {
     if !both_full(kind, start, end, other_start, other_end) {
         return Relation::Empty;
@@ -103,7 +106,7 @@ fn apart(kind: RangeKind, end: i64, start: i64) -> bool
 
 // Whether nothing lies between the ranges: they overlap, or one begins right where the other ends.
 pub fn touches(kind: RangeKind, start: i64, end: i64, other_start: i64, other_end: i64) -> Relation
-    ensures { λ r. ⌜ r ≡ touching (kindOf kind) start end «other_start» «other_end» ⌝ }
+    ensures { λ r. ⌜ r ≡ rangesTouch (kindOf kind) start end «other_start» «other_end» ⌝ }
 {
     if !both_full(kind, start, end, other_start, other_end) {
         return Relation::Empty;
@@ -119,7 +122,7 @@ pub fn touches(kind: RangeKind, start: i64, end: i64, other_start: i64, other_en
 
 // What both ranges have: from the greater start to the lesser end, if a key is left. Any pair is taken.
 pub fn intersect(kind: RangeKind, start: i64, end: i64, other_start: i64, other_end: i64) -> Common
-    ensures { λ r. ⌜ r ≡ intersecting (kindOf kind) start end «other_start» «other_end» ⌝ }
+    ensures { λ r. ⌜ r ≡ rangesIntersect (kindOf kind) start end «other_start» «other_end» ⌝ }
 {
     let s = key::max(start, other_start);
     let e = key::min(end, other_end);
@@ -130,35 +133,35 @@ pub fn intersect(kind: RangeKind, start: i64, end: i64, other_start: i64, other_
 }
 
 pub fn relation_numbers(r: Relation) -> Related
-    ensures { λ n. ⌜ n ≡ relationNumbers r ⌝ }
+    ensures { λ n. ⌜ n ≡ relationInC r ⌝ }
 {
     match r {
         Relation::Yes => Related {
-            answer: 0,
+            answer: DONE,
             yes: true,
         },
         Relation::No => Related {
-            answer: 0,
+            answer: DONE,
             yes: false,
         },
         Relation::Empty => Related {
-            answer: 1,
+            answer: EMPTY_RANGE,
             yes: false,
         },
     }
 }
 
 pub fn common_numbers(c: Common) -> Intersected
-    ensures { λ n. ⌜ n ≡ commonNumbers c ⌝ }
+    ensures { λ n. ⌜ n ≡ commonInC c ⌝ }
 {
     match c {
         Common::Between(start, end) => Intersected {
-            answer: 0,
+            answer: DONE,
             start: start,
             end: end,
         },
         Common::Nothing => Intersected {
-            answer: 5,
+            answer: NONE_THERE,
             start: 0,
             end: 0,
         },

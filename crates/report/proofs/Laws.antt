@@ -8,6 +8,7 @@ use mathlib.Core.Bool.{Bool, true, false, cond}
 use mathlib.Core.List.{List}
 use mathlib.Core.Option.{some, none}
 use lib.IntN.{ℤ}
+use Rattle.answers.specs.Answers.{notFormed, badStatus}
 use Rattle.span.specs.Span.{Span, inside, at, Ordered}
 use Rattle.span.specs.Labels.{through, passed}
 use Rattle.span.specs.Operations.{count, unless}
@@ -28,7 +29,7 @@ use Rattle.duty.proofs.Sums.{duties-sum, unrecorded-free, free-unrecorded}
 use Rattle.log_day.specs.Days.{dayOf}
 use Rattle.log_day.specs.declared.Day.{Day}
 use Rattle.log_day.specs.declared.Day.the-variants as Day
-use Rattle.report.specs.Report.{between, inDay, reporting, reportOf}
+use Rattle.report.specs.Report.{withKeys, dayReportSound, dayReport, reportedInC}
 use Rattle.report.specs.declared.Reported.{Reported}
 use Rattle.report.specs.declared.Reported.the-variants as Reported
 use Rattle.report.specs.declared.DayReport.{DayReport}
@@ -46,7 +47,7 @@ apart e = let z : _≡_ {A = ℕ} 0 1 = cc in omega arith
 
 module _ (m : Stored) (z y mo d : ℕ) {s e : ℤ} {t : Totals} where
   of-tally : (b : Bool) (s′ e′ : ℤ) → formed halfOpen m ≡ true → dayOf z y mo d ≡ Day.Span s′ e′ → strange (rank s′) (rank e′) (ranges halfOpen m) ≡ b
-      → between s′ e′ (cond b (Tallied.Refused 10) (Tallied.Seconds (totalsOf (rank s′) (rank e′) (ranges halfOpen m)))) ≡ Reported.Totals s e t → Told m z y mo d s e t
+      → withKeys s′ e′ (cond b (Tallied.Refused badStatus) (Tallied.Seconds (totalsOf (rank s′) (rank e′) (ranges halfOpen m)))) ≡ Reported.Totals s e t → Told m z y mo d s e t
   of-tally true s′ e′ w h c q = absurd (apart q)
   of-tally false s′ e′ w h c q =
       let a : s′ ≡ s = cc in
@@ -54,39 +55,39 @@ module _ (m : Stored) (z y mo d : ℕ) {s e : ℤ} {t : Totals} where
       let u : totalsOf (rank s′) (rank e′) (ranges halfOpen m) ≡ t = cc in
       record { well = w; day = rw (← a, ← b) h; calm = rw (← a, ← b) c; totals = sym (rw (a, b) at u) }
 
-  of-day : (x : Day) → formed halfOpen m ≡ true → dayOf z y mo d ≡ x → inDay m x ≡ Reported.Totals s e t → Told m z y mo d s e t
+  of-day : (x : Day) → formed halfOpen m ≡ true → dayOf z y mo d ≡ x → dayReportSound m x ≡ Reported.Totals s e t → Told m z y mo d s e t
   unfolding tallying
   of-day (Day.Span s′ e′) w h q = of-tally (strange (rank s′) (rank e′) (ranges halfOpen m)) s′ e′ w h refl q
   of-day (Day.Refused n) w h q = absurd (apart q)
 
-  pub told : reporting m z y mo d ≡ Reported.Totals s e t → Told m z y mo d s e t
-  unfolding reporting
+  pub told : dayReport m z y mo d ≡ Reported.Totals s e t → Told m z y mo d s e t
+  unfolding dayReport
   told q = go (formed halfOpen m) refl q
     where
-      go : (b : Bool) → formed halfOpen m ≡ b → cond b (inDay m (dayOf z y mo d)) (Reported.Refused 4) ≡ Reported.Totals s e t → Told m z y mo d s e t
+      go : (b : Bool) → formed halfOpen m ≡ b → cond b (dayReportSound m (dayOf z y mo d)) (Reported.Refused notFormed) ≡ Reported.Totals s e t → Told m z y mo d s e t
       go true w q = of-day (dayOf z y mo d) w refl q
       go false w q = absurd (apart q)
 
 -- THE ORDER OF REFUSALS
-pub not-formed : (m : Stored) (z y mo d : ℕ) → formed halfOpen m ≡ false → reporting m z y mo d ≡ Reported.Refused 4
-unfolding reporting
+pub not-formed : (m : Stored) (z y mo d : ℕ) → formed halfOpen m ≡ false → dayReport m z y mo d ≡ Reported.Refused notFormed
+unfolding dayReport
 not-formed m z y mo d h = rw h
 
-pub no-day : (m : Stored) (z y mo d n : ℕ) → formed halfOpen m ≡ true → dayOf z y mo d ≡ Day.Refused n → reporting m z y mo d ≡ Reported.Refused n
-unfolding reporting
+pub no-day : (m : Stored) (z y mo d n : ℕ) → formed halfOpen m ≡ true → dayOf z y mo d ≡ Day.Refused n → dayReport m z y mo d ≡ Reported.Refused n
+unfolding dayReport
 no-day m z y mo d n h q = rw (h, q)
 
 pub strange-day : (m : Stored) (z y mo d : ℕ) (s e : ℤ) → formed halfOpen m ≡ true → dayOf z y mo d ≡ Day.Span s e → strange (rank s) (rank e) (ranges halfOpen m) ≡ true
-    → reporting m z y mo d ≡ Reported.Refused 10
-unfolding reporting tallying
+    → dayReport m z y mo d ≡ Reported.Refused badStatus
+unfolding dayReport tallying
 strange-day m z y mo d s e h q c = rw (h, q, c)
 
 -- THE ONE REPORT
-pub report-one : {r t : DayReport} (m : Stored) (z y mo d : ℕ) → r ≡ reportOf (reporting m z y mo d) → t ≡ reportOf (reporting m z y mo d) → r ≡ t
+pub report-one : {r t : DayReport} (m : Stored) (z y mo d : ℕ) → r ≡ reportedInC (dayReport m z y mo d) → t ≡ reportedInC (dayReport m z y mo d) → r ≡ t
 report-one m z y mo d = one-answer
 
 -- WHAT IS IN IT
-module _ (m : Stored) (z y mo d : ℕ) (s e : ℤ) (t : Totals) (q : reporting m z y mo d ≡ Reported.Totals s e t) where
+module _ (m : Stored) (z y mo d : ℕ) (s e : ℤ) (t : Totals) (q : dayReport m z y mo d ≡ Reported.Totals s e t) where
   abbrev xs : List Span
   xs = ranges halfOpen m
 

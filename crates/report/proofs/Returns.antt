@@ -7,7 +7,7 @@ use lib.Dec.{lt→ltb}
 use lib.Ieee.{binary64, ofBits}
 use Rattle.key.specs.Rank.{rank}
 use Rattle.key.proofs.Laws.{rank-pos}
-use Rattle.duty.specs.InnerWalk.{limit}
+use Rattle.duty.specs.InnerWalk.{u32Limit}
 use Rattle.log_day.specs.Days.{dayOf}
 use Rattle.log_day.specs.declared.Day.the-variants as Day
 use Rattle.log_day.proofs.Spans.{held, short, long, plain}
@@ -34,5 +34,5 @@ day-window z y m d {s} {e} q =
       | plain n c i ↦ record { real = omega (arith, a, b); at-least = omega (arith, a, b); at-most = omega (arith, a, b) }
     ]
 
-pub window-short : {s e : ℤ} → Window s e → rank e - rank s < limit
+pub window-short : {s e : ℤ} → Window s e → rank e - rank s < u32Limit
 window-short w = omega (arith, w .at-most)

@@ -4,6 +4,7 @@ use Prim.Native.Nat.{ℕ}
 use mathlib.Core.Bool.{false, cond}
 use lib.IntN.{ℤ, pos}
 use lib.Ieee.{Float, fin}
+use Rattle.answers.specs.Answers.{done, notFormed}
 use Rattle.key.specs.Range.{halfOpen}
 use Rattle.outcomes.specs.Stored.{Stored}
 use Rattle.outcomes.specs.Outcomes.{formed}
@@ -19,27 +20,27 @@ use Rattle.report.specs.declared.Reported.the-variants as Reported
 use Rattle.report.specs.declared.DayReport.{DayReport}
 
 -- the seconds between two keys, with the keys
-abbrev pub between : ℤ → ℤ → Tallied → Reported
-between s e (Tallied.Seconds t) = Reported.Totals s e t
-between s e (Tallied.Refused n) = Reported.Refused n
+abbrev pub withKeys : ℤ → ℤ → Tallied → Reported
+withKeys s e (Tallied.Seconds t) = Reported.Totals s e t
+withKeys s e (Tallied.Refused n) = Reported.Refused n
 
 -- of a well-formed map and a day
-abbrev pub inDay : Stored → Day → Reported
-inDay m (Day.Span s e) = between s e (tallying m s e)
-inDay m (Day.Refused n) = Reported.Refused n
+abbrev pub dayReportSound : Stored → Day → Reported
+dayReportSound m (Day.Span s e) = withKeys s e (tallying m s e)
+dayReportSound m (Day.Refused n) = Reported.Refused n
 
 -- A DAY'S REPORT of any map, zone and date
-unfoldable pub reporting : Stored → ℕ → ℕ → ℕ → ℕ → Reported
-reporting m zone y mo d = cond (formed halfOpen m) (inDay m (dayOf zone y mo d)) (Reported.Refused 4)
+unfoldable pub dayReport : Stored → ℕ → ℕ → ℕ → ℕ → Reported
+dayReport m zone y mo d = cond (formed halfOpen m) (dayReportSound m (dayOf zone y mo d)) (Reported.Refused notFormed)
 
 -- +0.0
 abbrev pub noHours : Float
 noHours = fin false 0 (pos 0)
 
 -- the report as C and Rust see it: the day, the seconds, and the same as hours; all 0 if it is refused
-abbrev pub reportOf : Reported → DayReport
-reportOf (Reported.Totals s e t) = record {
-  answer = 0;
+abbrev pub reportedInC : Reported → DayReport
+reportedInC (Reported.Totals s e t) = record {
+  answer = done;
   start = s;
   end = e;
   «off_duty» = t .«off_duty»;
@@ -53,7 +54,7 @@ reportOf (Reported.Totals s e t) = record {
   «on_duty_hours» = hoursOf (t .«on_duty»);
   «unrecorded_hours» = hoursOf (t .unrecorded);
 }
-reportOf (Reported.Refused n) = record {
+reportedInC (Reported.Refused n) = record {
   answer = n;
   start = pos 0;
   end = pos 0;

@@ -1,18 +1,20 @@
 // A day's report of a half-open map: the day's start and end, the seconds of each duty and the unrecorded ones, and those five as hours.
+use answers::DONE;
+use answers::NOT_FORMED;
 use duty::Tallied;
 use duty::Totals;
 use hours::hours;
 use key::RangeKind;
+use key::Value;
 use log_day::Day;
-use outcomes::NOT_FORMED;
 use outcomes::PLACES;
 use store::check::well_formed;
 ghost use mathlib.Core.Path.{_≡_};
 ghost use Rattle.key.specs.Range.{halfOpen};
-ghost use Rattle.outcomes.specs.Stored.{stored, lent, Sound};
+ghost use Rattle.outcomes.specs.Stored.{stored, lent, Sound, atEntry, atEntryWith};
 ghost use Rattle.outcomes.specs.Outcomes.{formed};
 ghost use Rattle.log_day.specs.Days.{dayOf};
-ghost use Rattle.report.specs.Report.{between, inDay, reporting, reportOf};
+ghost use Rattle.report.specs.Report.{withKeys, dayReportSound, dayReport, reportedInC};
 
 // The day's start and end, and its seconds; or the number of a refusal.
 pub enum Reported {
@@ -40,10 +42,10 @@ pub struct DayReport {
 
 // The report of a day, with its hours.
 fn filled(start: i64, end: i64, t: Totals) -> DayReport
-    ensures { λ r. ⌜ r ≡ reportOf (Reported.Totals start end t) ⌝ }
+    ensures { λ r. ⌜ r ≡ reportedInC (Reported.Totals start end t) ⌝ }
 {
     DayReport {
-        answer: 0,
+        answer: DONE,
         start: start,
         end: end,
         off_duty: t.off_duty,
@@ -61,7 +63,7 @@ fn filled(start: i64, end: i64, t: Totals) -> DayReport
 
 // A refusal: all but the number is 0.
 fn refused(n: u8) -> DayReport
-    ensures { λ r. ⌜ r ≡ reportOf (Reported.Refused n) ⌝ }
+    ensures { λ r. ⌜ r ≡ reportedInC (Reported.Refused n) ⌝ }
 {
     DayReport {
         answer: n,
@@ -82,7 +84,7 @@ fn refused(n: u8) -> DayReport
 
 // A report as C and Rust see it.
 pub fn report_of(r: Reported) -> DayReport
-    ensures { λ n. ⌜ n ≡ reportOf r ⌝ }
+    ensures { λ n. ⌜ n ≡ reportedInC r ⌝ }
 {
     match r {
         Reported::Totals(start, end, t) => filled(start, end, t),
@@ -92,7 +94,7 @@ pub fn report_of(r: Reported) -> DayReport
 
 // The seconds between two keys, with the keys.
 fn with_keys(start: i64, end: i64, t: Tallied) -> Reported
-    ensures { λ r. ⌜ r ≡ between start end t ⌝ }
+    ensures { λ r. ⌜ r ≡ withKeys start end t ⌝ }
 {
     match t {
         Tallied::Seconds(totals) => Reported::Totals(start, end, totals),
@@ -105,14 +107,14 @@ pub fn unchecked(
     count: usize,
     starts: &[i64],
     ends: &[i64],
-    values: &[u8],
+    values: &[Value],
     zone: u8,
     year: u16,
     month: u8,
     day: u8,
 ) -> Reported
     requires { ⌜ Sound halfOpen (stored count (now starts) (now ends) (now values)) ⌝ }
-    ensures { λ r. ⌜ r ≡ inDay (stored count (now (starts .entry)) (now (ends .entry)) (now (values .entry))) (dayOf zone year month day) ⌝ }
+    ensures { λ r. ⌜ r ≡ dayReportSound (atEntryWith count starts ends values) (dayOf zone year month day) ⌝ }
 {
     let d = log_day::day_of(zone, year, month, day);
     match d {
@@ -130,13 +132,13 @@ pub fn checked(
     count: &usize,
     starts: &[i64; PLACES],
     ends: &[i64; PLACES],
-    values: &[u8; PLACES],
+    values: &[Value; PLACES],
     zone: u8,
     year: u16,
     month: u8,
     day: u8,
 ) -> Reported
-    ensures { λ r. ⌜ r ≡ reporting (lent (count .entry) (starts .entry) (ends .entry) (values .entry)) zone year month day ⌝ }
+    ensures { λ r. ⌜ r ≡ dayReport (atEntry count starts ends values) zone year month day ⌝ }
 {
     if !well_formed(RangeKind::HalfOpen, *count, starts, ends, values) {
         return Reported::Refused(NOT_FORMED);
@@ -149,13 +151,13 @@ pub fn day_report(
     count: &usize,
     starts: &[i64; PLACES],
     ends: &[i64; PLACES],
-    values: &[u8; PLACES],
+    values: &[Value; PLACES],
     zone: u8,
     year: u16,
     month: u8,
     day: u8,
 ) -> DayReport
-    ensures { λ r. ⌜ r ≡ reportOf (reporting (lent (count .entry) (starts .entry) (ends .entry) (values .entry)) zone year month day) ⌝ }
+    ensures { λ r. ⌜ r ≡ reportedInC (dayReport (atEntry count starts ends values) zone year month day) ⌝ }
 {
     report_of(checked(count, starts, ends, values, zone, year, month, day))
 }
@@ -165,14 +167,14 @@ pub fn day_report_unchecked(
     count: &usize,
     starts: &[i64; PLACES],
     ends: &[i64; PLACES],
-    values: &[u8; PLACES],
+    values: &[Value; PLACES],
     zone: u8,
     year: u16,
     month: u8,
     day: u8,
 ) -> DayReport
     requires { ⌜ Sound halfOpen (lent count starts ends values) ⌝ }
-    ensures { λ r. ⌜ r ≡ reportOf (inDay (lent (count .entry) (starts .entry) (ends .entry) (values .entry)) (dayOf zone year month day)) ⌝ }
+    ensures { λ r. ⌜ r ≡ reportedInC (dayReportSound (atEntry count starts ends values) (dayOf zone year month day)) ⌝ }
 {
     report_of(unchecked(*count, starts, ends, values, zone, year, month, day))
 }

@@ -2,7 +2,7 @@
 use mathlib.Core.Path.{_≡_, refl}
 use mathlib.Core.List.{_++_}
 use lib.IntN.{pos}
-use Rattle.key.specs.Rank.{place, bitRank}
+use Rattle.key.specs.Rank.{aboveLeast, bitRank}
 use Rattle.text.specs.Text.{rightOf, leftOf}
 use Rattle.decimal.specs.Decimal.{digitsText, spelled, decimalText, signedText}
 use Rattle.filling.specs.Filling.{ascii, series}
@@ -12,7 +12,7 @@ use Rattle.report_text.specs.ReportText.{nameColumn, keyLine, secondsCol
 use Rattle.report_text.specs.ReportText.{timesText, secondsLine, rowLines, dayLines, reportText}
 
 unfoldable all : Unit {0}
-unfolding place bitRank rightOf leftOf digitsText spelled decimalText signedText series rowName rowOf sumSeconds pairText clockText tenThousandths hoursText nameColumn keyLine secondsColumn clockColumn hoursColumn timesText secondsLine rowLines dayLines reportText
+unfolding aboveLeast bitRank rightOf leftOf digitsText spelled decimalText signedText series rowName rowOf sumSeconds pairText clockText tenThousandths hoursText nameColumn keyLine secondsColumn clockColumn hoursColumn timesText secondsLine rowLines dayLines reportText
 all = tt
 
 pub november-text : reportText (pos 1730606400) (pos 1730696400) (record { «off_duty» = 64800; «sleeper_berth» = 0; driving = 25200; «on_duty» = 0; unrecorded = 0 }) ≡

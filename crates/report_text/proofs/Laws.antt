@@ -6,7 +6,7 @@ use lib.IntN.{ℤ}
 use Rattle.key.specs.Rank.{rank}
 use Rattle.outcomes.specs.Stored.{Stored}
 use Rattle.duty.specs.declared.Totals.{Totals}
-use Rattle.report.specs.Report.{reporting}
+use Rattle.report.specs.Report.{dayReport}
 use Rattle.report.specs.declared.Reported.the-variants as Reported
 use Rattle.report.proofs.Laws.{report-sum}
 use Rattle.report_text.specs.Rows.{sumSeconds}
@@ -28,7 +28,7 @@ unfolding tenThousandths
 four-decimals n = omega arith
 
 -- THE SUM that a day's report shows is the length that it shows
-module _ (m : Stored) (z y mo d : ℕ) {s e : ℤ} {t : Totals} (q : reporting m z y mo d ≡ Reported.Totals s e t) where
+module _ (m : Stored) (z y mo d : ℕ) {s e : ℤ} {t : Totals} (q : dayReport m z y mo d ≡ Reported.Totals s e t) where
   pub sum-is-length : sumSeconds t ≡ rank e - rank s
   unfolding sumSeconds
   sum-is-length = report-sum m z y mo d s e t q

@@ -7,7 +7,7 @@ use Rattle.duty.specs.declared.Totals.{Totals}
 use Rattle.text.specs.Text.{rightOf, leftOf}
 use Rattle.decimal.specs.Decimal.{decimalText, signedText}
 use Rattle.filling.specs.Filling.{ascii, series}
-use Rattle.report_text.specs.Rows.{rows, rowName, rowOf, sumSeconds}
+use Rattle.report_text.specs.Rows.{rowCount, rowName, rowOf, sumSeconds}
 use Rattle.report_text.specs.Times.{clockText, hoursText}
 
 -- a name in its columns
@@ -37,7 +37,7 @@ secondsLine name n = nameColumn name ++ timesText n
 
 -- the lines of the five rows
 unfoldable pub rowLines : Totals → List ℕ
-rowLines t = series (λ j. secondsLine (rowName j) (rowOf t j)) rows
+rowLines t = series (λ j. secondsLine (rowName j) (rowOf t j)) rowCount
 
 -- the lines of a day's start, end and length
 unfoldable pub dayLines : ℤ → ℤ → List ℕ

@@ -6,8 +6,8 @@ use Rattle.duty.specs.declared.Totals.{Totals}
 use Rattle.filling.specs.Filling.{ascii}
 
 -- how many rows there are
-abbrev pub rows : ℕ
-rows = 5
+abbrev pub rowCount : ℕ
+rowCount = 5
 
 -- the name of a row
 unfoldable pub rowName : ℕ → List ℕ

@@ -11,10 +11,11 @@ ghost use mathlib.Core.Path.{_≡_};
 ghost use mathlib.Core.List.{_++_};
 ghost use Prim.Native.Nat.{_+_, _-_, _*_, _≤_, _<_};
 ghost use lib.ListN.{length};
+ghost use Rattle.lent.specs.Moments.{was, becomes};
 ghost use Rattle.key.specs.Rank.{rank};
 ghost use Rattle.text.specs.Text.{rightOf};
 ghost use Rattle.filling.specs.Filling.{AddsWithin};
-ghost use Rattle.report_text.specs.Rows.{rows, rowName, rowOf, sumSeconds};
+ghost use Rattle.report_text.specs.Rows.{rowCount, rowName, rowOf, sumSeconds};
 ghost use Rattle.report_text.specs.Times.{pairText, clockText, tenThousandths, hoursText};
 ghost use Rattle.report_text.specs.ReportText.{nameColumn, keyLine, secondsColumn, clockColumn, hoursColumn, timesText, secondsLine, rowLines, dayLines, reportText};
 ghost use Rattle.report_text.specs.InnerRoom.{nameRoom, clockRoom, reportLineRoom, reportRoom};
@@ -31,7 +32,7 @@ pub const REPORT_ROOM: usize = 900;
 // A colon and two digits.
 fn put_pair(out: &mut [u8], at: usize, n: u64) -> usize
     requires { ⌜ at + 3 ≤ length (now out) ⌝ }
-    ensures { λ r. ⌜ AddsWithin 3 (pairText n) (now (out .entry)) at (now (out .exit)) r ⌝ }
+    ensures { λ r. ⌜ AddsWithin 3 (pairText n) (was out) at (becomes out) r ⌝ }
 {
     let to = put_byte(out, at, b':');
     put_digits(out, to, 2, n)
@@ -40,7 +41,7 @@ fn put_pair(out: &mut [u8], at: usize, n: u64) -> usize
 // Seconds by the clock, H:MM:SS. `width` is how many columns the hours have.
 pub fn put_clock(out: &mut [u8], at: usize, width: usize, n: u64) -> usize
     requires { ⌜ (width ≤ 20) × (at + clockRoom ≤ length (now out)) ⌝ }
-    ensures { λ r. ⌜ AddsWithin clockRoom (rightOf (width + 6) (clockText n)) (now (out .entry)) at (now (out .exit)) r ⌝ }
+    ensures { λ r. ⌜ AddsWithin clockRoom (rightOf (width + 6) (clockText n)) (was out) at (becomes out) r ⌝ }
 {
     let minutes = put_u64_right(out, at, width, n / 3600);
     let seconds = put_pair(out, minutes, n / 60 % 60);
@@ -58,7 +59,7 @@ fn ten_thousandths(n: u64) -> u64
 // Seconds as hours with four decimals, at the right of 7 columns.
 fn put_hours(out: &mut [u8], at: usize, n: u64) -> usize
     requires { ⌜ at + 25 ≤ length (now out) ⌝ }
-    ensures { λ r. ⌜ AddsWithin 25 (rightOf 7 (hoursText n)) (now (out .entry)) at (now (out .exit)) r ⌝ }
+    ensures { λ r. ⌜ AddsWithin 25 (rightOf 7 (hoursText n)) (was out) at (becomes out) r ⌝ }
 {
     let point = put_u64_right(out, at, 2, n / 3600);
     let decimals = put_byte(out, point, b'.');
@@ -68,7 +69,7 @@ fn put_hours(out: &mut [u8], at: usize, n: u64) -> usize
 // Two spaces, and seconds by the clock.
 pub fn put_clock_column(out: &mut [u8], at: usize, n: u64) -> usize
     requires { ⌜ at + 28 ≤ length (now out) ⌝ }
-    ensures { λ r. ⌜ AddsWithin 28 (clockColumn n) (now (out .entry)) at (now (out .exit)) r ⌝ }
+    ensures { λ r. ⌜ AddsWithin 28 (clockColumn n) (was out) at (becomes out) r ⌝ }
 {
     let to = put(out, at, b"  ");
     put_clock(out, to, 2, n)
@@ -77,7 +78,7 @@ pub fn put_clock_column(out: &mut [u8], at: usize, n: u64) -> usize
 // Two spaces, and hours.
 fn put_hours_column(out: &mut [u8], at: usize, n: u64) -> usize
     requires { ⌜ at + 30 ≤ length (now out) ⌝ }
-    ensures { λ r. ⌜ AddsWithin 30 (hoursColumn n) (now (out .entry)) at (now (out .exit)) r ⌝ }
+    ensures { λ r. ⌜ AddsWithin 30 (hoursColumn n) (was out) at (becomes out) r ⌝ }
 {
     let hours = put(out, at, b"  ");
     let to = put_hours(out, hours, n);
@@ -87,7 +88,7 @@ fn put_hours_column(out: &mut [u8], at: usize, n: u64) -> usize
 // Seconds as a number.
 fn put_seconds_column(out: &mut [u8], at: usize, n: u64) -> usize
     requires { ⌜ at + 22 ≤ length (now out) ⌝ }
-    ensures { λ r. ⌜ AddsWithin 22 (secondsColumn n) (now (out .entry)) at (now (out .exit)) r ⌝ }
+    ensures { λ r. ⌜ AddsWithin 22 (secondsColumn n) (was out) at (becomes out) r ⌝ }
 {
     let to = put_u64_right(out, at, 11, n);
     put(out, to, b" s")
@@ -96,7 +97,7 @@ fn put_seconds_column(out: &mut [u8], at: usize, n: u64) -> usize
 // Seconds in all three ways.
 fn put_times(out: &mut [u8], at: usize, n: u64) -> usize
     requires { ⌜ at + 80 ≤ length (now out) ⌝ }
-    ensures { λ r. ⌜ AddsWithin 80 (timesText n) (now (out .entry)) at (now (out .exit)) r ⌝ }
+    ensures { λ r. ⌜ AddsWithin 80 (timesText n) (was out) at (becomes out) r ⌝ }
 {
     let clock = put_seconds_column(out, at, n);
     let hours = put_clock_column(out, clock, n);
@@ -106,15 +107,15 @@ fn put_times(out: &mut [u8], at: usize, n: u64) -> usize
 // A name in its columns.
 pub fn put_name_column(out: &mut [u8], at: usize, name: &[u8]) -> usize
     requires { ⌜ (length (now name) ≤ nameRoom) × (at + nameRoom ≤ length (now out)) ⌝ }
-    ensures { λ r. ⌜ AddsWithin nameRoom (nameColumn (now (name .entry))) (now (out .entry)) at (now (out .exit)) r ⌝ }
+    ensures { λ r. ⌜ AddsWithin nameRoom (nameColumn (was name)) (was out) at (becomes out) r ⌝ }
 {
     put_left(out, at, NAME_ROOM, name)
 }
 
 // The name of a row.
 pub fn put_name(out: &mut [u8], at: usize, row: usize) -> usize
-    requires { ⌜ (row < rows) × (at + nameRoom ≤ length (now out)) ⌝ }
-    ensures { λ r. ⌜ AddsWithin nameRoom (rowName row) (now (out .entry)) at (now (out .exit)) r ⌝ }
+    requires { ⌜ (row < rowCount) × (at + nameRoom ≤ length (now out)) ⌝ }
+    ensures { λ r. ⌜ AddsWithin nameRoom (rowName row) (was out) at (becomes out) r ⌝ }
 {
     if row == 0 {
         return put(out, at, b"off duty");
@@ -133,8 +134,8 @@ pub fn put_name(out: &mut [u8], at: usize, row: usize) -> usize
 
 // The name of a row in its columns.
 pub fn put_row_column(out: &mut [u8], at: usize, row: usize) -> usize
-    requires { ⌜ (row < rows) × (at + nameRoom ≤ length (now out)) ⌝ }
-    ensures { λ r. ⌜ AddsWithin nameRoom (nameColumn (rowName row)) (now (out .entry)) at (now (out .exit)) r ⌝ }
+    requires { ⌜ (row < rowCount) × (at + nameRoom ≤ length (now out)) ⌝ }
+    ensures { λ r. ⌜ AddsWithin nameRoom (nameColumn (rowName row)) (was out) at (becomes out) r ⌝ }
 {
     let to = put_name(out, at, row);
     put_spaces(out, to, at + NAME_ROOM - to)
@@ -142,7 +143,7 @@ pub fn put_row_column(out: &mut [u8], at: usize, row: usize) -> usize
 
 // The seconds of a row.
 pub fn seconds_of(t: Totals, row: usize) -> u32
-    requires { ⌜ row < rows ⌝ }
+    requires { ⌜ row < rowCount ⌝ }
     ensures { λ r. ⌜ r ≡ rowOf t row ⌝ }
 {
     if row == 0 {
@@ -186,7 +187,7 @@ pub fn seconds_between(start: i64, end: i64) -> u64
 // The line of a key.
 fn put_key_line(out: &mut [u8], at: usize, name: &[u8], key: i64) -> usize
     requires { ⌜ (length (now name) ≤ nameRoom) × (at + reportLineRoom ≤ length (now out)) ⌝ }
-    ensures { λ r. ⌜ AddsWithin reportLineRoom (keyLine (now (name .entry)) key) (now (out .entry)) at (now (out .exit)) r ⌝ }
+    ensures { λ r. ⌜ AddsWithin reportLineRoom (keyLine (was name) key) (was out) at (becomes out) r ⌝ }
 {
     let number = put_name_column(out, at, name);
     let to = put_i64_right(out, number, 11, key);
@@ -196,7 +197,7 @@ fn put_key_line(out: &mut [u8], at: usize, name: &[u8], key: i64) -> usize
 // The line of a number of seconds.
 fn put_seconds_line(out: &mut [u8], at: usize, name: &[u8], n: u64) -> usize
     requires { ⌜ (length (now name) ≤ nameRoom) × (at + reportLineRoom ≤ length (now out)) ⌝ }
-    ensures { λ r. ⌜ AddsWithin reportLineRoom (secondsLine (now (name .entry)) n) (now (out .entry)) at (now (out .exit)) r ⌝ }
+    ensures { λ r. ⌜ AddsWithin reportLineRoom (secondsLine (was name) n) (was out) at (becomes out) r ⌝ }
 {
     let to = put_name_column(out, at, name);
     put_times(out, to, n)
@@ -204,8 +205,8 @@ fn put_seconds_line(out: &mut [u8], at: usize, name: &[u8], n: u64) -> usize
 
 // The line of a row.
 fn put_row_line(out: &mut [u8], at: usize, row: usize, n: u32) -> usize
-    requires { ⌜ (row < rows) × (at + reportLineRoom ≤ length (now out)) ⌝ }
-    ensures { λ r. ⌜ AddsWithin reportLineRoom (secondsLine (rowName row) n) (now (out .entry)) at (now (out .exit)) r ⌝ }
+    requires { ⌜ (row < rowCount) × (at + reportLineRoom ≤ length (now out)) ⌝ }
+    ensures { λ r. ⌜ AddsWithin reportLineRoom (secondsLine (rowName row) n) (was out) at (becomes out) r ⌝ }
 {
     let to = put_row_column(out, at, row);
     put_times(out, to, n as u64)
@@ -213,8 +214,8 @@ fn put_row_line(out: &mut [u8], at: usize, row: usize, n: u32) -> usize
 
 // The lines of the five rows.
 fn put_rows(out: &mut [u8], at: usize, t: Totals) -> usize
-    requires { ⌜ at + rows * reportLineRoom ≤ length (now out) ⌝ }
-    ensures { λ r. ⌜ AddsWithin (rows * reportLineRoom) (rowLines t) (now (out .entry)) at (now (out .exit)) r ⌝ }
+    requires { ⌜ at + rowCount * reportLineRoom ≤ length (now out) ⌝ }
+    ensures { λ r. ⌜ AddsWithin (rowCount * reportLineRoom) (rowLines t) (was out) at (becomes out) r ⌝ }
 {
     let mut to = at;
     let mut row = 0;
@@ -228,7 +229,7 @@ fn put_rows(out: &mut [u8], at: usize, t: Totals) -> usize
 // The lines of a day's start, end and length.
 fn put_day(out: &mut [u8], at: usize, start: i64, end: i64) -> usize
     requires { ⌜ at + 3 * reportLineRoom ≤ length (now out) ⌝ }
-    ensures { λ r. ⌜ AddsWithin (3 * reportLineRoom) (dayLines start end) (now (out .entry)) at (now (out .exit)) r ⌝ }
+    ensures { λ r. ⌜ AddsWithin (3 * reportLineRoom) (dayLines start end) (was out) at (becomes out) r ⌝ }
 {
     let second = put_key_line(out, at, b"start", start);
     let third = put_key_line(out, second, b"end", end);
@@ -237,7 +238,7 @@ fn put_day(out: &mut [u8], at: usize, start: i64, end: i64) -> usize
 
 // THE REPORT of a day.
 pub fn report_text(start: i64, end: i64, t: Totals, out: &mut [u8; REPORT_ROOM]) -> usize
-    ensures { λ r. ⌜ AddsWithin reportRoom (reportText start end t) (now (out .entry)) 0 (now (out .exit)) r ⌝ }
+    ensures { λ r. ⌜ AddsWithin reportRoom (reportText start end t) (was out) 0 (becomes out) r ⌝ }
 {
     let rows = put_day(out, 0, start, end);
     let sum = put_rows(out, rows, t);

@@ -1,4 +1,4 @@
--- rangemap's a | b and a & b: what Union and Intersection give, collected into a set, one insert for each range, is `over` and `common`, of both kinds.
+-- rangemap's a | b and a & b: what Union and Intersection give, collected into a set, one insert for each range, is `laidOver` and `common`, of both kinds.
 use Prim.Native.Nat.{ℕ, suc, _≤_}
 use native.Mathlib.Omega.{arith}
 use native.Mathlib.Decide.{decLt}
@@ -8,7 +8,7 @@ use mathlib.Core.Bool.{Bool, true, false, cond}
 use mathlib.Core.Option.{Option, some, none}
 use lib.Dec.{ltb}
 use Rattle.span.specs.Span.{Span, at, Ordered, Upto, Tidy, joined, Real, history}
-use Rattle.span.specs.Operations.{puts, over, common, when, overlaps, merged, absorb, united}
+use Rattle.span.specs.Operations.{puts, laidOver, common, when, spansOverlap, merged, absorb, united}
 use Rattle.span.proofs.Holding.{at-upto, or-none}
 use Rattle.span.proofs.Laws.{never, only, reworded, nothing, joined-means}
 use Rattle.span.proofs.Sets.{over-means, rebuilt, common-means}
@@ -16,7 +16,7 @@ use Rattle.span.proofs.Union.{ordered-united, united-joined}
 use Rattle.span.proofs.Local.{upto-at}
 use Rattle.span.proofs.Walks.{Spaced, spaced-ordered, spaced-plain}
 use Rattle.rust_algorithm.specs.Map.{map-history}
-use Rattle.rust_algorithm.specs.InclusiveMap.{Steps, inclusive-history}
+use Rattle.rust_algorithm.specs.InclusiveMap.{StepBounds, inclusive-history}
 use Rattle.rust_algorithm.specs.Operations.{set-or, set-and}
 use Rattle.rust_algorithm.specs.Operations.{inclusive-set-or, inclusive-set-and}
 use Rattle.rust_algorithm.proofs.History.{history-is}
@@ -35,11 +35,11 @@ puts-by c [] u = tt
 puts-by c (x ∷ xs) u = (u .0, puts-by c xs (u .1))
 
 -- EXTEND by ranges that ascend: what joins is joined
-pub over-nothing : (m : List Span) → Ordered 0 m → over m [] ≡ joined m
+pub over-nothing : (m : List Span) → Ordered 0 m → laidOver m [] ≡ joined m
 over-nothing m o = only (reworded (over-means m [] o nothing) (λ k. or-none (at m k))) (joined-means m o)
 
-history-over : (m : List Span) → history (puts m) [] ≡ over m []
-unfolding over
+history-over : (m : List Span) → history (puts m) [] ≡ laidOver m []
+unfolding laidOver
 history-over m = refl
 
 pub extend-is : (m : List Span) → Ordered 0 m → map-history (puts m) [] ≡ some (joined m)
@@ -50,7 +50,7 @@ module _ (a b : List Span) (s : Spaced 0 a) (t : Spaced 0 b) (tidy-b : Tidy 0 b)
   united-ordered : Ordered 0 (united a b)
   united-ordered = ordered-united 0 a b (spaced-ordered 0 a s) (spaced-ordered 0 b t)
 
-  joined-over : joined (united a b) ≡ over a b
+  joined-over : joined (united a b) ≡ laidOver a b
   joined-over = united-joined a b (spaced-ordered 0 a s) tidy-b (spaced-plain 0 a s) (spaced-plain 0 b t)
 
   common-tidy : Tidy 0 (common a b)
@@ -60,7 +60,7 @@ module _ (a b : List Span) (s : Spaced 0 a) (t : Spaced 0 b) (tidy-b : Tidy 0 b)
   joined-common = sym (over-nothing (common a b) (common-tidy .ordered)) ∙ rebuilt common-tidy
 
   -- OR: the union in maximal ranges
-  pub or-is : set-or a b ≡ some (over a b)
+  pub or-is : set-or a b ≡ some (laidOver a b)
   unfolding set-or
   or-is = rw (union-is a b s t) (extend-is (united a b) united-ordered ∙ ap some joined-over)
 
@@ -74,7 +74,7 @@ upto-absorb : (c : ℕ) (x : Span) (m : List Span) → x .hi ≤ c → Upto c m 
 unfolding absorb merged
 upto-absorb c x [] h u = (h, tt)
 upto-absorb c x (y ∷ ys) h u =
-    go (overlaps x y) (ltb (x .lo) (y .lo)) (upto-absorb c (merged x y) ys (omega arith) (u .1)) (upto-absorb c x ys h (u .1))
+    go (spansOverlap x y) (ltb (x .lo) (y .lo)) (upto-absorb c (merged x y) ys (omega arith) (u .1)) (upto-absorb c x ys h (u .1))
   where
     go : (s t : Bool) → Upto c (absorb (merged x y) ys) → Upto c (absorb x ys)
         → let rest = absorb (cond s (merged x y) x) ys in Upto c (cond s rest (cond t (x ∷ y ∷ ys) (y ∷ rest)))
@@ -99,14 +99,14 @@ upto-common c a b o q u =
       | no p ↦ absurd (never (sym (at-upto c b k u (omega arith)) ∙ when-some (at a k) (at b k) v (sym (f .holds k) ∙ e)))
     ])
 
-module _ (add-one sub-one : ℕ → Option ℕ) (greatest : ℕ) (steps : Steps add-one sub-one greatest) where
+module _ (add-one sub-one : ℕ → Option ℕ) (greatest : ℕ) (steps : StepBounds add-one sub-one greatest) where
   pub inclusive-extend-is : (m : List Span) → Ordered 0 m → Upto (suc greatest) m → inclusive-history add-one sub-one (puts m) [] ≡ some (joined m)
   inclusive-extend-is m o u =
       inclusive-history-is add-one sub-one greatest steps (puts m) [] (real-puts 0 m o) (puts-by (suc greatest) m u) (nothing .tidy) tt
       ∙ ap some (history-over m ∙ over-nothing m o)
 
   module _ (a b : List Span) (s : Spaced 0 a) (t : Spaced 0 b) (tidy-b : Tidy 0 b) (u : Upto (suc greatest) a) (v : Upto (suc greatest) b) where
-    pub inclusive-or-is : inclusive-set-or add-one sub-one a b ≡ some (over a b)
+    pub inclusive-or-is : inclusive-set-or add-one sub-one a b ≡ some (laidOver a b)
     unfolding inclusive-set-or
     inclusive-or-is = rw (inclusive-union-is a b s t)
         (inclusive-extend-is (united a b) (united-ordered a b s t tidy-b) (upto-united (suc greatest) a b u v) ∙ ap some (joined-over a b s t tidy-b))

@@ -11,10 +11,10 @@ use Rattle.span.specs.Span.{span, inside, joins, tidy, keep, before, after, pus
 use Rattle.span.specs.Operations.{puts}
 use Rattle.span.proofs.Tests.{tidy-yes}
 use Rattle.span.proofs.Cases.{comb}
-use Rattle.key.specs.Rank.{place, bitRank, keyAt}
+use Rattle.key.specs.Rank.{aboveLeast, bitRank, keyAt}
 use Rattle.key.specs.Range.{halfOpen}
 use Rattle.outcomes.specs.Stored.{places, spans, ranges, filled, storing}
-use Rattle.outcomes.specs.Outcomes.{Entry, editing, inserts, cleared}
+use Rattle.outcomes.specs.Outcomes.{Entry, editSound, bulkInsertSound, clear}
 use Rattle.rust_algorithm.specs.Btree.{filtered, filtered-by, taken-while, reversed, taken, up-to, from-to, between, starting, starting-by, deleted}
 use Rattle.rust_algorithm.specs.Btree.{entered}
 use Rattle.rust_algorithm.specs.Map.{ranges-overlap, ranges-touch, cut-out, adjust, candidate, insert-loop, map-insert}
@@ -132,8 +132,8 @@ extend-two = refl
 abbrev to : ℤ → ℤ → Entry
 to s e = record { start = s; end = e; value = 1 }
 
-bulk-two : inserts halfOpen (cleared halfOpen) 0 (to (pos 0) (pos 1) ∷ to (pos 2) (pos 3) ∷ to (pos 4) (pos 4) ∷ []) .told ≡ record { answer = 1; applied = 2 }
-unfolding inside keep before after joins push joined given place bitRank keyAt spans ranges filled storing editing inserts cleared
+bulk-two : bulkInsertSound halfOpen (clear halfOpen) 0 (to (pos 0) (pos 1) ∷ to (pos 2) (pos 3) ∷ to (pos 4) (pos 4) ∷ []) .told ≡ record { answer = 1; applied = 2 }
+unfolding inside keep before after joins push joined given aboveLeast bitRank keyAt spans ranges filled storing editSound bulkInsertSound clear
 bulk-two = refl
 
 -- a full map and one range more: the Rust holds it

@@ -13,8 +13,9 @@ use lib.IntN.{ℤ}
 use mir.Syntax.{w64}
 use mir.Val.{ofZ}
 use borrow.Author.Tests.{lt-ltb, le-ltb, le-leb, lt-leb, eq-eqb, ne-eqb}
+use Rattle.answers.specs.Answers.{done, emptyRange, tooMany}
 use Rattle.span.specs.Span.{Span, span, inside, given}
-use Rattle.span.specs.Operations.{overlaps, any}
+use Rattle.span.specs.Operations.{spansOverlap, any}
 use Rattle.span.proofs.Tests.{in-no}
 use Rattle.key.specs.Rank.{rank, keys}
 use Rattle.key.specs.Range.{Kind}
@@ -22,8 +23,8 @@ use Rattle.key.proofs.Laws.{rank-below}
 use Rattle.relations.specs.Relations as relations
 use Rattle.relations.specs.declared.Relation.the-variants.{Empty}
 use Rattle.outcomes.specs.Stored.{places, Stored, ranges, storing, wellFormed}
-use Rattle.outcomes.specs.Outcomes.{Edited, leaving, editing, edited, met, meeting, metPart, overlapping, uncovered, gapsIn}
-use Rattle.outcomes.specs.Outcomes.{Entry, inserts, changes}
+use Rattle.outcomes.specs.Outcomes.{Edited, leaving, editSound, edit, overlapsSound, overlaps, overlappingSound, overlapping, gapsSound, gaps}
+use Rattle.outcomes.specs.Outcomes.{Entry, bulkInsertSound, spanEdits}
 use Rattle.outcomes.specs.Sets.{notWritten}
 use Rattle.outcomes.specs.declared.Asked.the-variants as Asked
 use Rattle.outcomes.specs.declared.Part.the-variants as Part
@@ -66,9 +67,9 @@ module _ (kind : Kind) (s e : ℤ) (empty : kind .past e ≤ rank s) where
     is-kept = kept kind rust transcribed m is-well
 
     -- overlapping and overlaps of a map: the Rust gives the ranges with start < the query's end and end > its start, whether it is empty or not
-    pub overlaps-answers : (meeting kind m s e ≡ Asked.Refused 1) × (rust .overlaps (rank s) (kind .past e) (ranges kind m)
-        ≡ any (overlaps (span (rank s) (kind .past e) 0)) (ranges kind m))
-    unfolding meeting met
+    pub overlaps-answers : (overlaps kind m s e ≡ Asked.Refused emptyRange) × (rust .overlaps (rank s) (kind .past e) (ranges kind m)
+        ≡ any (spansOverlap (span (rank s) (kind .past e) 0)) (ranges kind m))
+    unfolding overlaps overlapsSound
     overlaps-answers = (
       rw (
         is-well,
@@ -77,9 +78,9 @@ module _ (kind : Kind) (s e : ℤ) (empty : kind .past e ≤ rank s) where
       transcribed .same .overlaps-same (rank s) (kind .past e) (ranges kind m) (transcribed .ends-from e) is-kept,
     )
 
-    pub overlapping-answers : (overlapping kind m s e ≡ Part.Refused 1) × (rust .overlapping (rank s) (kind .past e) (ranges kind m)
-        ≡ filtered (overlaps (span (rank s) (kind .past e) 0)) (ranges kind m))
-    unfolding overlapping metPart
+    pub overlapping-answers : (overlapping kind m s e ≡ Part.Refused emptyRange) × (rust .overlapping (rank s) (kind .past e) (ranges kind m)
+        ≡ filtered (spansOverlap (span (rank s) (kind .past e) 0)) (ranges kind m))
+    unfolding overlapping overlappingSound
     overlapping-answers = (
       rw (
         is-well,
@@ -89,17 +90,17 @@ module _ (kind : Kind) (s e : ℤ) (empty : kind .past e ≤ rank s) where
     )
 
     -- gaps: the Rust gives no gap
-    pub gaps-answers : (starts ends : List ℤ) → (gapsIn kind m s e starts ends ≡ notWritten 1 starts ends)
+    pub gaps-answers : (starts ends : List ℤ) → (gaps kind m s e starts ends ≡ notWritten emptyRange starts ends)
         × (rust .gaps (rank s) (kind .past e) (ranges kind m) ≡ some [])
-    unfolding gapsIn uncovered
+    unfolding gaps gapsSound
     gaps-answers starts ends = (
       rw (is-well, le-leb (kind .past e) (rank s) empty),
       transcribed .same .gaps-none (rank s) (kind .past e) (ranges kind m) (transcribed .ends-from e) empty (rank-below (ofZ w64 s)) is-kept,
     )
 
     -- insert and remove: the Rust panics
-    pub edit-panics : (new : Option ℕ) → (edited kind m s e new ≡ leaving 1 m) × (rust .edit (rank s) (kind .past e) new (ranges kind m) ≡ none)
-    unfolding edited editing
+    pub edit-panics : (new : Option ℕ) → (edit kind m s e new ≡ leaving emptyRange m) × (rust .edit (rank s) (kind .past e) new (ranges kind m) ≡ none)
+    unfolding edit editSound
     edit-panics new = (
       rw (
         is-well,
@@ -112,9 +113,9 @@ module _ (kind : Kind) (s e : ℤ) (empty : kind .past e ≤ rank s) where
 module _ (kind : Kind) (rust : Functions) (transcribed : Transcribed kind rust) (m : Stored) (l : Lent kind m) where
   -- one range more than there are places: the Rust has no limit
   pub no-limit : (s e : ℤ) (new : Option ℕ) → rank s < kind .past e → places < length (given (rank s) (kind .past e) new (ranges kind m))
-      → (edited kind m s e new ≡ leaving 2 m) × (rust .edit (rank s) (kind .past e) new (ranges kind m) ≡ some
+      → (edit kind m s e new ≡ leaving tooMany m) × (rust .edit (rank s) (kind .past e) new (ranges kind m) ≡ some
       (given (rank s) (kind .past e) new (ranges kind m)))
-  unfolding edited editing
+  unfolding edit editSound
   no-limit s e new h f =
       let w = well kind rust transcribed m l in
       let xs = given (rank s) (kind .past e) new (ranges kind m) in (
@@ -130,21 +131,21 @@ module _ (kind : Kind) (rust : Functions) (transcribed : Transcribed kind rust) 
   panicked m none e = refl
   panicked m (some xs) e = absurd (go (ltb places (length xs)) e)
     where
-      go : (t : Bool) → cond t (leaving 2 m) (leaving 0 (storing kind places xs)) .answer ≡ 1 → ⊥
+      go : (t : Bool) → cond t (leaving tooMany m) (leaving done (storing kind places xs)) .answer ≡ 1 → ⊥
       go true e = omega arith
       go false e = omega arith
 
-  pub extend-panics : (m : Stored) (n : ℕ) (es : List Entry) → Lent kind m → inserts kind m n es .told .answer ≡ 1
-      → rust .history (changes kind (map single es)) (ranges kind m) ≡ none
-  unfolding inserts changes
+  pub extend-panics : (m : Stored) (n : ℕ) (es : List Entry) → Lent kind m → bulkInsertSound kind m n es .told .answer ≡ 1
+      → rust .history (spanEdits kind (map single es)) (ranges kind m) ≡ none
+  unfolding bulkInsertSound spanEdits
   extend-panics m n [] l e = absurd (omega arith)
   extend-panics m n (x ∷ xs) l e =
       let w = well kind rust transcribed m l in
-      let one = editing kind places m (x .start) (x .end) (some (x .value)) in
+      let one = editSound kind places m (x .start) (x .end) (some (x .value)) in
       let call = rust .edit (rank (x .start)) (kind .past (x .end)) (some (x .value)) (ranges kind m) in
       let is : editedBy kind m call ≡ one
       = sym (edit-equal kind rust transcribed m (x .start) (x .end) (some (x .value)) w) ∙ edited-well w in
-      transcribed .same .history-first _ (changes kind (map single xs)) (ranges kind m) ∙ (elim (decLt 0 (one .answer)) [
+      transcribed .same .history-first _ (spanEdits kind (map single xs)) (ranges kind m) ∙ (elim (decLt 0 (one .answer)) [
         | yes p ↦
             let told : one .answer ≡ 1 = rw (ne-eqb (one .answer) 0 (omega arith)) at e in
             let none-left : call ≡ none = panicked m call (ap (λ (o : Edited). o .answer) is ∙ told) in
@@ -157,11 +158,11 @@ module _ (kind : Kind) (rust : Functions) (transcribed : Transcribed kind rust) 
             let calls : call ≡ some (given (rank (x .start)) (kind .past (x .end)) (some (x .value)) (ranges kind m))
             = transcribed .same .edit-same (rank (x .start)) (kind .past (x .end)) (some (x .value)) (ranges kind m) (f .real) by k in
             let holds = rw (edited-well w) at (f .holds) in
-            let rest : inserts kind (one .left) (suc n) xs .told .answer ≡ 1 = rw (eq-eqb (one .answer) 0 z) at e in
+            let rest : bulkInsertSound kind (one .left) (suc n) xs .told .answer ≡ 1 = rw (eq-eqb (one .answer) 0 z) at e in
             let lent : Lent kind (one .left) = rw (edited-well w) at (f .lent) in
             rw (calls, ← holds) (extend-panics (one .left) (suc n) xs lent rest)
       ])
     where
       edited-well : wellFormed kind places m ≡ true
-          → edited kind m (x .start) (x .end) (some (x .value)) ≡ editing kind places m (x .start) (x .end) (some (x .value))
+          → edit kind m (x .start) (x .end) (some (x .value)) ≡ editSound kind places m (x .start) (x .end) (some (x .value))
       edited-well w = edited-is kind rust transcribed m (x .start) (x .end) (some (x .value)) w

@@ -12,34 +12,35 @@ use lib.IntN.{ℤ}
 use mir.Syntax.{w64}
 use mir.Val.{SFits}
 use borrow.Author.Tests.{lt-ltb, le-ltb, le-leb, lt-leb, eqb-true, eqb-false, eq-eqb}
+use Rattle.answers.specs.Answers.{done}
 use Rattle.span.specs.Span.{Span, span, inside, at, Ordered, Upto, given, Real, history}
-use Rattle.span.specs.Operations.{Plain, overlaps, holds, order, gaps, common, united}
+use Rattle.span.specs.Operations.{Plain, spansOverlap, holds, spanOrder, uncovered, common, united}
 use Rattle.span.proofs.Tests.{cases}
 use Rattle.span.proofs.Laws.{nothing, tidy-given, at-given}
 use Rattle.span.proofs.Sets.{plain-at, at-zero}
 use Rattle.span.proofs.Walks.{tidy-spaced}
 use Rattle.key.specs.Rank.{rank, keys, lesser, greater}
-use Rattle.key.specs.Range.{Kind, halfOpen, inclusive, rangeOf}
+use Rattle.key.specs.Range.{Kind, halfOpen, inclusive, spanOf}
 use Rattle.key.proofs.Laws.{key-rank, rank-greater, lesser-fits, greater-fits}
 use Rattle.key.proofs.Lawful.{Lawful}
 use Rattle.relations.specs.Relations as relations
 use Rattle.relations.specs.declared.Common.{Common}
 use Rattle.outcomes.specs.Stored.{places, Stored, ranges, filled, storing, noughts, wellFormed}
-use Rattle.outcomes.specs.Outcomes.{Edited, leaving, editing, edited, cleared, Change, run, changes, firstPlace, placed}
-use Rattle.outcomes.specs.Outcomes.{yesNo, found, contained, met, metPart, uncovered, compared}
-use Rattle.outcomes.specs.Outcomes.{isEmpty, counting, rangeAt, lookup, containing, meeting, overlapping, gapsIn, equality, ordering, inserts, Entry}
-use Rattle.outcomes.specs.Sets.{plain, SoundSet, intersected, joining, intersecting, uniting}
+use Rattle.outcomes.specs.Outcomes.{Edited, leaving, editSound, edit, clear, Change, edits, spanEdits, firstPlace, rangeAtSound}
+use Rattle.outcomes.specs.Outcomes.{yesNo, lookupSound, containsSound, overlapsSound, overlappingSound, gapsSound, orderSound}
+use Rattle.outcomes.specs.Outcomes.{isEmpty, countOf, rangeAt, lookup, contains, overlaps, overlapping, gaps, equal, order, bulkInsertSound, Entry}
+use Rattle.outcomes.specs.Sets.{plain, SoundSet, intersectionSound, unionSound, intersection, union}
 use Rattle.outcomes.specs.declared.Counted.the-variants as Counted
 use Rattle.outcomes.proofs.Formed.{formed, shape, length-ranges, getD-ranges, sound-held}
 use Rattle.outcomes.proofs.Storing.{upto-ranges, sound-storing, length-storing}
-use Rattle.outcomes.proofs.Edits.{done, edit-ranges, edit-sound, edit-length, ranges-cleared}
+use Rattle.outcomes.proofs.Edits.{edit-accepted, edit-ranges, edit-sound, edit-length, ranges-cleared}
 use Rattle.outcomes.proofs.Bulk.{bulk-singles}
 use Rattle.outcomes.proofs.Sets.{plain-ranges}
 use Rattle.rust_algorithm.specs.Btree.{next-back, nth}
 use Rattle.rust_algorithm.specs.InclusiveMap.{add-one-checked, sub-one-checked, add-one-wrapping, sub-one-wrapping}
 use Rattle.rust_algorithm.specs.Operations.{range-intersect}
-use Rattle.rust_algorithm.specs.Answers.{Functions, halfOpenRust, inclusiveRust, commonBy, foundBy, rustEdited, rustRun}
-use Rattle.rust_algorithm.specs.Equal.{Lent, Gives, Writes, SameRelations, SameHistory, SameAnswers, SameOrder, SameOfSets, OfSet, applied, EqualToTheRust}
+use Rattle.rust_algorithm.specs.Answers.{Functions, halfOpenRust, inclusiveRust, commonBy, rustFound, rustEdited, rustRun}
+use Rattle.rust_algorithm.specs.Equal.{Lent, Gives, WritesAlike, SameRelations, SameHistory, SameAnswers, SameOrder, SameOfSets, OfSet, applied, EqualToTheRust}
 use Rattle.rust_algorithm.proofs.InclusiveHistory.{By, checked, wrapping}
 use Rattle.rust_algorithm.proofs.Places.{nth-here, nth-past, nth-zero, nth-last, nth-first, part-gives}
 use Rattle.rust_algorithm.proofs.Same.{Kept, KeptSet, Same, Transcribed, half-open-map, inclusive-map}
@@ -82,7 +83,7 @@ module _ (kind : Kind) (rust : Functions) (transcribed : Transcribed kind rust) 
 
   -- TWO RANGES
   common-keys : (s e s′ e′ : ℤ) → SFits w64 s → SFits w64 e → SFits w64 s′ → SFits w64 e′
-      → relations.intersecting kind s e s′ e′ ≡ commonBy kind (range-intersect (rangeOf kind s e 0) (rangeOf kind s′ e′ 0))
+      → relations.intersecting kind s e s′ e′ ≡ commonBy kind (range-intersect (spanOf kind s e 0) (spanOf kind s′ e′ 0))
   unfolding relations.intersecting range-intersect
   common-keys s e s′ e′ f g f′ g′ = rw (← rank-greater s s′, ← law .least e e′)
       (cases (leb (kind .past (lesser e e′)) (rank (greater s s′)))
@@ -93,7 +94,7 @@ module _ (kind : Kind) (rust : Functions) (transcribed : Transcribed kind rust) 
   pub relations-equal : (s e s′ e′ : ℤ) → SameRelations kind rust s e s′ e′
   relations-equal s e s′ e′ = record {
     contains = λ k h. unfold relations.containing in rw (lt-leb (kind .past e) (rank s) h, same .contains-range (rank s) (kind .past e) (rank k) (ends-from e));
-    overlaps = λ h i. unfold relations.overlapping in rw (
+    spansOverlap = λ h i. unfold relations.overlapping in rw (
       lt-leb (kind .past e) (rank s) h,
       lt-leb (kind .past e′) (rank s′) i,
       same .overlaps-range (rank s) (kind .past e) (rank s′) (kind .past e′) h i,
@@ -104,12 +105,12 @@ module _ (kind : Kind) (rust : Functions) (transcribed : Transcribed kind rust) 
       same .touches-range (rank s) (kind .past e) (rank s′) (kind .past e′) h i (ends-by e) (ends-by e′),
     );
     intersect = λ f g f′ g′. common-keys s e s′ e′ f g f′ g′
-        ∙ ap (commonBy kind) (sym (same .intersect-range (rangeOf kind s e 0) (rangeOf kind s′ e′ 0) (ends-from e) (ends-from e′)));
+        ∙ ap (commonBy kind) (sym (same .intersect-range (spanOf kind s e 0) (spanOf kind s′ e′ 0) (ends-from e) (ends-from e′)));
   }
 
   -- AN EDIT
-  pub edit-equal : (m : Stored) (s e : ℤ) (new : Option ℕ) → wellFormed kind places m ≡ true → edited kind m s e new ≡ rustEdited kind rust m s e new
-  unfolding edited editing
+  pub edit-equal : (m : Stored) (s e : ℤ) (new : Option ℕ) → wellFormed kind places m ≡ true → edit kind m s e new ≡ rustEdited kind rust m s e new
+  unfolding edit editSound
   edit-equal m s e new w = elim (decLt (rank s) (kind .past e)) [
     | yes h ↦ rw (
       w,
@@ -123,8 +124,8 @@ module _ (kind : Kind) (rust : Functions) (transcribed : Transcribed kind rust) 
     )
   ]
 
-  pub edited-is : (m : Stored) (s e : ℤ) (new : Option ℕ) → wellFormed kind places m ≡ true → edited kind m s e new ≡ editing kind places m s e new
-  unfolding edited
+  pub edited-is : (m : Stored) (s e : ℤ) (new : Option ℕ) → wellFormed kind places m ≡ true → edit kind m s e new ≡ editSound kind places m s e new
+  unfolding edit
   edited-is m s e new w = rw w
 
   -- what an edit leaves that is not refused
@@ -134,12 +135,12 @@ module _ (kind : Kind) (rust : Functions) (transcribed : Transcribed kind rust) 
     pub holds : ranges kind (o .left) ≡ given (rank s) (kind .past e) new (ranges kind m)
     pub lent : Lent kind (o .left)
 
-  pub left : (m : Stored) (s e : ℤ) (new : Option ℕ) → wellFormed kind places m ≡ true → edited kind m s e new .answer ≡ 0
-      → Left m s e new (edited kind m s e new)
+  pub left : (m : Stored) (s e : ℤ) (new : Option ℕ) → wellFormed kind places m ≡ true → edit kind m s e new .answer ≡ 0
+      → Left m s e new (edit kind m s e new)
   left m s e new w z =
       let is = edited-is m s e new w in
       let t = formed kind places m w .tidy in
-      let d = done kind places m s e new (sym (ap (λ (o : Edited). o .answer) is) ∙ z) in
+      let d = edit-accepted kind places m s e new (sym (ap (λ (o : Edited). o .answer) is) ∙ z) in
       let r = edit-ranges kind law places m t s e new d in
       rw is (record {
         real = d .real;
@@ -152,26 +153,26 @@ module _ (kind : Kind) (rust : Functions) (transcribed : Transcribed kind rust) 
   well m l = subst (λ (n : ℕ). wellFormed kind n m ≡ true) (l .full-size) (l .sound .well)
 
   -- EDITS in order
-  pub run-equal : (m : Stored) (cs : List Change) → Lent kind m → run kind m cs ≡ rustRun kind rust m cs
-  unfolding run rustRun
+  pub run-equal : (m : Stored) (cs : List Change) → Lent kind m → edits kind m cs ≡ rustRun kind rust m cs
+  unfolding edits rustRun
   run-equal m [] l = refl
   run-equal m (c ∷ cs) l =
       let w = well m l in
-      let one = edited kind m (c .start) (c .end) (c .new) in
+      let one = edit kind m (c .start) (c .end) (c .new) in
       go one (rustRun kind rust (one .left) cs) (rw (sym (edit-equal m (c .start) (c .end) (c .new) w)))
       (λ z. run-equal (one .left) cs (left m (c .start) (c .end) (c .new) w z .lent))
     where
-      go : (one : Edited) (r : Edited) → cond (eqb (one .answer) 0) r one ≡ rustRun kind rust m (c ∷ cs) → (one .answer ≡ 0 → run kind (one .left) cs ≡ r)
-          → cond (eqb (one .answer) 0) (run kind (one .left) cs) one ≡ rustRun kind rust m (c ∷ cs)
+      go : (one : Edited) (r : Edited) → cond (eqb (one .answer) 0) r one ≡ rustRun kind rust m (c ∷ cs) → (one .answer ≡ 0 → edits kind (one .left) cs ≡ r)
+          → cond (eqb (one .answer) 0) (edits kind (one .left) cs) one ≡ rustRun kind rust m (c ∷ cs)
       go one r e f = step (eqb (one .answer) 0) refl ∙ e
         where
-          step : (t : Bool) → eqb (one .answer) 0 ≡ t → cond t (run kind (one .left) cs) one ≡ cond t r one
+          step : (t : Bool) → eqb (one .answer) 0 ≡ t → cond t (edits kind (one .left) cs) one ≡ cond t r one
           step true h = f (eqb-true (one .answer) 0 h)
           step false h = refl
 
   -- HISTORIES: edits of which none is refused
-  by-changes : (cs : List Change) → By keys (changes kind cs)
-  unfolding changes
+  by-changes : (cs : List Change) → By keys (spanEdits kind cs)
+  unfolding spanEdits
   by-changes [] = tt
   by-changes (c ∷ cs) = (ends-by (c .end), by-changes cs)
 
@@ -183,49 +184,49 @@ module _ (kind : Kind) (rust : Functions) (transcribed : Transcribed kind rust) 
       go false e h = absurd (eqb-false (one .answer) 0 e h)
 
   record Ran (m : Stored) (cs : List Change) (o : Edited) : Type 0 where
-    real : Real (changes kind cs)
-    holds : ranges kind (o .left) ≡ history (changes kind cs) (ranges kind m)
+    real : Real (spanEdits kind cs)
+    holds : ranges kind (o .left) ≡ history (spanEdits kind cs) (ranges kind m)
     stores : m ≡ storing kind places (ranges kind m) → o .left ≡ storing kind places (ranges kind (o .left))
     lent : Lent kind (o .left)
 
-  ran : (m : Stored) (cs : List Change) → Lent kind m → run kind m cs .answer ≡ 0 → Ran m cs (run kind m cs)
-  unfolding run changes history
+  ran : (m : Stored) (cs : List Change) → Lent kind m → edits kind m cs .answer ≡ 0 → Ran m cs (edits kind m cs)
+  unfolding edits spanEdits history
   ran m [] l z = record { real = tt; holds = refl; stores = λ e. e; lent = l }
   ran m (c ∷ cs) l z =
-      let one = edited kind m (c .start) (c .end) (c .new) in
-      let (zero-is, rest) = none-refused one (run kind (one .left) cs) z in
+      let one = edit kind m (c .start) (c .end) (c .new) in
+      let (zero-is, rest) = none-refused one (edits kind (one .left) cs) z in
       let f = left m (c .start) (c .end) (c .new) (well m l) zero-is in
       let r = ran (one .left) cs (f .lent) rest in
       rw (eq-eqb (one .answer) 0 zero-is) (record {
         real = (f .real, r .real);
-        holds = r .holds ∙ ap (history (changes kind cs)) (f .holds);
+        holds = r .holds ∙ ap (history (spanEdits kind cs)) (f .holds);
         stores = λ e. r .stores (f .stores);
         lent = r .lent;
       })
 
   -- what the Rust holds after the same calls
-  rust-holds : (m : Stored) (cs : List Change) → Lent kind m → Ran m cs (run kind m cs)
-      → rust .history (changes kind cs) (ranges kind m) ≡ some (ranges kind (run kind m cs .left))
-  rust-holds m cs l r = same .history-same (changes kind cs) (ranges kind m) (r .real) (by-changes cs) (kept m (well m l)) ∙ ap some (sym (r .holds))
+  rust-holds : (m : Stored) (cs : List Change) → Lent kind m → Ran m cs (edits kind m cs)
+      → rust .history (spanEdits kind cs) (ranges kind m) ≡ some (ranges kind (edits kind m cs .left))
+  rust-holds m cs l r = same .history-same (spanEdits kind cs) (ranges kind m) (r .real) (by-changes cs) (kept m (well m l)) ∙ ap some (sym (r .holds))
 
   -- a new map is one as it is lent
-  lent-cleared : Lent kind (cleared kind)
-  unfolding cleared
+  lent-cleared : Lent kind (clear kind)
+  unfolding clear
   lent-cleared = record {
     sound = sound-storing kind law places [] (nothing .tidy) tt (omega arith);
     full-size = length-storing kind law places [] (nothing .tidy) tt (omega arith);
   }
 
-  stores-cleared : cleared kind ≡ storing kind places (ranges kind (cleared kind))
-  unfolding cleared
+  stores-cleared : clear kind ≡ storing kind places (ranges kind (clear kind))
+  unfolding clear
   stores-cleared = ap (storing kind places) (sym (ranges-cleared kind law))
 
-  pub history-equal : (cs : List Change) → run kind (cleared kind) cs .answer ≡ 0 → SameHistory kind rust cs
+  pub history-equal : (cs : List Change) → edits kind (clear kind) cs .answer ≡ 0 → SameHistory kind rust cs
   history-equal cs z =
-      let r = ran (cleared kind) cs lent-cleared z in
+      let r = ran (clear kind) cs lent-cleared z in
       record {
-        btm = ranges kind (run kind (cleared kind) cs .left);
-        holds = ap (rust .history (changes kind cs)) (sym (ranges-cleared kind law)) ∙ rust-holds (cleared kind) cs lent-cleared r;
+        btm = ranges kind (edits kind (clear kind) cs .left);
+        holds = ap (rust .history (spanEdits kind cs)) (sym (ranges-cleared kind law)) ∙ rust-holds (clear kind) cs lent-cleared r;
         stores = r .stores stores-cleared;
         lent = r .lent;
       }
@@ -242,31 +243,31 @@ module _ (kind : Kind) (rust : Functions) (transcribed : Transcribed kind rust) 
           go true e = z v e
           go false e = at-zero m k v p e
 
-  plain-ran : (m : Stored) (cs : List Change) → Lent kind m → OfSet cs → Plain (ranges kind m) → run kind m cs .answer ≡ 0
-      → Plain (ranges kind (run kind m cs .left))
-  unfolding run
+  plain-ran : (m : Stored) (cs : List Change) → Lent kind m → OfSet cs → Plain (ranges kind m) → edits kind m cs .answer ≡ 0
+      → Plain (ranges kind (edits kind m cs .left))
+  unfolding edits
   plain-ran m [] l s p z = p
   plain-ran m (c ∷ cs) l s p z =
-      let one = edited kind m (c .start) (c .end) (c .new) in
-      let (zero-is, rest) = none-refused one (run kind (one .left) cs) z in
+      let one = edit kind m (c .start) (c .end) (c .new) in
+      let (zero-is, rest) = none-refused one (edits kind (one .left) cs) z in
       let f = left m (c .start) (c .end) (c .new) (well m l) zero-is in
       let q = plain-given (rank (c .start)) (kind .past (c .end)) (c .new) (ranges kind m) (f .real) (kept m (well m l) .tidy .ordered) (s .0) p in
       rw (eq-eqb (one .answer) 0 zero-is) (plain-ran (one .left) cs (f .lent) (s .1) (rw (f .holds) q) rest)
 
-  pub sets-stay : (cs : List Change) → OfSet cs → run kind (cleared kind) cs .answer ≡ 0 → SoundSet kind (run kind (cleared kind) cs .left)
+  pub sets-stay : (cs : List Change) → OfSet cs → edits kind (clear kind) cs .answer ≡ 0 → SoundSet kind (edits kind (clear kind) cs .left)
   sets-stay cs s z =
       let h = history-equal cs z in
-      let none-held : Plain (ranges kind (cleared kind)) = rw (ranges-cleared kind law) tt in
-      let p = plain-ran (cleared kind) cs lent-cleared s none-held z in
-      let is = ran (cleared kind) cs lent-cleared z .stores stores-cleared in
-      record { sound = h .lent .sound; plain-too = ap plain is ∙ plain-storing kind places (ranges kind (run kind (cleared kind) cs .left)) p }
+      let none-held : Plain (ranges kind (clear kind)) = rw (ranges-cleared kind law) tt in
+      let p = plain-ran (clear kind) cs lent-cleared s none-held z in
+      let is = ran (clear kind) cs lent-cleared z .stores stores-cleared in
+      record { sound = h .lent .sound; plain-too = ap plain is ∙ plain-storing kind places (ranges kind (edits kind (clear kind) cs .left)) p }
 
   -- BULK INSERT: as many single inserts as were applied
   pub extend-equal : (m : Stored) (es : List Entry) → Lent kind m
-      → rust .history (changes kind (applied kind m es)) (ranges kind m) ≡ some (ranges kind (inserts kind m 0 es .left))
+      → rust .history (spanEdits kind (applied kind m es)) (ranges kind m) ≡ some (ranges kind (bulkInsertSound kind m 0 es .left))
   extend-equal m es l =
       let cs = applied kind m es in
-      let is : run kind m cs ≡ leaving 0 (inserts kind m 0 es .left) = bulk-singles kind law m es (l .sound) (l .full-size) in
+      let is : edits kind m cs ≡ leaving done (bulkInsertSound kind m 0 es .left) = bulk-singles kind law m es (l .sound) (l .full-size) in
       rust-holds m cs l (ran m cs l (ap (λ (o : Edited). o .answer) is)) ∙ ap (λ (o : Edited). some (ranges kind (o .left))) is
 
   -- QUESTIONS of a map
@@ -281,8 +282,8 @@ module _ (kind : Kind) (rust : Functions) (transcribed : Transcribed kind rust) 
     count-is = length-ranges kind (length (m .starts)) m (shape (l .sound)) (sound-held kind m (l .sound))
 
     -- the entry at a place
-    placed-nth : (i : ℕ) → placed m i ≡ foundBy kind (nth i xs)
-    unfolding placed
+    placed-nth : (i : ℕ) → rangeAtSound m i ≡ rustFound kind (nth i xs)
+    unfolding rangeAtSound
     placed-nth i = elim (decLt i (m .count)) [
       | yes h ↦
           let at-place = getD-ranges kind (length (m .starts)) m (shape (l .sound)) (sound-held kind m (l .sound)) i (span 0 0 0) h in
@@ -296,45 +297,45 @@ module _ (kind : Kind) (rust : Functions) (transcribed : Transcribed kind rust) 
       | no h ↦ rw (le-ltb i (m .count) (omega arith), nth-past i xs (omega (arith, count-is)))
     ]
 
-    iter-equal : (i : ℕ) → rangeAt kind m i ≡ foundBy kind (nth i xs)
+    iter-equal : (i : ℕ) → rangeAt kind m i ≡ rustFound kind (nth i xs)
     unfolding rangeAt
     iter-equal i = rw (well m l) (placed-nth i)
 
-    last-equal : rangeAt kind m (m .count - 1) ≡ foundBy kind (next-back xs)
-    last-equal = iter-equal (m .count - 1) ∙ ap (λ (i : ℕ). foundBy kind (nth (i - 1) xs)) (sym count-is) ∙ ap (foundBy kind) (nth-last xs)
+    last-equal : rangeAt kind m (m .count - 1) ≡ rustFound kind (next-back xs)
+    last-equal = iter-equal (m .count - 1) ∙ ap (λ (i : ℕ). rustFound kind (nth (i - 1) xs)) (sym count-is) ∙ ap (rustFound kind) (nth-last xs)
 
-    get-equal : (k : ℤ) → lookup kind m k ≡ foundBy kind (rust .get-key-value (rank k) xs)
-    unfolding lookup found
+    get-equal : (k : ℤ) → lookup kind m k ≡ rustFound kind (rust .get-key-value (rank k) xs)
+    unfolding lookup lookupSound
     get-equal k = rw (well m l) (placed-nth (firstPlace (holds (rank k)) xs)
-        ∙ ap (foundBy kind) (sym (same .get-same (rank k) xs is-kept ∙ nth-first (holds (rank k)) xs)))
+        ∙ ap (rustFound kind) (sym (same .get-same (rank k) xs is-kept ∙ nth-first (holds (rank k)) xs)))
 
-    contains-equal : (k : ℤ) → containing kind m k ≡ yesNo (rust .contains-key (rank k) xs)
-    unfolding containing contained
+    contains-equal : (k : ℤ) → contains kind m k ≡ yesNo (rust .contains-key (rank k) xs)
+    unfolding contains containsSound
     contains-equal k = rw (well m l, same .contains-same (rank k) xs is-kept)
 
     module _ (s e : ℤ) (real : rank s < kind .past e) where
       abbrev q : Span
       q = span (rank s) (kind .past e) 0
 
-      overlaps-equal : meeting kind m s e ≡ yesNo (rust .overlaps (rank s) (kind .past e) xs)
-      unfolding meeting met
+      overlaps-equal : overlaps kind m s e ≡ yesNo (rust .overlaps (rank s) (kind .past e) xs)
+      unfolding overlaps overlapsSound
       overlaps-equal = rw (well m l, lt-leb (kind .past e) (rank s) real, same .overlaps-same (rank s) (kind .past e) xs (ends-from e) is-kept)
 
       overlapping-equal : Gives xs (overlapping kind m s e) (rust .overlapping (rank s) (kind .past e) xs)
-      unfolding overlapping metPart
+      unfolding overlapping overlappingSound
       overlapping-equal = rw (well m l, lt-leb (kind .past e) (rank s) real, same .overlapping-same (rank s) (kind .past e) xs (ends-from e) is-kept)
           (part-gives (rank s) (kind .past e) 0 xs real (is-kept .tidy .ordered))
 
-      gaps-equal : (starts ends : List ℤ) → Writes kind (rust .gaps (rank s) (kind .past e) xs) starts ends (gapsIn kind m s e starts ends)
-      unfolding gapsIn uncovered
+      gaps-equal : (starts ends : List ℤ) → WritesAlike kind (rust .gaps (rank s) (kind .past e) xs) starts ends (gaps kind m s e starts ends)
+      unfolding gaps gapsSound
       gaps-equal starts ends = record {
-        list = gaps (rank s) (kind .past e) xs;
+        list = uncovered (rank s) (kind .past e) xs;
         gave = same .gaps-same (rank s) (kind .past e) xs real (ends-by e) is-kept;
         same = rw (well m l, lt-leb (kind .past e) (rank s) real);
       }
 
-    len-equal : counting kind m ≡ Counted.Count (length xs)
-    unfolding counting
+    len-equal : countOf kind m ≡ Counted.Count (length xs)
+    unfolding countOf
     len-equal = rw (well m l, count-is)
 
     empty-equal : isEmpty kind m ≡ yesNo (eqb (length xs) 0)
@@ -346,7 +347,7 @@ module _ (kind : Kind) (rust : Functions) (transcribed : Transcribed kind rust) 
       len = len-equal;
       is-empty = empty-equal;
       iter = iter-equal;
-      first = iter-equal 0 ∙ ap (foundBy kind) (nth-zero xs);
+      first = iter-equal 0 ∙ ap (rustFound kind) (nth-zero xs);
       last = last-equal;
       get-key-value = get-equal;
       contains-key = contains-equal;
@@ -358,9 +359,9 @@ module _ (kind : Kind) (rust : Functions) (transcribed : Transcribed kind rust) 
   -- of two maps
   pub order-equal : (a b : Stored) → Lent kind a → Lent kind b → SameOrder kind rust a b
   order-equal a b l w = record {
-    eq = unfold equality in unfold compared in
+    eq = unfold equal in unfold orderSound in
         rw (well a l, well b w, same .eq-same (ranges kind a) (ranges kind b) (is-kept a l) (is-kept b w));
-    cmp = unfold ordering in unfold compared in
+    cmp = unfold order in unfold orderSound in
         rw (well a l, well b w, same .cmp-same (ranges kind a) (ranges kind b) (is-kept a l) (is-kept b w));
   }
 
@@ -380,12 +381,12 @@ module _ (kind : Kind) (rust : Functions) (transcribed : Transcribed kind rust) 
     union = λ starts ends. record {
       list = united (ranges kind a) (ranges kind b);
       gave = same .union-same (ranges kind a) (ranges kind b) (kept-set a s l) (kept-set b t w);
-      same = unfold uniting in unfold joining in rw (well a l, well b w, s .plain-too, t .plain-too);
+      same = unfold union in unfold unionSound in rw (well a l, well b w, s .plain-too, t .plain-too);
     };
     intersection = λ starts ends. record {
       list = common (ranges kind a) (ranges kind b);
       gave = same .intersection-same (ranges kind a) (ranges kind b) (kept-set a s l) (kept-set b t w);
-      same = unfold intersecting in unfold intersected in rw (well a l, well b w, s .plain-too, t .plain-too);
+      same = unfold intersection in unfold intersectionSound in rw (well a l, well b w, s .plain-too, t .plain-too);
     };
   }
 

@@ -1,4 +1,4 @@
--- What rangemap's gaps gives is `gaps`.
+-- What rangemap's gaps gives is `uncovered`.
 use Prim.Native.Nat.{ℕ, zero, suc, _≤_, _<_}
 use native.Mathlib.Omega.{arith}
 use native.Mathlib.Decide.{decLt}
@@ -10,7 +10,7 @@ use lib.Dec.{leb}
 use lib.ListN.{length}
 use borrow.Author.Tests.{lt-ltb, le-ltb, le-leb, lt-leb}
 use Rattle.span.specs.Span.{Span, span, inside, at, Ordered, Apart, Tidy, Means, keep}
-use Rattle.span.specs.Operations.{gaps, unless}
+use Rattle.span.specs.Operations.{uncovered, unless}
 use Rattle.span.proofs.Tests.{cases, in-yes, in-no, in-same, in-cases, lt-cases, below, among, beyond, place}
 use Rattle.span.proofs.Holding.{at-in, at-out, at-keep, at-below, ordered-from}
 use Rattle.span.proofs.Laws.{only}
@@ -190,7 +190,7 @@ at-past s [] k h = refl
 at-past s (x ∷ xs) k h = let ih = at-past s xs k h in
     lt-cases s (x .hi) (λ (m : List Span). at m k ≡ at (x ∷ xs) k) (λ p. rw ih) (λ p. ih ∙ sym (at-out x xs k (omega arith)))
 
-pub free-is : (lo hi : ℕ) (m : List Span) → lo < hi → Ordered 0 m → free hi lo (ending-past lo m) ≡ gaps lo hi m
+pub free-is : (lo hi : ℕ) (m : List Span) → lo < hi → Ordered 0 m → free hi lo (ending-past lo m) ≡ uncovered lo hi m
 free-is lo hi m h o =
     let near = ending-past lo m in
     let p = ordered-past lo 0 m o in
@@ -203,8 +203,8 @@ free-is lo hi m h o =
     } in
     only means (gaps-means lo hi 0 m h o)
 
--- GAPS: the iterator ends, and what it gives is what `gaps` says
-pub gaps-is : (lo hi : ℕ) (m : List Span) → lo < hi → Ordered 0 m → map-gaps lo hi m ≡ some (gaps lo hi m)
+-- GAPS: the iterator ends, and what it gives is what `uncovered` says
+pub gaps-is : (lo hi : ℕ) (m : List Span) → lo < hi → Ordered 0 m → map-gaps lo hi m ≡ some (uncovered lo hi m)
 unfolding map-gaps
 gaps-is lo hi m h o =
     collects (suc (suc (length (ending-past lo m)))) hi lo 0 (ending-past lo m) (ordered-past lo 0 m o) (omega arith) ∙ ap some (free-is lo hi m h o)

@@ -14,7 +14,7 @@ use Rattle.span.proofs.Tests.{cases}
 use Rattle.rust_algorithm.specs.Btree.{and-then, if-let, filtered, filtered-by, reversed, taken, next}
 use Rattle.rust_algorithm.specs.Btree.{up-to, between, starting, starting-by, deleted, entered}
 use Rattle.rust_algorithm.specs.Map.{ranges-overlap, ranges-touch, State, state, last-candidate, cut-out, adjust, candidate, remove-candidate}
-use Rattle.rust_algorithm.specs.InclusiveMap.{Steps, inclusive-ranges-overlap, inclusive-ranges-touch, left-back, right-back}
+use Rattle.rust_algorithm.specs.InclusiveMap.{StepBounds, inclusive-ranges-overlap, inclusive-ranges-touch, left-back, right-back}
 use Rattle.rust_algorithm.specs.InclusiveMap.{inclusive-cut-out, inclusive-adjust, inclusive-candidate, inclusive-insert-loop, inclusive-finish}
 use Rattle.rust_algorithm.specs.InclusiveMap.{inclusive-insert-body, inclusive-insert}
 use Rattle.rust_algorithm.specs.InclusiveMap.{inclusive-remove-candidate, inclusive-remove-loop, inclusive-remove-body, inclusive-remove}
@@ -109,7 +109,7 @@ starting-here s x xs h = rw (le-leb s (x .lo) h)
 narrow : State → State
 narrow t = state (t .btm) (t .start) (t .end - 1)
 
-module _ (add-one sub-one : ℕ → Option ℕ) (greatest : ℕ) (steps : Steps add-one sub-one greatest) where
+module _ (add-one sub-one : ℕ → Option ℕ) (greatest : ℕ) (steps : StepBounds add-one sub-one greatest) where
   add-back : (e : ℕ) → 0 < e → e ≤ greatest → add-one (e - 1) ≡ some e
   add-back e h i = let z : suc (e - 1) ≡ e = omega arith in steps .adds (e - 1) (omega arith) ∙ ap some z
 

@@ -1,4 +1,4 @@
--- What the inclusive map's gaps gives is `gaps`.
+-- What the inclusive map's gaps gives is `uncovered`.
 use Prim.Native.Nat.{ℕ, zero, suc, _-_, _≤_, _<_}
 use native.Mathlib.Omega.{arith}
 use native.Mathlib.Decide.{decLt}
@@ -10,12 +10,12 @@ use lib.Dec.{ltb, leb}
 use lib.ListN.{length}
 use borrow.Author.Tests.{lt-ltb, le-ltb, le-leb, lt-leb}
 use Rattle.span.specs.Span.{Span, span, Ordered, Upto, keep}
-use Rattle.span.specs.Operations.{gaps}
+use Rattle.span.specs.Operations.{uncovered}
 use Rattle.span.proofs.Tests.{lt-cases}
 use Rattle.span.proofs.Holding.{ordered-from}
 use Rattle.rust_algorithm.specs.Btree.{filtered}
 use Rattle.rust_algorithm.specs.Map.{ending-past, GapStep, gap-step, given-first}
-use Rattle.rust_algorithm.specs.InclusiveMap.{Steps, ending-from}
+use Rattle.rust_algorithm.specs.InclusiveMap.{StepBounds, ending-from}
 use Rattle.rust_algorithm.specs.InclusiveMap.{inclusive-tail-gap, inclusive-next-gap, inclusive-collect-gaps, inclusive-gaps}
 use Rattle.rust_algorithm.proofs.Gaps.{free, free-is, free-empty, ordered-past, past-past}
 use Rattle.rust_algorithm.proofs.InclusiveEdits.{Sound, sound, filtered-same, leb-ltb}
@@ -36,7 +36,7 @@ module _ (top : ℕ) where
   upto-past s [] u = tt
   upto-past s (x ∷ xs) u = let ih = upto-past s xs (u .1) in lt-cases s (x .hi) (Upto top) (λ p. (u .0, ih)) (λ p. ih)
 
-module _ (add-one sub-one : ℕ → Option ℕ) (greatest : ℕ) (steps : Steps add-one sub-one greatest) where
+module _ (add-one sub-one : ℕ → Option ℕ) (greatest : ℕ) (steps : StepBounds add-one sub-one greatest) where
   abbrev Near : ℕ → List Span → Type 0
   Near f [] = Unit {0}
   Near f (x ∷ xs) = f ≤ greatest
@@ -151,9 +151,9 @@ module _ (add-one sub-one : ℕ → Option ℕ) (greatest : ℕ) (steps : Steps 
       rw (ending-same (suc greatest) lo m (sound (suc greatest) 0 m o u))
       (collects last i (suc (suc (length over))) lo 0 false over (near-any lo over h) (ordered-past lo 0 m o) (upto-past (suc greatest) lo m u) (omega arith))
 
-  -- GAPS: the iterator ends, and what it gives is what `gaps` says
+  -- GAPS: the iterator ends, and what it gives is what `uncovered` says
   pub inclusive-gaps-is : (lo last : ℕ) (m : List Span) → lo ≤ last → last ≤ greatest → Ordered 0 m → Upto (suc greatest) m
-      → inclusive-gaps add-one sub-one lo last m ≡ some (gaps lo (suc last) m)
+      → inclusive-gaps add-one sub-one lo last m ≡ some (uncovered lo (suc last) m)
   inclusive-gaps-is lo last m h i o u = collected lo last m (omega arith) i o u ∙ ap some (free-is lo (suc last) m (omega arith) o)
 
   -- of a reversed range it gives nothing

@@ -10,7 +10,7 @@ use lib.Dec.{eqb}
 use lib.ListN.{length, getD, take, drop}
 use borrow.Author.Tests.{lt-ltb, le-ltb, eqb-true}
 use Rattle.span.specs.Span.{Span, span, Ordered}
-use Rattle.span.specs.Operations.{overlaps}
+use Rattle.span.specs.Operations.{spansOverlap}
 use Rattle.span.proofs.Tests.{cases}
 use Rattle.outcomes.specs.Outcomes.{firstPlace, howMany, partOf}
 use Rattle.outcomes.specs.declared.Part.{Part}
@@ -61,18 +61,18 @@ nth-first p (x ∷ xs) = go (p x) (nth-first p xs)
 -- THE PART that overlaps a query: the places that pass are consecutive
 module _ (lo hi : ℕ) where
   abbrev meets : Span → Bool
-  meets x = overlaps (span lo hi 0) x
+  meets x = spansOverlap (span lo hi 0) x
 
   meets-yes : (x : Span) → lo < x .hi → x .lo < hi → meets x ≡ true
-  unfolding overlaps
+  unfolding spansOverlap
   meets-yes x h i = rw (lt-ltb lo (x .hi) h, lt-ltb (x .lo) hi i)
 
   meets-past : (x : Span) → lo < x .hi → hi ≤ x .lo → meets x ≡ false
-  unfolding overlaps
+  unfolding spansOverlap
   meets-past x h i = rw (lt-ltb lo (x .hi) h, le-ltb (x .lo) hi i)
 
   meets-before : (x : Span) → x .hi ≤ lo → meets x ≡ false
-  unfolding overlaps
+  unfolding spansOverlap
   meets-before x h = rw (le-ltb lo (x .hi) h)
 
   -- past the end of the query nothing passes

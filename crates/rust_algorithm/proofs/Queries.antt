@@ -1,4 +1,4 @@
--- What rangemap's get_key_value, contains_key, overlapping, overlaps, eq and cmp answer, of both kinds, is what a filter of the entries, `any` and `order` say.
+-- What rangemap's get_key_value, contains_key, overlapping, overlaps, eq and cmp answer, of both kinds, is what a filter of the entries, `any` and `spanOrder` say.
 use Prim.Native.Nat.{ℕ, suc, _-_, _≤_, _<_, Ordering, Ordering·lt, Ordering·eq, Ordering·gt}
 use native.Mathlib.Omega.{arith}
 use native.Mathlib.Decide.{decLt, ℕ-discrete}
@@ -9,7 +9,7 @@ use mathlib.Core.Option.{some, none}
 use lib.Dec.{ltb, leb, eqb}
 use borrow.Author.Tests.{lt-ltb, le-ltb, eq-eqb, ne-eqb}
 use Rattle.span.specs.Span.{Span, span, inside, at, Ordered, Upto}
-use Rattle.span.specs.Operations.{overlaps, any, holds, flat, lex, order}
+use Rattle.span.specs.Operations.{spansOverlap, any, holds, flat, lex, spanOrder}
 use Rattle.span.proofs.Tests.{in-yes, in-no}
 use Rattle.span.proofs.Holding.{ordered-from, ordered-right}
 use Rattle.span.proofs.Local.{EndsBefore}
@@ -167,8 +167,8 @@ taken-is hi b (x ∷ xs) o = elim (decLt (x .lo) hi) [
 
 module _ (lo hi : ℕ) (m : List Span) (o : Ordered 0 m) where
   -- whether the query is empty or not
-  pub overlapping-is : map-overlapping lo hi m ≡ filtered (overlaps (span lo hi 0)) m
-  unfolding map-overlapping ending-past overlaps
+  pub overlapping-is : map-overlapping lo hi m ≡ filtered (spansOverlap (span lo hi 0)) m
+  unfolding map-overlapping ending-past spansOverlap
   overlapping-is = taken-is hi 0 _ (unfold ending-past in ordered-past lo 0 m o) ∙ filtered-and (λ x. ltb (x .lo) hi) (λ x. ltb lo (x .hi)) m
 
   -- from the back it gives the same, the last first
@@ -177,9 +177,9 @@ module _ (lo hi : ℕ) (m : List Span) (o : Ordered 0 m) where
   overlapping-back-is = filtered-reversed (λ x. ltb (x .lo) hi) (ending-past lo m) ∙ rw (taken-is hi 0 (ending-past lo m) (ordered-past lo 0 m o))
 
   -- OVERLAPS
-  pub overlaps-is : map-overlaps lo hi m ≡ any (overlaps (span lo hi 0)) m
+  pub overlaps-is : map-overlaps lo hi m ≡ any (spansOverlap (span lo hi 0)) m
   unfolding map-overlaps
-  overlaps-is = rw overlapping-is (some-any (overlaps (span lo hi 0)) m)
+  overlaps-is = rw overlapping-is (some-any (spansOverlap (span lo hi 0)) m)
 
 module _ (lo last top : ℕ) (m : List Span) (o : Ordered 0 m) (u : Upto top m) where
   by-last : _≡_ {A = Span → Bool} (λ x. leb (x .lo) last) (λ x. ltb (x .lo) (suc last))
@@ -208,8 +208,8 @@ cmp-first a b o = go (ltb a b) (ltb b a)
     go false true = refl
     go false false = refl
 
-pub cmp-is : (a b : List Span) → map-cmp a b ≡ order a b
-unfolding map-cmp order flat lex
+pub cmp-is : (a b : List Span) → map-cmp a b ≡ spanOrder a b
+unfolding map-cmp spanOrder flat lex
 cmp-is [] [] = refl
 cmp-is [] (y ∷ ys) = refl
 cmp-is (x ∷ xs) [] = refl
@@ -232,8 +232,8 @@ and-assoc : (r s t : Bool) → ((r && s) && t) ≡ (r && (s && t))
 and-assoc true s t = refl
 and-assoc false s t = refl
 
-pub eq-is : (a b : List Span) → map-eq a b ≡ isEqual (order a b)
-unfolding map-eq order flat lex
+pub eq-is : (a b : List Span) → map-eq a b ≡ isEqual (spanOrder a b)
+unfolding map-eq spanOrder flat lex
 eq-is [] [] = refl
 eq-is [] (y ∷ ys) = refl
 eq-is (x ∷ xs) [] = refl

@@ -8,16 +8,16 @@ use mathlib.Core.Option.{Option, some, none}
 use lib.IntN.{ℤ}
 use borrow.Author.Tests.{lt-ltb, le-ltb, le-leb, lt-leb}
 use Rattle.span.specs.Span.{Span, span, inside, Upto, Tidy, Edit, given, history, Real}
-use Rattle.span.specs.Operations.{over, common, united, overlaps, any, holds, gaps, order}
+use Rattle.span.specs.Operations.{laidOver, common, united, spansOverlap, any, holds, uncovered, spanOrder}
 use Rattle.span.proofs.Walks.{Spaced}
 use Rattle.key.specs.Rank.{keys}
 use Rattle.key.specs.Range.{Kind, halfOpen, inclusive}
 use Rattle.key.proofs.Lawful.{Lawful, half-open, inclusive-too}
-use Rattle.relations.specs.Relations.{touches}
+use Rattle.relations.specs.Relations.{spansTouch}
 use Rattle.outcomes.specs.Outcomes.{isEqual}
 use Rattle.rust_algorithm.specs.Btree.{and-then, filtered, next}
 use Rattle.rust_algorithm.specs.Map.{ranges-overlap, ranges-touch, map-edit, map-history}
-use Rattle.rust_algorithm.specs.InclusiveMap.{Steps, inclusive-range-contains, inclusive-edit, inclusive-history}
+use Rattle.rust_algorithm.specs.InclusiveMap.{StepBounds, inclusive-range-contains, inclusive-edit, inclusive-history}
 use Rattle.rust_algorithm.specs.Operations.{range-intersect}
 use Rattle.rust_algorithm.specs.Answers.{Functions, halfOpenRust, inclusiveRust}
 use Rattle.rust_algorithm.proofs.Insert.{insert-panics}
@@ -48,8 +48,8 @@ pub record KeptSet (limit : ℕ) (m : List Span) : Type 0 where
 -- first is the least rank that a range of the kind can end with
 pub record Same (rust : Functions) (first limit : ℕ) : Type 0 where
   pub contains-range : (lo hi k : ℕ) → first ≤ hi → rust .range-contains lo hi k ≡ inside lo hi k
-  pub overlaps-range : (a b c d : ℕ) → a < b → c < d → rust .range-overlaps a b c d ≡ overlaps (span a b 0) (span c d 0)
-  pub touches-range : (a b c d : ℕ) → a < b → c < d → b ≤ limit → d ≤ limit → rust .range-touches a b c d ≡ some (touches (span a b 0) (span c d 0))
+  pub overlaps-range : (a b c d : ℕ) → a < b → c < d → rust .range-overlaps a b c d ≡ spansOverlap (span a b 0) (span c d 0)
+  pub touches-range : (a b c d : ℕ) → a < b → c < d → b ≤ limit → d ≤ limit → rust .range-touches a b c d ≡ some (spansTouch (span a b 0) (span c d 0))
   pub intersect-range : (x y : Span) → first ≤ x .hi → first ≤ y .hi → rust .range-intersect x y ≡ range-intersect x y
   pub edit-same : (lo hi : ℕ) (new : Option ℕ) (m : List Span) → lo < hi → hi ≤ limit → Kept limit m → rust .edit lo hi new m ≡ some (given lo hi new m)
   pub edit-panics : (lo hi : ℕ) (new : Option ℕ) (m : List Span) → first ≤ hi → hi ≤ lo → rust .edit lo hi new m ≡ none
@@ -59,20 +59,20 @@ pub record Same (rust : Functions) (first limit : ℕ) : Type 0 where
   pub get-same : (k : ℕ) (m : List Span) → Kept limit m → rust .get-key-value k m ≡ next (filtered (holds k) m)
   pub contains-same : (k : ℕ) (m : List Span) → Kept limit m → rust .contains-key k m ≡ any (holds k) m
   -- these two also where the query is empty or reversed
-  pub overlapping-same : (lo hi : ℕ) (m : List Span) → first ≤ hi → Kept limit m → rust .overlapping lo hi m ≡ filtered (overlaps (span lo hi 0)) m
-  pub overlaps-same : (lo hi : ℕ) (m : List Span) → first ≤ hi → Kept limit m → rust .overlaps lo hi m ≡ any (overlaps (span lo hi 0)) m
-  pub gaps-same : (lo hi : ℕ) (m : List Span) → lo < hi → hi ≤ limit → Kept limit m → rust .gaps lo hi m ≡ some (gaps lo hi m)
+  pub overlapping-same : (lo hi : ℕ) (m : List Span) → first ≤ hi → Kept limit m → rust .overlapping lo hi m ≡ filtered (spansOverlap (span lo hi 0)) m
+  pub overlaps-same : (lo hi : ℕ) (m : List Span) → first ≤ hi → Kept limit m → rust .overlaps lo hi m ≡ any (spansOverlap (span lo hi 0)) m
+  pub gaps-same : (lo hi : ℕ) (m : List Span) → lo < hi → hi ≤ limit → Kept limit m → rust .gaps lo hi m ≡ some (uncovered lo hi m)
   pub gaps-none : (lo hi : ℕ) (m : List Span) → first ≤ hi → hi ≤ lo → lo < limit → Kept limit m → rust .gaps lo hi m ≡ some []
-  pub eq-same : (a b : List Span) → Kept limit a → Kept limit b → rust .eq a b ≡ isEqual (order a b)
-  pub cmp-same : (a b : List Span) → Kept limit a → Kept limit b → rust .cmp a b ≡ order a b
+  pub eq-same : (a b : List Span) → Kept limit a → Kept limit b → rust .eq a b ≡ isEqual (spanOrder a b)
+  pub cmp-same : (a b : List Span) → Kept limit a → Kept limit b → rust .cmp a b ≡ spanOrder a b
   pub union-same : (a b : List Span) → KeptSet limit a → KeptSet limit b → rust .union a b ≡ some (united a b)
   pub intersection-same : (a b : List Span) → KeptSet limit a → KeptSet limit b → rust .intersection a b ≡ some (common a b)
-  pub or-same : (a b : List Span) → KeptSet limit a → KeptSet limit b → rust .bit-or a b ≡ some (over a b)
+  pub or-same : (a b : List Span) → KeptSet limit a → KeptSet limit b → rust .bit-or a b ≡ some (laidOver a b)
   pub and-same : (a b : List Span) → KeptSet limit a → KeptSet limit b → rust .bit-and a b ≡ some (common a b)
 
 -- two ranges that are not empty
-overlap-is : (a b c d : ℕ) → a < b → c < d → ranges-overlap a b c d ≡ overlaps (span a b 0) (span c d 0)
-unfolding ranges-overlap overlaps
+overlap-is : (a b c d : ℕ) → a < b → c < d → ranges-overlap a b c d ≡ spansOverlap (span a b 0) (span c d 0)
+unfolding ranges-overlap spansOverlap
 overlap-is a b c d h i = elim (decLt a d) [
   | yes p ↦ elim (decLt c b) [
     | yes q ↦ rw (lt-ltb (max a c) (min b d) (omega arith), lt-ltb a d p, lt-ltb c b q)
@@ -81,8 +81,8 @@ overlap-is a b c d h i = elim (decLt a d) [
   | no p ↦ rw (le-ltb (max a c) (min b d) (omega arith), le-ltb a d (omega arith))
 ]
 
-touch-is : (a b c d : ℕ) → a < b → c < d → ranges-touch a b c d ≡ touches (span a b 0) (span c d 0)
-unfolding ranges-touch touches
+touch-is : (a b c d : ℕ) → a < b → c < d → ranges-touch a b c d ≡ spansTouch (span a b 0) (span c d 0)
+unfolding ranges-touch spansTouch
 touch-is a b c d h i = elim (decLt d a) [
   | yes p ↦ rw (lt-leb (max a c) (min b d) (omega arith), lt-leb a d p)
   | no p ↦ elim (decLt b c) [
@@ -122,7 +122,7 @@ half-open-same limit = record {
 }
 
 -- RangeInclusiveMap and RangeInclusiveSet, where the limit is one past the greatest key
-module _ (add-one sub-one : ℕ → Option ℕ) (greatest : ℕ) (steps : Steps add-one sub-one greatest) where
+module _ (add-one sub-one : ℕ → Option ℕ) (greatest : ℕ) (steps : StepBounds add-one sub-one greatest) where
   inclusive-edit-panics : (lo hi : ℕ) (new : Option ℕ) (m : List Span) → 0 < hi → hi ≤ lo → inclusive-edit add-one sub-one lo hi new m ≡ none
   unfolding inclusive-edit
   inclusive-edit-panics lo hi none m h i = inclusive-remove-panics add-one sub-one greatest steps lo (hi - 1) m (omega arith)
@@ -178,6 +178,6 @@ ends-later : (e : ℤ) → 1 ≤ inclusive .past e
 ends-later e = omega arith
 
 -- for any steps that are right below the greatest key
-pub inclusive-map : (add-one sub-one : ℕ → Option ℕ) → Steps add-one sub-one (2 ^ 64 - 1) → Transcribed inclusive (inclusiveRust add-one sub-one)
+pub inclusive-map : (add-one sub-one : ℕ → Option ℕ) → StepBounds add-one sub-one (2 ^ 64 - 1) → Transcribed inclusive (inclusiveRust add-one sub-one)
 inclusive-map add-one sub-one steps =
     record { law = inclusive-too; least = 1; ends-from = ends-later; same = inclusive-same add-one sub-one (2 ^ 64 - 1) steps }

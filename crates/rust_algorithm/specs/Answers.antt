@@ -6,6 +6,7 @@ use mathlib.Core.Option.{Option, some, none}
 use lib.Dec.{eqb, ltb}
 use lib.ListN.{length}
 use lib.IntN.{ℤ}
+use Rattle.answers.specs.Answers.{done, emptyRange, tooMany, noneThere}
 use Rattle.span.specs.Span.{Span, inside, Edit}
 use Rattle.key.specs.Rank.{rank, keyAt}
 use Rattle.key.specs.Range.{Kind}
@@ -102,14 +103,14 @@ commonBy kind none = Nothing
 commonBy kind (some x) = Between (keyAt (x .lo)) (kind .ending (x .hi))
 
 -- an entry as an answer: 5 where there is none
-abbrev pub foundBy : Kind → Option Span → Found
-foundBy kind none = Found.Refused 5
-foundBy kind (some x) = Found.Range (keyAt (x .lo)) (kind .ending (x .hi)) (x .label)
+abbrev pub rustFound : Kind → Option Span → Found
+rustFound kind none = Found.Refused noneThere
+rustFound kind (some x) = Found.Range (keyAt (x .lo)) (kind .ending (x .hi)) (x .label)
 
 -- an edit: 1 where the Rust panics, 2 where it leaves more ranges than a map has places, and else the map that holds what it leaves
 abbrev pub editedBy : Kind → Stored → Option (List Span) → Edited
-editedBy kind m none = leaving 1 m
-editedBy kind m (some xs) = cond (ltb places (length xs)) (leaving 2 m) (leaving 0 (storing kind places xs))
+editedBy kind m none = leaving emptyRange m
+editedBy kind m (some xs) = cond (ltb places (length xs)) (leaving tooMany m) (leaving done (storing kind places xs))
 
 module _ (kind : Kind) (rust : Functions) where
   -- AN EDIT, run by the Rust on the ranges that a map holds
@@ -118,5 +119,5 @@ module _ (kind : Kind) (rust : Functions) where
 
   -- EDITS in order, up to the first refusal
   unfoldable pub rustRun : Stored → List Change → Edited
-  rustRun m [] = leaving 0 m
-  rustRun m (c ∷ cs) = let one = rustEdited m (c .start) (c .end) (c .new) in cond (eqb (one .answer) 0) (rustRun (one .left) cs) one
+  rustRun m [] = leaving done m
+  rustRun m (c ∷ cs) = let one = rustEdited m (c .start) (c .end) (c .new) in cond (eqb (one .answer) done) (rustRun (one .left) cs) one

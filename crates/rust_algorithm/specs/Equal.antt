@@ -10,19 +10,19 @@ use mir.Syntax.{w64}
 use mir.Val.{SFits}
 use Rattle.span.specs.Span.{Span}
 use Rattle.key.specs.Rank.{rank}
-use Rattle.key.specs.Range.{Kind, rangeOf}
+use Rattle.key.specs.Range.{Kind, spanOf}
 use Rattle.relations.specs.Relations as relations
 use Rattle.relations.specs.Relations.{related}
 use Rattle.outcomes.specs.Stored.{places, Stored, ranges, storing, Sound}
-use Rattle.outcomes.specs.Outcomes.{Entry, Change, Written, writing, yesNo, comparedBy, cleared, run, changes, inserts}
-use Rattle.outcomes.specs.Outcomes.{isEmpty, counting, rangeAt, firstOf, lastOf, lookup, containing, meeting, overlapping, gapsIn, equality, ordering}
-use Rattle.outcomes.specs.Sets.{SoundSet, intersecting, uniting}
+use Rattle.outcomes.specs.Outcomes.{Entry, Change, Written, intoLists, yesNo, comparedBy, clear, edits, spanEdits, bulkInsertSound}
+use Rattle.outcomes.specs.Outcomes.{isEmpty, countOf, rangeAt, firstOf, lastOf, lookup, contains, overlaps, overlapping, gaps, equal, order}
+use Rattle.outcomes.specs.Sets.{SoundSet, intersection, union}
 use Rattle.outcomes.specs.declared.Counted.the-variants as Counted
 use Rattle.outcomes.specs.declared.Part.{Part}
 use Rattle.outcomes.specs.declared.Part.the-variants as Part
 use Rattle.rust_algorithm.specs.Btree.{nth}
 use Rattle.rust_algorithm.specs.Map.{map-first, map-last, map-len, map-is-empty}
-use Rattle.rust_algorithm.specs.Answers.{Functions, relatedBy, commonBy, foundBy, rustRun}
+use Rattle.rust_algorithm.specs.Answers.{Functions, relatedBy, commonBy, rustFound, rustRun}
 
 -- a map as it is lent: sound, and of as many places as maps have
 pub record Lent (kind : Kind) (m : Stored) : Type 0 where
@@ -37,10 +37,10 @@ pub record Gives (xs : List Span) (part : Part) (given : List Span) : Type 0 whe
   pub same : take count (drop place xs) ≡ given
 
 -- a list that is written: the Rust's iterator ends, and what it gave is written into the lent lists
-pub record Writes (kind : Kind) (given : Option (List Span)) (starts ends : List ℤ) (w : Written) : Type 0 where
+pub record WritesAlike (kind : Kind) (given : Option (List Span)) (starts ends : List ℤ) (w : Written) : Type 0 where
   pub list : List Span
   pub gave : given ≡ some list
-  pub same : w ≡ writing kind list starts ends
+  pub same : w ≡ intoLists kind list starts ends
 
 -- the edits of a set: what they give is the value 0, or none
 abbrev pub OfSet : List Change → Type 0
@@ -52,7 +52,7 @@ abbrev pub single : Entry → Change
 single x = record { start = x .start; end = x .end; new = some (x .value) }
 
 abbrev pub applied : Kind → Stored → List Entry → List Change
-applied kind m es = map single (take (inserts kind m 0 es .told .applied) es)
+applied kind m es = map single (take (bulkInsertSound kind m 0 es .told .applied) es)
 
 module _ (kind : Kind) (rust : Functions) where
   -- MODULE 1: two ranges that are not empty or reversed, and intersect of any two, are related as the Rust says
@@ -63,55 +63,55 @@ module _ (kind : Kind) (rust : Functions) where
     pub touches : rank s < kind .past e → rank s′ < kind .past e′
         → relations.touching kind s e s′ e′ ≡ relatedBy (rust .range-touches (rank s) (kind .past e) (rank s′) (kind .past e′))
     pub intersect : SFits w64 s → SFits w64 e → SFits w64 s′ → SFits w64 e′
-        → relations.intersecting kind s e s′ e′ ≡ commonBy kind (rust .range-intersect (rangeOf kind s e 0) (rangeOf kind s′ e′ 0))
+        → relations.intersecting kind s e s′ e′ ≡ commonBy kind (rust .range-intersect (spanOf kind s e 0) (spanOf kind s′ e′ 0))
 
   -- after edits of which none is refused: the Rust, called in the same way from an empty map, holds btm, and the map that is left is the one
   -- that stores btm, place by place, unused places included
   pub record SameHistory (cs : List Change) : Type 0 where
     pub btm : List Span
-    pub holds : rust .history (changes kind cs) [] ≡ some btm
-    pub stores : run kind (cleared kind) cs .left ≡ storing kind places btm
-    pub lent : Lent kind (run kind (cleared kind) cs .left)
+    pub holds : rust .history (spanEdits kind cs) [] ≡ some btm
+    pub stores : edits kind (clear kind) cs .left ≡ storing kind places btm
+    pub lent : Lent kind (edits kind (clear kind) cs .left)
 
   -- each question of a map is answered as the Rust answers it of the ranges that the map holds
   pub record SameAnswers (m : Stored) : Type 0 where
-    pub len : counting kind m ≡ Counted.Count (map-len (ranges kind m))
+    pub len : countOf kind m ≡ Counted.Count (map-len (ranges kind m))
     pub is-empty : isEmpty kind m ≡ yesNo (map-is-empty (ranges kind m))
-    pub iter : (i : ℕ) → rangeAt kind m i ≡ foundBy kind (nth i (ranges kind m))
-    pub first : firstOf kind m ≡ foundBy kind (map-first (ranges kind m))
-    pub last : lastOf kind m ≡ foundBy kind (map-last (ranges kind m))
-    pub get-key-value : (k : ℤ) → lookup kind m k ≡ foundBy kind (rust .get-key-value (rank k) (ranges kind m))
-    pub contains-key : (k : ℤ) → containing kind m k ≡ yesNo (rust .contains-key (rank k) (ranges kind m))
-    pub overlaps : (s e : ℤ) → rank s < kind .past e → meeting kind m s e ≡ yesNo (rust .overlaps (rank s) (kind .past e) (ranges kind m))
+    pub iter : (i : ℕ) → rangeAt kind m i ≡ rustFound kind (nth i (ranges kind m))
+    pub first : firstOf kind m ≡ rustFound kind (map-first (ranges kind m))
+    pub last : lastOf kind m ≡ rustFound kind (map-last (ranges kind m))
+    pub get-key-value : (k : ℤ) → lookup kind m k ≡ rustFound kind (rust .get-key-value (rank k) (ranges kind m))
+    pub contains-key : (k : ℤ) → contains kind m k ≡ yesNo (rust .contains-key (rank k) (ranges kind m))
+    pub overlaps : (s e : ℤ) → rank s < kind .past e → overlaps kind m s e ≡ yesNo (rust .overlaps (rank s) (kind .past e) (ranges kind m))
     pub overlapping : (s e : ℤ) → rank s < kind .past e
         → Gives (ranges kind m) (overlapping kind m s e) (rust .overlapping (rank s) (kind .past e) (ranges kind m))
     pub gaps : (s e : ℤ) → rank s < kind .past e → (starts ends : List ℤ)
-        → Writes kind (rust .gaps (rank s) (kind .past e) (ranges kind m)) starts ends (gapsIn kind m s e starts ends)
+        → WritesAlike kind (rust .gaps (rank s) (kind .past e) (ranges kind m)) starts ends (gaps kind m s e starts ends)
 
   -- and of two maps
   pub record SameOrder (a b : Stored) : Type 0 where
-    pub eq : equality kind a b ≡ yesNo (rust .eq (ranges kind a) (ranges kind b))
-    pub cmp : ordering kind a b ≡ comparedBy (rust .cmp (ranges kind a) (ranges kind b))
+    pub eq : equal kind a b ≡ yesNo (rust .eq (ranges kind a) (ranges kind b))
+    pub cmp : order kind a b ≡ comparedBy (rust .cmp (ranges kind a) (ranges kind b))
 
   -- and of two sets
   pub record SameOfSets (a b : Stored) : Type 0 where
-    pub union : (starts ends : List ℤ) → Writes kind (rust .union (ranges kind a) (ranges kind b)) starts ends (uniting kind a b starts ends)
+    pub union : (starts ends : List ℤ) → WritesAlike kind (rust .union (ranges kind a) (ranges kind b)) starts ends (union kind a b starts ends)
     pub intersection : (starts ends : List ℤ)
-        → Writes kind (rust .intersection (ranges kind a) (ranges kind b)) starts ends (intersecting kind a b starts ends)
+        → WritesAlike kind (rust .intersection (ranges kind a) (ranges kind b)) starts ends (intersection kind a b starts ends)
 
   pub record EqualToTheRust : Type 0 where
     -- EVERY TWO RANGES
     pub relations : (s e s′ e′ : ℤ) → SameRelations s e s′ e′
     -- EVERY EDIT, refused or not: 1 where the Rust panics, 2 where it would hold more ranges than there are places, and else what it leaves
-    pub edits : (m : Stored) (cs : List Change) → Lent kind m → run kind m cs ≡ rustRun kind rust m cs
+    pub edits : (m : Stored) (cs : List Change) → Lent kind m → edits kind m cs ≡ rustRun kind rust m cs
     -- EVERY HISTORY of edits of which none is refused
-    pub histories : (cs : List Change) → run kind (cleared kind) cs .answer ≡ 0 → SameHistory cs
+    pub histories : (cs : List Change) → edits kind (clear kind) cs .answer ≡ 0 → SameHistory cs
     -- of a set too: edits that give 0 or none leave a set, so that each function of a set answers as the map's does
-    pub set-histories : (cs : List Change) → OfSet cs → run kind (cleared kind) cs .answer ≡ 0 → SoundSet kind (run kind (cleared kind) cs .left)
+    pub set-histories : (cs : List Change) → OfSet cs → edits kind (clear kind) cs .answer ≡ 0 → SoundSet kind (edits kind (clear kind) cs .left)
     -- EVERY QUESTION
     pub questions : (m : Stored) → Lent kind m → SameAnswers m
     pub order : (a b : Stored) → Lent kind a → Lent kind b → SameOrder a b
     pub sets : (a b : Stored) → SoundSet kind a → SoundSet kind b → Lent kind a → Lent kind b → SameOfSets a b
     -- BULK INSERT applies as many entries as it says, and leaves what extend leaves after those
     pub extend : (m : Stored) (es : List Entry) → Lent kind m
-        → rust .history (changes kind (applied kind m es)) (ranges kind m) ≡ some (ranges kind (inserts kind m 0 es .left))
+        → rust .history (spanEdits kind (applied kind m es)) (ranges kind m) ≡ some (ranges kind (bulkInsertSound kind m 0 es .left))

@@ -11,7 +11,7 @@ use Rattle.span.specs.Span.{Span, span, inside}
 use Rattle.span.specs.Operations.{puts}
 use Rattle.rust_algorithm.specs.Btree.{and-then, if-let}
 use Rattle.rust_algorithm.specs.Map.{given-first, map-history}
-use Rattle.rust_algorithm.specs.InclusiveMap.{final, closed, inclusive-range-contains, inclusive-history}
+use Rattle.rust_algorithm.specs.InclusiveMap.{final, closedSpan, inclusive-range-contains, inclusive-history}
 
 -- 40-52: merge, the range that it leaves, and none where it answers false
 unfoldable pub range-merge : Span → Span → Option Span
@@ -20,7 +20,7 @@ range-merge x y = cond (inside (x .lo) (x .hi) (y .lo)) (some (cond (ltb (x .hi)
 -- 54-66: the same of inclusive ranges
 unfoldable pub inclusive-merge : Span → Span → Option Span
 inclusive-merge x y = cond (inclusive-range-contains (x .lo) (final x) (y .lo))
-    (some (cond (ltb (final x) (final y)) (closed (x .lo) (final y) (x .label)) x))
+    (some (cond (ltb (final x) (final y)) (closedSpan (x .lo) (final y) (x .label)) x))
     none
 
 -- 74-85: intersect
@@ -35,7 +35,7 @@ unfoldable pub inclusive-intersect : Span → Span → Option Span
 inclusive-intersect x y =
     let start = max (x .lo) (y .lo) in
     let end = min (final x) (final y) in
-    cond (ltb end start) none (some (closed start end (x .label)))
+    cond (ltb end start) none (some (closedSpan start end (x .label)))
 
 -- what an iterator over two lists answers, and what is left of them after it
 pub record PairStep : Type 0 where

@@ -1,2 +1,3 @@
 -- What a reader must believe of the half-open set: how a struct in memory is a set. What each function answers is in `sets` and `outcomes`.
 pub mod Set
+pub mod Promises

@@ -1,6 +1,7 @@
 // Module 5: the half-open set, from set.rs of rangemap. The exported functions, for C and Rust, are here: each lends all the fields of its set
 // to a function of `set_abi`, which answers in numbers, or of `set_ops` or `map_ops` where these do. Rattle callers use `set_ops`.
 use key::RangeKind;
+use key::Value;
 use operations::Operation;
 use outcomes::Applied;
 use outcomes::Count;
@@ -10,13 +11,11 @@ use outcomes::Range;
 use outcomes::Stretch;
 use outcomes::Told;
 use outcomes::Total;
-ghost use mathlib.Core.Path.{_≡_};
-ghost use Rattle.key.specs.Range.{halfOpen};
-ghost use Rattle.outcomes.specs.Numbers.{toldOf, countOf, rangeOf, stretchOf, orderOf, totalOf};
-ghost use Rattle.outcomes.specs.Outcomes.{Listed, cleared, extended, leaving};
-ghost use Rattle.outcomes.specs.Sets.{formedSet, intersecting, uniting, totalling};
-ghost use Rattle.set_ops.specs.Answers.{pairs, setContaining, setCounting, setEquality, setExtending, setFirst, setGaps, setInserting, setIsEmpty, setLast, setLookup, setMeeting, setOrdering, setOverlapping, setRangeAt, setRemoving};
-ghost use Rattle.set.specs.Set.{held};
+ghost use Rattle.lent.specs.Moments.{was, becomes};
+ghost use Rattle.set.specs.Promises.{RangeSetNew, RangeSetIsEmpty, RangeSetLen, RangeSetRangeAt, RangeSetFirst, RangeSetLast, RangeSetGet};
+ghost use Rattle.set.specs.Promises.{RangeSetContains, RangeSetOverlaps, RangeSetOverlapping, RangeSetGaps, RangeSetEq, RangeSetCmp, RangeSetInsert};
+ghost use Rattle.set.specs.Promises.{RangeSetRemove, RangeSetExtend, RangeSetClear, RangeSetWellFormed, RangeSetIntersection, RangeSetUnion};
+ghost use Rattle.set.specs.Promises.{RangeSetTotal};
 
 // The kind of this set's ranges.
 const KIND: RangeKind = RangeKind::HalfOpen;
@@ -27,13 +26,13 @@ pub struct RangeSet {
     pub count: usize,
     pub starts: [i64; PLACES],
     pub ends: [i64; PLACES],
-    pub values: [u8; PLACES],
+    pub values: [Value; PLACES],
 }
 
 // A new set, which covers nothing.
 #[no_mangle]
 pub extern "C" fn range_set_new() -> RangeSet
-    ensures { λ r. ⌜ held r ≡ cleared halfOpen ⌝ }
+    ensures { λ r. ⌜ RangeSetNew r ⌝ }
 {
     RangeSet {
         count: 0,
@@ -46,7 +45,7 @@ pub extern "C" fn range_set_new() -> RangeSet
 // Whether nothing is held.
 #[no_mangle]
 pub extern "C" fn range_set_is_empty(m: &RangeSet) -> Told
-    ensures { λ r. ⌜ r ≡ toldOf (setIsEmpty halfOpen (held (now (m .entry)))) ⌝ }
+    ensures { λ r. ⌜ RangeSetIsEmpty (was m) r ⌝ }
 {
     set_abi::is_empty(KIND, &m.count, &m.starts, &m.ends, &m.values)
 }
@@ -54,7 +53,7 @@ pub extern "C" fn range_set_is_empty(m: &RangeSet) -> Told
 // How many ranges are held.
 #[no_mangle]
 pub extern "C" fn range_set_len(m: &RangeSet) -> Count
-    ensures { λ r. ⌜ r ≡ countOf (setCounting halfOpen (held (now (m .entry)))) ⌝ }
+    ensures { λ r. ⌜ RangeSetLen (was m) r ⌝ }
 {
     set_abi::len(KIND, &m.count, &m.starts, &m.ends, &m.values)
 }
@@ -62,7 +61,7 @@ pub extern "C" fn range_set_len(m: &RangeSet) -> Count
 // The range at a place.
 #[no_mangle]
 pub extern "C" fn range_set_range_at(m: &RangeSet, place: usize) -> Range
-    ensures { λ r. ⌜ r ≡ rangeOf (setRangeAt halfOpen (held (now (m .entry))) place) ⌝ }
+    ensures { λ r. ⌜ RangeSetRangeAt (was m) place r ⌝ }
 {
     set_abi::range_at(KIND, &m.count, &m.starts, &m.ends, &m.values, place)
 }
@@ -70,7 +69,7 @@ pub extern "C" fn range_set_range_at(m: &RangeSet, place: usize) -> Range
 // The first range.
 #[no_mangle]
 pub extern "C" fn range_set_first(m: &RangeSet) -> Range
-    ensures { λ r. ⌜ r ≡ rangeOf (setFirst halfOpen (held (now (m .entry)))) ⌝ }
+    ensures { λ r. ⌜ RangeSetFirst (was m) r ⌝ }
 {
     set_abi::first(KIND, &m.count, &m.starts, &m.ends, &m.values)
 }
@@ -78,7 +77,7 @@ pub extern "C" fn range_set_first(m: &RangeSet) -> Range
 // The last range.
 #[no_mangle]
 pub extern "C" fn range_set_last(m: &RangeSet) -> Range
-    ensures { λ r. ⌜ r ≡ rangeOf (setLast halfOpen (held (now (m .entry)))) ⌝ }
+    ensures { λ r. ⌜ RangeSetLast (was m) r ⌝ }
 {
     set_abi::last(KIND, &m.count, &m.starts, &m.ends, &m.values)
 }
@@ -86,7 +85,7 @@ pub extern "C" fn range_set_last(m: &RangeSet) -> Range
 // The range that holds the key.
 #[no_mangle]
 pub extern "C" fn range_set_get(m: &RangeSet, key: i64) -> Range
-    ensures { λ r. ⌜ r ≡ rangeOf (setLookup halfOpen (held (now (m .entry))) key) ⌝ }
+    ensures { λ r. ⌜ RangeSetGet (was m) key r ⌝ }
 {
     set_abi::get(KIND, &m.count, &m.starts, &m.ends, &m.values, key)
 }
@@ -94,7 +93,7 @@ pub extern "C" fn range_set_get(m: &RangeSet, key: i64) -> Range
 // Whether some range holds the key.
 #[no_mangle]
 pub extern "C" fn range_set_contains(m: &RangeSet, key: i64) -> Told
-    ensures { λ r. ⌜ r ≡ toldOf (setContaining halfOpen (held (now (m .entry))) key) ⌝ }
+    ensures { λ r. ⌜ RangeSetContains (was m) key r ⌝ }
 {
     set_abi::contains(KIND, &m.count, &m.starts, &m.ends, &m.values, key)
 }
@@ -102,7 +101,7 @@ pub extern "C" fn range_set_contains(m: &RangeSet, key: i64) -> Told
 // Whether some range has a key of the query.
 #[no_mangle]
 pub extern "C" fn range_set_overlaps(m: &RangeSet, start: i64, end: i64) -> Told
-    ensures { λ r. ⌜ r ≡ toldOf (setMeeting halfOpen (held (now (m .entry))) start end) ⌝ }
+    ensures { λ r. ⌜ RangeSetOverlaps (was m) start end r ⌝ }
 {
     set_abi::overlaps(KIND, &m.count, &m.starts, &m.ends, &m.values, start, end)
 }
@@ -110,7 +109,7 @@ pub extern "C" fn range_set_overlaps(m: &RangeSet, start: i64, end: i64) -> Told
 // Which consecutive stored part meets the query.
 #[no_mangle]
 pub extern "C" fn range_set_overlapping(m: &RangeSet, start: i64, end: i64) -> Stretch
-    ensures { λ r. ⌜ r ≡ stretchOf (setOverlapping halfOpen (held (now (m .entry))) start end) ⌝ }
+    ensures { λ r. ⌜ RangeSetOverlapping (was m) start end r ⌝ }
 {
     set_abi::overlapping(KIND, &m.count, &m.starts, &m.ends, &m.values, start, end)
 }
@@ -124,7 +123,7 @@ pub extern "C" fn range_set_gaps(
     out_starts: &mut [i64],
     out_ends: &mut [i64],
 ) -> Count
-    ensures { λ r. ⌜ Listed r (now («out_starts» .exit)) (now («out_ends» .exit)) (setGaps halfOpen (held (now (m .entry))) start end (now («out_starts» .entry)) (now («out_ends» .entry))) ⌝ }
+    ensures { λ r. ⌜ RangeSetGaps (was m) start end (was «out_starts») (becomes «out_starts») (was «out_ends») (becomes «out_ends») r ⌝ }
 {
     set_abi::gaps(
         KIND,
@@ -142,7 +141,7 @@ pub extern "C" fn range_set_gaps(
 // Whether two sets hold the same ranges.
 #[no_mangle]
 pub extern "C" fn range_set_eq(a: &RangeSet, b: &RangeSet) -> Told
-    ensures { λ r. ⌜ r ≡ toldOf (setEquality halfOpen (held (now (a .entry))) (held (now (b .entry)))) ⌝ }
+    ensures { λ r. ⌜ RangeSetEq (was a) (was b) r ⌝ }
 {
     set_abi::eq(
         KIND,
@@ -160,7 +159,7 @@ pub extern "C" fn range_set_eq(a: &RangeSet, b: &RangeSet) -> Told
 // Which of two sets comes first: -1, 0 or 1.
 #[no_mangle]
 pub extern "C" fn range_set_cmp(a: &RangeSet, b: &RangeSet) -> Order
-    ensures { λ r. ⌜ r ≡ orderOf (setOrdering halfOpen (held (now (a .entry))) (held (now (b .entry)))) ⌝ }
+    ensures { λ r. ⌜ RangeSetCmp (was a) (was b) r ⌝ }
 {
     set_abi::cmp(
         KIND,
@@ -178,7 +177,7 @@ pub extern "C" fn range_set_cmp(a: &RangeSet, b: &RangeSet) -> Order
 // Covers each instant of start..end, and no other.
 #[no_mangle]
 pub extern "C" fn range_set_insert(m: &mut RangeSet, start: i64, end: i64) -> u8
-    ensures { λ r. ⌜ leaving r (held (now (m .exit))) ≡ setInserting halfOpen (held (now (m .entry))) start end ⌝ }
+    ensures { λ r. ⌜ RangeSetInsert (was m) (becomes m) start end r ⌝ }
 {
     set_abi::insert(
         KIND,
@@ -194,7 +193,7 @@ pub extern "C" fn range_set_insert(m: &mut RangeSet, start: i64, end: i64) -> u8
 // Uncovers exactly the instants of start..end.
 #[no_mangle]
 pub extern "C" fn range_set_remove(m: &mut RangeSet, start: i64, end: i64) -> u8
-    ensures { λ r. ⌜ leaving r (held (now (m .exit))) ≡ setRemoving halfOpen (held (now (m .entry))) start end ⌝ }
+    ensures { λ r. ⌜ RangeSetRemove (was m) (becomes m) start end r ⌝ }
 {
     set_abi::remove(
         KIND,
@@ -210,7 +209,7 @@ pub extern "C" fn range_set_remove(m: &mut RangeSet, start: i64, end: i64) -> u8
 // Inserts the ranges of two lent lists in order, up to the first refusal.
 #[no_mangle]
 pub extern "C" fn range_set_extend(m: &mut RangeSet, starts: &[i64], ends: &[i64]) -> Applied
-    ensures { λ r. ⌜ extended r (held (now (m .exit))) ≡ setExtending halfOpen (held (now (m .entry))) (pairs (now (starts .entry)) (now (ends .entry))) ⌝ }
+    ensures { λ r. ⌜ RangeSetExtend (was m) (becomes m) (was starts) (was ends) r ⌝ }
 {
     set_ops::bulk::extend(
         KIND,
@@ -226,7 +225,7 @@ pub extern "C" fn range_set_extend(m: &mut RangeSet, starts: &[i64], ends: &[i64
 // Leaves nothing covered, whatever the set was.
 #[no_mangle]
 pub extern "C" fn range_set_clear(m: &mut RangeSet)
-    ensures { λ _. ⌜ (held (now (m .exit))) ≡ cleared halfOpen ⌝ }
+    ensures { λ _. ⌜ RangeSetClear (was m) (becomes m) ⌝ }
 {
     map_ops::change::clear(&mut m.count, &mut m.starts, &mut m.ends, &mut m.values)
 }
@@ -234,7 +233,7 @@ pub extern "C" fn range_set_clear(m: &mut RangeSet)
 // Whether a map is well formed.
 #[no_mangle]
 pub extern "C" fn range_set_well_formed(m: &RangeSet) -> bool
-    ensures { λ r. ⌜ r ≡ formedSet halfOpen (held (now (m .entry))) ⌝ }
+    ensures { λ r. ⌜ RangeSetWellFormed (was m) r ⌝ }
 {
     set_abi::well_formed(KIND, &m.count, &m.starts, &m.ends, &m.values)
 }
@@ -247,7 +246,7 @@ pub extern "C" fn range_set_intersection(
     out_starts: &mut [i64],
     out_ends: &mut [i64],
 ) -> Count
-    ensures { λ r. ⌜ Listed r (now («out_starts» .exit)) (now («out_ends» .exit)) (intersecting halfOpen (held (now (a .entry))) (held (now (b .entry))) (now («out_starts» .entry)) (now («out_ends» .entry))) ⌝ }
+    ensures { λ r. ⌜ RangeSetIntersection (was a) (was b) (was «out_starts») (becomes «out_starts») (was «out_ends») (becomes «out_ends») r ⌝ }
 {
     set_abi::combine(
         KIND,
@@ -273,7 +272,7 @@ pub extern "C" fn range_set_union(
     out_starts: &mut [i64],
     out_ends: &mut [i64],
 ) -> Count
-    ensures { λ r. ⌜ Listed r (now («out_starts» .exit)) (now («out_ends» .exit)) (uniting halfOpen (held (now (a .entry))) (held (now (b .entry))) (now («out_starts» .entry)) (now («out_ends» .entry))) ⌝ }
+    ensures { λ r. ⌜ RangeSetUnion (was a) (was b) (was «out_starts») (becomes «out_starts») (was «out_ends») (becomes «out_ends») r ⌝ }
 {
     set_abi::combine(
         KIND,
@@ -294,7 +293,7 @@ pub extern "C" fn range_set_union(
 // How many keys are covered, as a u64; 9 if that is over 2^64 - 1.
 #[no_mangle]
 pub extern "C" fn range_set_total(m: &RangeSet) -> Total
-    ensures { λ r. ⌜ r ≡ totalOf (totalling halfOpen (held (now (m .entry)))) ⌝ }
+    ensures { λ r. ⌜ RangeSetTotal (was m) r ⌝ }
 {
     set_abi::total(KIND, &m.count, &m.starts, &m.ends, &m.values)
 }

@@ -1,6 +1,7 @@
 // The functions of a set of either kind, over its fields, with their answers as structs of numbers: what C and Rust see. The exported functions of
 // `set` and `inclusive_set` name their kind and lend all the fields of their set to these.
 use key::RangeKind;
+use key::Value;
 use operations::Operation;
 use outcomes::Count;
 use outcomes::Order;
@@ -17,22 +18,23 @@ use outcomes::stretch_of;
 use outcomes::told_of;
 use outcomes::total_of;
 ghost use mathlib.Core.Path.{_≡_};
+ghost use Rattle.lent.specs.Moments.{was, becomes};
 ghost use Rattle.key.specs.Range.{kindOf};
-ghost use Rattle.outcomes.specs.Stored.{lent};
-ghost use Rattle.outcomes.specs.Numbers.{toldOf, countOf, rangeOf, stretchOf, orderOf, totalOf};
+ghost use Rattle.outcomes.specs.Stored.{atEntry, atExit};
+ghost use Rattle.outcomes.specs.Numbers.{askedInC, countedInC, foundInC, partInC, comparedInC, totalledInC};
 ghost use Rattle.outcomes.specs.Outcomes.{Listed, leaving};
-ghost use Rattle.outcomes.specs.Sets.{formedSet, totalling};
+ghost use Rattle.outcomes.specs.Sets.{formedSet, totalOf};
 ghost use Rattle.operations.specs.InnerOperation.{combinedAny};
-ghost use Rattle.set_ops.specs.Answers.{setContaining, setCounting, setEquality, setFirst, setGaps, setInserting, setIsEmpty, setLast, setLookup, setMeeting, setOrdering, setOverlapping, setRangeAt, setRemoving};
+ghost use Rattle.set_ops.specs.Answers.{setContains, setCount, setEqual, setFirst, setGaps, setInsert, setIsEmpty, setLast, setLookup, setOverlaps, setOrder, setOverlapping, setRangeAt, setRemove};
 
 pub fn is_empty(
     kind: RangeKind,
     count: &usize,
     starts: &[i64; PLACES],
     ends: &[i64; PLACES],
-    values: &[u8; PLACES],
+    values: &[Value; PLACES],
 ) -> Told
-    ensures { λ r. ⌜ r ≡ toldOf (setIsEmpty (kindOf kind) (lent (count .entry) (starts .entry) (ends .entry) (values .entry))) ⌝ }
+    ensures { λ r. ⌜ r ≡ askedInC (setIsEmpty (kindOf kind) (atEntry count starts ends values)) ⌝ }
 {
     told_of(set_ops::stored::is_empty(kind, count, starts, ends, values))
 }
@@ -42,9 +44,9 @@ pub fn len(
     count: &usize,
     starts: &[i64; PLACES],
     ends: &[i64; PLACES],
-    values: &[u8; PLACES],
+    values: &[Value; PLACES],
 ) -> Count
-    ensures { λ r. ⌜ r ≡ countOf (setCounting (kindOf kind) (lent (count .entry) (starts .entry) (ends .entry) (values .entry))) ⌝ }
+    ensures { λ r. ⌜ r ≡ countedInC (setCount (kindOf kind) (atEntry count starts ends values)) ⌝ }
 {
     count_of(set_ops::stored::len(kind, count, starts, ends, values))
 }
@@ -54,10 +56,10 @@ pub fn range_at(
     count: &usize,
     starts: &[i64; PLACES],
     ends: &[i64; PLACES],
-    values: &[u8; PLACES],
+    values: &[Value; PLACES],
     place: usize,
 ) -> Range
-    ensures { λ r. ⌜ r ≡ rangeOf (setRangeAt (kindOf kind) (lent (count .entry) (starts .entry) (ends .entry) (values .entry)) place) ⌝ }
+    ensures { λ r. ⌜ r ≡ foundInC (setRangeAt (kindOf kind) (atEntry count starts ends values) place) ⌝ }
 {
     range_of(set_ops::stored::range_at(kind, count, starts, ends, values, place))
 }
@@ -67,9 +69,9 @@ pub fn first(
     count: &usize,
     starts: &[i64; PLACES],
     ends: &[i64; PLACES],
-    values: &[u8; PLACES],
+    values: &[Value; PLACES],
 ) -> Range
-    ensures { λ r. ⌜ r ≡ rangeOf (setFirst (kindOf kind) (lent (count .entry) (starts .entry) (ends .entry) (values .entry))) ⌝ }
+    ensures { λ r. ⌜ r ≡ foundInC (setFirst (kindOf kind) (atEntry count starts ends values)) ⌝ }
 {
     range_of(set_ops::stored::first(kind, count, starts, ends, values))
 }
@@ -79,9 +81,9 @@ pub fn last(
     count: &usize,
     starts: &[i64; PLACES],
     ends: &[i64; PLACES],
-    values: &[u8; PLACES],
+    values: &[Value; PLACES],
 ) -> Range
-    ensures { λ r. ⌜ r ≡ rangeOf (setLast (kindOf kind) (lent (count .entry) (starts .entry) (ends .entry) (values .entry))) ⌝ }
+    ensures { λ r. ⌜ r ≡ foundInC (setLast (kindOf kind) (atEntry count starts ends values)) ⌝ }
 {
     range_of(set_ops::stored::last(kind, count, starts, ends, values))
 }
@@ -91,10 +93,10 @@ pub fn get(
     count: &usize,
     starts: &[i64; PLACES],
     ends: &[i64; PLACES],
-    values: &[u8; PLACES],
+    values: &[Value; PLACES],
     key: i64,
 ) -> Range
-    ensures { λ r. ⌜ r ≡ rangeOf (setLookup (kindOf kind) (lent (count .entry) (starts .entry) (ends .entry) (values .entry)) key) ⌝ }
+    ensures { λ r. ⌜ r ≡ foundInC (setLookup (kindOf kind) (atEntry count starts ends values) key) ⌝ }
 {
     range_of(set_ops::found::get(kind, count, starts, ends, values, key))
 }
@@ -104,10 +106,10 @@ pub fn contains(
     count: &usize,
     starts: &[i64; PLACES],
     ends: &[i64; PLACES],
-    values: &[u8; PLACES],
+    values: &[Value; PLACES],
     key: i64,
 ) -> Told
-    ensures { λ r. ⌜ r ≡ toldOf (setContaining (kindOf kind) (lent (count .entry) (starts .entry) (ends .entry) (values .entry)) key) ⌝ }
+    ensures { λ r. ⌜ r ≡ askedInC (setContains (kindOf kind) (atEntry count starts ends values) key) ⌝ }
 {
     told_of(set_ops::found::contains(kind, count, starts, ends, values, key))
 }
@@ -117,11 +119,11 @@ pub fn overlaps(
     count: &usize,
     starts: &[i64; PLACES],
     ends: &[i64; PLACES],
-    values: &[u8; PLACES],
+    values: &[Value; PLACES],
     start: i64,
     end: i64,
 ) -> Told
-    ensures { λ r. ⌜ r ≡ toldOf (setMeeting (kindOf kind) (lent (count .entry) (starts .entry) (ends .entry) (values .entry)) start end) ⌝ }
+    ensures { λ r. ⌜ r ≡ askedInC (setOverlaps (kindOf kind) (atEntry count starts ends values) start end) ⌝ }
 {
     told_of(set_ops::found::overlaps(kind, count, starts, ends, values, start, end))
 }
@@ -131,11 +133,11 @@ pub fn overlapping(
     count: &usize,
     starts: &[i64; PLACES],
     ends: &[i64; PLACES],
-    values: &[u8; PLACES],
+    values: &[Value; PLACES],
     start: i64,
     end: i64,
 ) -> Stretch
-    ensures { λ r. ⌜ r ≡ stretchOf (setOverlapping (kindOf kind) (lent (count .entry) (starts .entry) (ends .entry) (values .entry)) start end) ⌝ }
+    ensures { λ r. ⌜ r ≡ partInC (setOverlapping (kindOf kind) (atEntry count starts ends values) start end) ⌝ }
 {
     stretch_of(set_ops::found::overlapping(kind, count, starts, ends, values, start, end))
 }
@@ -145,13 +147,13 @@ pub fn gaps(
     count: &usize,
     starts: &[i64; PLACES],
     ends: &[i64; PLACES],
-    values: &[u8; PLACES],
+    values: &[Value; PLACES],
     start: i64,
     end: i64,
     out_starts: &mut [i64],
     out_ends: &mut [i64],
 ) -> Count
-    ensures { λ r. ⌜ Listed r (now («out_starts» .exit)) (now («out_ends» .exit)) (setGaps (kindOf kind) (lent (count .entry) (starts .entry) (ends .entry) (values .entry)) start end (now («out_starts» .entry)) (now («out_ends» .entry))) ⌝ }
+    ensures { λ r. ⌜ Listed r (becomes «out_starts») (becomes «out_ends») (setGaps (kindOf kind) (atEntry count starts ends values) start end (was «out_starts») (was «out_ends»)) ⌝ }
 {
     count_of(set_ops::found::gaps(
         kind,
@@ -171,13 +173,13 @@ pub fn eq(
     count: &usize,
     starts: &[i64; PLACES],
     ends: &[i64; PLACES],
-    values: &[u8; PLACES],
+    values: &[Value; PLACES],
     count2: &usize,
     starts2: &[i64; PLACES],
     ends2: &[i64; PLACES],
-    values2: &[u8; PLACES],
+    values2: &[Value; PLACES],
 ) -> Told
-    ensures { λ r. ⌜ r ≡ toldOf (setEquality (kindOf kind) (lent (count .entry) (starts .entry) (ends .entry) (values .entry)) (lent (count2 .entry) (starts2 .entry) (ends2 .entry) (values2 .entry))) ⌝ }
+    ensures { λ r. ⌜ r ≡ askedInC (setEqual (kindOf kind) (atEntry count starts ends values) (atEntry count2 starts2 ends2 values2)) ⌝ }
 {
     told_of(set_ops::stored::eq(
         kind,
@@ -197,13 +199,13 @@ pub fn cmp(
     count: &usize,
     starts: &[i64; PLACES],
     ends: &[i64; PLACES],
-    values: &[u8; PLACES],
+    values: &[Value; PLACES],
     count2: &usize,
     starts2: &[i64; PLACES],
     ends2: &[i64; PLACES],
-    values2: &[u8; PLACES],
+    values2: &[Value; PLACES],
 ) -> Order
-    ensures { λ r. ⌜ r ≡ orderOf (setOrdering (kindOf kind) (lent (count .entry) (starts .entry) (ends .entry) (values .entry)) (lent (count2 .entry) (starts2 .entry) (ends2 .entry) (values2 .entry))) ⌝ }
+    ensures { λ r. ⌜ r ≡ comparedInC (setOrder (kindOf kind) (atEntry count starts ends values) (atEntry count2 starts2 ends2 values2)) ⌝ }
 {
     order_of(set_ops::stored::cmp(
         kind,
@@ -223,11 +225,11 @@ pub fn insert(
     count: &mut usize,
     starts: &mut [i64; PLACES],
     ends: &mut [i64; PLACES],
-    values: &mut [u8; PLACES],
+    values: &mut [Value; PLACES],
     start: i64,
     end: i64,
 ) -> u8
-    ensures { λ r. ⌜ leaving r (lent (count .exit) (starts .exit) (ends .exit) (values .exit)) ≡ setInserting (kindOf kind) (lent (count .entry) (starts .entry) (ends .entry) (values .entry)) start end ⌝ }
+    ensures { λ r. ⌜ leaving r (atExit count starts ends values) ≡ setInsert (kindOf kind) (atEntry count starts ends values) start end ⌝ }
 {
     number_of(set_ops::changed::insert(kind, count, starts, ends, values, start, end))
 }
@@ -237,11 +239,11 @@ pub fn remove(
     count: &mut usize,
     starts: &mut [i64; PLACES],
     ends: &mut [i64; PLACES],
-    values: &mut [u8; PLACES],
+    values: &mut [Value; PLACES],
     start: i64,
     end: i64,
 ) -> u8
-    ensures { λ r. ⌜ leaving r (lent (count .exit) (starts .exit) (ends .exit) (values .exit)) ≡ setRemoving (kindOf kind) (lent (count .entry) (starts .entry) (ends .entry) (values .entry)) start end ⌝ }
+    ensures { λ r. ⌜ leaving r (atExit count starts ends values) ≡ setRemove (kindOf kind) (atEntry count starts ends values) start end ⌝ }
 {
     number_of(set_ops::changed::remove(kind, count, starts, ends, values, start, end))
 }
@@ -251,9 +253,9 @@ pub fn well_formed(
     count: &usize,
     starts: &[i64; PLACES],
     ends: &[i64; PLACES],
-    values: &[u8; PLACES],
+    values: &[Value; PLACES],
 ) -> bool
-    ensures { λ r. ⌜ r ≡ formedSet (kindOf kind) (lent (count .entry) (starts .entry) (ends .entry) (values .entry)) ⌝ }
+    ensures { λ r. ⌜ r ≡ formedSet (kindOf kind) (atEntry count starts ends values) ⌝ }
 {
     store::plain::is_set(kind, *count, starts, ends, values)
 }
@@ -265,18 +267,18 @@ pub fn combine(
     count: &usize,
     starts: &[i64; PLACES],
     ends: &[i64; PLACES],
-    values: &[u8; PLACES],
+    values: &[Value; PLACES],
     count2: &usize,
     starts2: &[i64; PLACES],
     ends2: &[i64; PLACES],
-    values2: &[u8; PLACES],
+    values2: &[Value; PLACES],
     out_starts: &mut [i64],
     out_ends: &mut [i64],
 ) -> Count
-    ensures { λ r. ⌜ Listed r (now («out_starts» .exit)) (now («out_ends» .exit)) (combinedAny operation (kindOf kind)
-        (lent (count .entry) (starts .entry) (ends .entry) (values .entry))
-        (lent (count2 .entry) (starts2 .entry) (ends2 .entry) (values2 .entry))
-        (now («out_starts» .entry)) (now («out_ends» .entry))) ⌝ }
+    ensures { λ r. ⌜ Listed r (becomes «out_starts») (becomes «out_ends») (combinedAny operation (kindOf kind)
+        (atEntry count starts ends values)
+        (atEntry count2 starts2 ends2 values2)
+        (was «out_starts») (was «out_ends»)) ⌝ }
 {
     count_of(operations::combine(
         kind,
@@ -299,9 +301,9 @@ pub fn total(
     count: &usize,
     starts: &[i64; PLACES],
     ends: &[i64; PLACES],
-    values: &[u8; PLACES],
+    values: &[Value; PLACES],
 ) -> Total
-    ensures { λ r. ⌜ r ≡ totalOf (totalling (kindOf kind) (lent (count .entry) (starts .entry) (ends .entry) (values .entry))) ⌝ }
+    ensures { λ r. ⌜ r ≡ totalledInC (totalOf (kindOf kind) (atEntry count starts ends values)) ⌝ }
 {
     total_of(set_total::total(kind, count, starts, ends, values))
 }

@@ -7,6 +7,7 @@ use mathlib.Core.List.{List, [], _∷_, _++_, map}
 use mathlib.Core.Option.{Option, some, none}
 use lib.ListN.{length, replicate}
 use lib.IntN.{ℤ}
+use Rattle.answers.specs.Answers.{notFormed}
 use Rattle.span.specs.Span.{Span, Ordered, at, inside, given}
 use Rattle.span.specs.Operations.{Plain}
 use Rattle.span.proofs.Laws.{at-given, tidy-given, never}
@@ -15,11 +16,11 @@ use Rattle.key.specs.Rank.{rank}
 use Rattle.key.specs.Range.{Kind}
 use Rattle.outcomes.specs.Stored.{places, Stored, ranges, filled, storing, noughts, wellFormed}
 use Rattle.outcomes.specs.Sets.{plain}
-use Rattle.outcomes.specs.Outcomes.{leaving, editing, edited, inserting, removing}
+use Rattle.outcomes.specs.Outcomes.{leaving, editSound, edit, insert, remove}
 use Rattle.outcomes.proofs.Formed.{formed}
-use Rattle.outcomes.proofs.Edits.{done}
+use Rattle.outcomes.proofs.Edits.{edit-accepted}
 use Rattle.outcomes.proofs.Sets.{plain-ranges}
-use Rattle.set_ops.specs.Answers.{setInserting, setRemoving}
+use Rattle.set_ops.specs.Answers.{setInsert, setRemove}
 
 -- a label that a set may be given: 0, or none
 abbrev pub Nought : Option ℕ → Type 0
@@ -52,38 +53,38 @@ plain-storing kind n xs p = noughts-labels xs _ p (noughts-replicate (n - length
 
 -- AN EDIT of a set that is accepted leaves a set
 module _ (kind : Kind) (m : Stored) (s e : ℤ) where
-  pub stays : (new : Option ℕ) → Nought new → plain m ≡ true → edited kind m s e new .answer ≡ 0 → plain (edited kind m s e new .left) ≡ true
-  unfolding edited
+  pub stays : (new : Option ℕ) → Nought new → plain m ≡ true → edit kind m s e new .answer ≡ 0 → plain (edit kind m s e new .left) ≡ true
+  unfolding edit
   stays new z p h = go (wellFormed kind places m) refl h
     where
-      go : (t : Bool) → wellFormed kind places m ≡ t → cond t (editing kind places m s e new) (leaving 4 m) .answer ≡ 0 → plain (cond t (editing kind places m s e new) (leaving 4 m) .left) ≡ true
+      go : (t : Bool) → wellFormed kind places m ≡ t → cond t (editSound kind places m s e new) (leaving notFormed m) .answer ≡ 0 → plain (cond t (editSound kind places m s e new) (leaving notFormed m) .left) ≡ true
       go true w h =
-          let d = done kind places m s e new h in
+          let d = edit-accepted kind places m s e new h in
           let f = formed kind places m w in
           ap plain (d .left-is) ∙ plain-storing kind places _ (plain-given (rank s) (kind .past e) new (ranges kind m) z (d .real) (f .tidy .ordered) (plain-ranges kind m p))
       go false w h = absurd (omega arith)
 
   -- of a set, insert and remove are those of the map
-  pub set-insert-is : plain m ≡ true → setInserting kind m s e ≡ inserting kind m s e 0
-  unfolding setInserting
+  pub set-insert-is : plain m ≡ true → setInsert kind m s e ≡ insert kind m s e 0
+  unfolding setInsert
   set-insert-is p = rw p
 
-  pub set-remove-is : plain m ≡ true → setRemoving kind m s e ≡ removing kind m s e
-  unfolding setRemoving
+  pub set-remove-is : plain m ≡ true → setRemove kind m s e ≡ remove kind m s e
+  unfolding setRemove
   set-remove-is p = rw p
 
-  pub insert-stays : setInserting kind m s e .answer ≡ 0 → plain (setInserting kind m s e .left) ≡ true
-  unfolding setInserting
+  pub insert-stays : setInsert kind m s e .answer ≡ 0 → plain (setInsert kind m s e .left) ≡ true
+  unfolding setInsert
   insert-stays h = go (plain m) refl h
     where
-      go : (t : Bool) → plain m ≡ t → cond t (inserting kind m s e 0) (leaving 4 m) .answer ≡ 0 → plain (cond t (inserting kind m s e 0) (leaving 4 m) .left) ≡ true
+      go : (t : Bool) → plain m ≡ t → cond t (insert kind m s e 0) (leaving notFormed m) .answer ≡ 0 → plain (cond t (insert kind m s e 0) (leaving notFormed m) .left) ≡ true
       go true p h = stays (some 0) refl p h
       go false p h = absurd (omega arith)
 
-  pub remove-stays : setRemoving kind m s e .answer ≡ 0 → plain (setRemoving kind m s e .left) ≡ true
-  unfolding setRemoving
+  pub remove-stays : setRemove kind m s e .answer ≡ 0 → plain (setRemove kind m s e .left) ≡ true
+  unfolding setRemove
   remove-stays h = go (plain m) refl h
     where
-      go : (t : Bool) → plain m ≡ t → cond t (removing kind m s e) (leaving 4 m) .answer ≡ 0 → plain (cond t (removing kind m s e) (leaving 4 m) .left) ≡ true
+      go : (t : Bool) → plain m ≡ t → cond t (remove kind m s e) (leaving notFormed m) .answer ≡ 0 → plain (cond t (remove kind m s e) (leaving notFormed m) .left) ≡ true
       go true p h = stays none tt p h
       go false p h = absurd (omega arith)

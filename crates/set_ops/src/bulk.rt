@@ -1,17 +1,20 @@
 // Bulk insert into a set: in list order, up to the first refusal. The set is checked once.
+use answers::DONE;
+use answers::NOT_FORMED;
 use key::RangeKind;
+use key::Value;
 use outcomes::Applied;
-use outcomes::NOT_FORMED;
 use outcomes::Outcome;
 use outcomes::PLACES;
 use range_list::shorter;
 use store::check::well_formed;
 use store::plain::plain;
 ghost use mathlib.Core.Path.{_≡_};
+ghost use Rattle.lent.specs.Moments.{was};
 ghost use Rattle.key.specs.Range.{kindOf};
-ghost use Rattle.outcomes.specs.Stored.{lent, Sound};
-ghost use Rattle.outcomes.specs.Outcomes.{inserts, extended};
-ghost use Rattle.set_ops.specs.Answers.{pairs, setExtending};
+ghost use Rattle.outcomes.specs.Stored.{lent, Sound, atEntry, atExit};
+ghost use Rattle.outcomes.specs.Outcomes.{bulkInsertSound, extended};
+ghost use Rattle.set_ops.specs.Answers.{pairs, setBulkInsert};
 
 // The ranges of two lent lists, into a set that is well formed.
 fn extend_formed(
@@ -19,12 +22,12 @@ fn extend_formed(
     count: &mut usize,
     starts: &mut [i64; PLACES],
     ends: &mut [i64; PLACES],
-    values: &mut [u8; PLACES],
+    values: &mut [Value; PLACES],
     new_starts: &[i64],
     new_ends: &[i64],
 ) -> Applied
     requires { ⌜ Sound (kindOf kind) (lent count starts ends values) ⌝ }
-    ensures { λ r. ⌜ extended r (lent (count .exit) (starts .exit) (ends .exit) (values .exit)) ≡ inserts (kindOf kind) (lent (count .entry) (starts .entry) (ends .entry) (values .entry)) 0 (pairs (now («new_starts» .entry)) (now («new_ends» .entry))) ⌝ }
+    ensures { λ r. ⌜ extended r (atExit count starts ends values) ≡ bulkInsertSound (kindOf kind) (atEntry count starts ends values) 0 (pairs (was «new_starts») (was «new_ends»)) ⌝ }
 {
     let n = shorter(new_starts.len(), new_ends.len());
     let mut i = 0;
@@ -48,7 +51,7 @@ fn extend_formed(
         i += 1;
     }
     Applied {
-        answer: 0,
+        answer: DONE,
         applied: i,
     }
 }
@@ -59,11 +62,11 @@ pub fn extend(
     count: &mut usize,
     starts: &mut [i64; PLACES],
     ends: &mut [i64; PLACES],
-    values: &mut [u8; PLACES],
+    values: &mut [Value; PLACES],
     new_starts: &[i64],
     new_ends: &[i64],
 ) -> Applied
-    ensures { λ r. ⌜ extended r (lent (count .exit) (starts .exit) (ends .exit) (values .exit)) ≡ setExtending (kindOf kind) (lent (count .entry) (starts .entry) (ends .entry) (values .entry)) (pairs (now («new_starts» .entry)) (now («new_ends» .entry))) ⌝ }
+    ensures { λ r. ⌜ extended r (atExit count starts ends values) ≡ setBulkInsert (kindOf kind) (atEntry count starts ends values) (pairs (was «new_starts») (was «new_ends»)) ⌝ }
 {
     if !plain(values) {
         return Applied {

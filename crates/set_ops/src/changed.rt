@@ -1,13 +1,14 @@
 // Edits of a set: those of the map, with value 0.
+use answers::NOT_FORMED;
 use key::RangeKind;
-use outcomes::NOT_FORMED;
+use key::Value;
 use outcomes::Outcome;
 use outcomes::PLACES;
 use store::plain::plain;
 ghost use Rattle.key.specs.Range.{kindOf};
-ghost use Rattle.outcomes.specs.Stored.{lent};
+ghost use Rattle.outcomes.specs.Stored.{atEntry, atExit};
 ghost use Rattle.outcomes.specs.InnerOutcome.{Leaves};
-ghost use Rattle.set_ops.specs.Answers.{setInserting, setRemoving};
+ghost use Rattle.set_ops.specs.Answers.{setInsert, setRemove};
 
 // Covers each instant of the range, and no other.
 pub fn insert(
@@ -15,12 +16,12 @@ pub fn insert(
     count: &mut usize,
     starts: &mut [i64; PLACES],
     ends: &mut [i64; PLACES],
-    values: &mut [u8; PLACES],
+    values: &mut [Value; PLACES],
     start: i64,
     end: i64,
 ) -> Outcome
-    ensures { λ r. ⌜ Leaves r (lent (count .exit) (starts .exit) (ends .exit) (values .exit))
-        (setInserting (kindOf kind) (lent (count .entry) (starts .entry) (ends .entry) (values .entry)) start end) ⌝ }
+    ensures { λ r. ⌜ Leaves r (atExit count starts ends values)
+        (setInsert (kindOf kind) (atEntry count starts ends values) start end) ⌝ }
 {
     if !plain(values) {
         return Outcome::Refused(NOT_FORMED);
@@ -34,12 +35,12 @@ pub fn remove(
     count: &mut usize,
     starts: &mut [i64; PLACES],
     ends: &mut [i64; PLACES],
-    values: &mut [u8; PLACES],
+    values: &mut [Value; PLACES],
     start: i64,
     end: i64,
 ) -> Outcome
-    ensures { λ r. ⌜ Leaves r (lent (count .exit) (starts .exit) (ends .exit) (values .exit))
-        (setRemoving (kindOf kind) (lent (count .entry) (starts .entry) (ends .entry) (values .entry)) start end) ⌝ }
+    ensures { λ r. ⌜ Leaves r (atExit count starts ends values)
+        (setRemove (kindOf kind) (atEntry count starts ends values) start end) ⌝ }
 {
     if !plain(values) {
         return Outcome::Refused(NOT_FORMED);

@@ -1,17 +1,19 @@
 // What a set holds at a key and over a range.
+use answers::NOT_FORMED;
 use key::RangeKind;
+use key::Value;
 use outcomes::Asked;
 use outcomes::Counted;
 use outcomes::Found;
-use outcomes::NOT_FORMED;
 use outcomes::PLACES;
 use outcomes::Part;
 use store::plain::plain;
 ghost use mathlib.Core.Path.{_≡_};
+ghost use Rattle.lent.specs.Moments.{was, becomes};
 ghost use Rattle.key.specs.Range.{kindOf};
-ghost use Rattle.outcomes.specs.Stored.{lent};
+ghost use Rattle.outcomes.specs.Stored.{lent, atEntry};
 ghost use Rattle.range_list.specs.InnerLists.{wrote};
-ghost use Rattle.set_ops.specs.Answers.{setContaining, setGaps, setLookup, setMeeting, setOverlapping};
+ghost use Rattle.set_ops.specs.Answers.{setContains, setGaps, setLookup, setOverlaps, setOverlapping};
 
 // The range that holds the key.
 pub fn get(
@@ -19,10 +21,10 @@ pub fn get(
     count: &usize,
     starts: &[i64; PLACES],
     ends: &[i64; PLACES],
-    values: &[u8; PLACES],
+    values: &[Value; PLACES],
     key: i64,
 ) -> Found
-    ensures { λ r. ⌜ r ≡ setLookup (kindOf kind) (lent (count .entry) (starts .entry) (ends .entry) (values .entry)) key ⌝ }
+    ensures { λ r. ⌜ r ≡ setLookup (kindOf kind) (atEntry count starts ends values) key ⌝ }
 {
     if !plain(values) {
         return Found::Refused(NOT_FORMED);
@@ -36,10 +38,10 @@ pub fn contains(
     count: &usize,
     starts: &[i64; PLACES],
     ends: &[i64; PLACES],
-    values: &[u8; PLACES],
+    values: &[Value; PLACES],
     key: i64,
 ) -> Asked
-    ensures { λ r. ⌜ r ≡ setContaining (kindOf kind) (lent (count .entry) (starts .entry) (ends .entry) (values .entry)) key ⌝ }
+    ensures { λ r. ⌜ r ≡ setContains (kindOf kind) (atEntry count starts ends values) key ⌝ }
 {
     if !plain(values) {
         return Asked::Refused(NOT_FORMED);
@@ -53,11 +55,11 @@ pub fn overlaps(
     count: &usize,
     starts: &[i64; PLACES],
     ends: &[i64; PLACES],
-    values: &[u8; PLACES],
+    values: &[Value; PLACES],
     start: i64,
     end: i64,
 ) -> Asked
-    ensures { λ r. ⌜ r ≡ setMeeting (kindOf kind) (lent (count .entry) (starts .entry) (ends .entry) (values .entry)) start end ⌝ }
+    ensures { λ r. ⌜ r ≡ setOverlaps (kindOf kind) (atEntry count starts ends values) start end ⌝ }
 {
     if !plain(values) {
         return Asked::Refused(NOT_FORMED);
@@ -71,11 +73,11 @@ pub fn overlapping(
     count: &usize,
     starts: &[i64; PLACES],
     ends: &[i64; PLACES],
-    values: &[u8; PLACES],
+    values: &[Value; PLACES],
     start: i64,
     end: i64,
 ) -> Part
-    ensures { λ r. ⌜ r ≡ setOverlapping (kindOf kind) (lent (count .entry) (starts .entry) (ends .entry) (values .entry)) start end ⌝ }
+    ensures { λ r. ⌜ r ≡ setOverlapping (kindOf kind) (atEntry count starts ends values) start end ⌝ }
 {
     if !plain(values) {
         return Part::Refused(NOT_FORMED);
@@ -89,13 +91,13 @@ pub fn gaps(
     count: &usize,
     starts: &[i64; PLACES],
     ends: &[i64; PLACES],
-    values: &[u8; PLACES],
+    values: &[Value; PLACES],
     start: i64,
     end: i64,
     out_starts: &mut [i64],
     out_ends: &mut [i64],
 ) -> Counted
-    ensures { λ r. ⌜ wrote r (now («out_starts» .exit)) (now («out_ends» .exit)) ≡ setGaps (kindOf kind) (lent (count .entry) (starts .entry) (ends .entry) (values .entry)) start end (now («out_starts» .entry)) (now («out_ends» .entry)) ⌝ }
+    ensures { λ r. ⌜ wrote r (becomes «out_starts») (becomes «out_ends») ≡ setGaps (kindOf kind) (atEntry count starts ends values) start end (was «out_starts») (was «out_ends») ⌝ }
 {
     if !plain(values) {
         return Counted::Refused(NOT_FORMED);

@@ -1,16 +1,17 @@
 // What a set holds as a list: a set is a map whose values are all 0, so the answer is the map's.
+use answers::NOT_FORMED;
 use key::RangeKind;
+use key::Value;
 use outcomes::Asked;
 use outcomes::Compared;
 use outcomes::Counted;
 use outcomes::Found;
-use outcomes::NOT_FORMED;
 use outcomes::PLACES;
 use store::plain::plain;
 ghost use mathlib.Core.Path.{_≡_};
 ghost use Rattle.key.specs.Range.{kindOf};
-ghost use Rattle.outcomes.specs.Stored.{lent};
-ghost use Rattle.set_ops.specs.Answers.{setCounting, setEquality, setFirst, setIsEmpty, setLast, setOrdering, setRangeAt};
+ghost use Rattle.outcomes.specs.Stored.{atEntry};
+ghost use Rattle.set_ops.specs.Answers.{setCount, setEqual, setFirst, setIsEmpty, setLast, setOrder, setRangeAt};
 
 // Whether nothing is held.
 pub fn is_empty(
@@ -18,9 +19,9 @@ pub fn is_empty(
     count: &usize,
     starts: &[i64; PLACES],
     ends: &[i64; PLACES],
-    values: &[u8; PLACES],
+    values: &[Value; PLACES],
 ) -> Asked
-    ensures { λ r. ⌜ r ≡ setIsEmpty (kindOf kind) (lent (count .entry) (starts .entry) (ends .entry) (values .entry)) ⌝ }
+    ensures { λ r. ⌜ r ≡ setIsEmpty (kindOf kind) (atEntry count starts ends values) ⌝ }
 {
     if !plain(values) {
         return Asked::Refused(NOT_FORMED);
@@ -34,9 +35,9 @@ pub fn len(
     count: &usize,
     starts: &[i64; PLACES],
     ends: &[i64; PLACES],
-    values: &[u8; PLACES],
+    values: &[Value; PLACES],
 ) -> Counted
-    ensures { λ r. ⌜ r ≡ setCounting (kindOf kind) (lent (count .entry) (starts .entry) (ends .entry) (values .entry)) ⌝ }
+    ensures { λ r. ⌜ r ≡ setCount (kindOf kind) (atEntry count starts ends values) ⌝ }
 {
     if !plain(values) {
         return Counted::Refused(NOT_FORMED);
@@ -50,10 +51,10 @@ pub fn range_at(
     count: &usize,
     starts: &[i64; PLACES],
     ends: &[i64; PLACES],
-    values: &[u8; PLACES],
+    values: &[Value; PLACES],
     place: usize,
 ) -> Found
-    ensures { λ r. ⌜ r ≡ setRangeAt (kindOf kind) (lent (count .entry) (starts .entry) (ends .entry) (values .entry)) place ⌝ }
+    ensures { λ r. ⌜ r ≡ setRangeAt (kindOf kind) (atEntry count starts ends values) place ⌝ }
 {
     if !plain(values) {
         return Found::Refused(NOT_FORMED);
@@ -67,9 +68,9 @@ pub fn first(
     count: &usize,
     starts: &[i64; PLACES],
     ends: &[i64; PLACES],
-    values: &[u8; PLACES],
+    values: &[Value; PLACES],
 ) -> Found
-    ensures { λ r. ⌜ r ≡ setFirst (kindOf kind) (lent (count .entry) (starts .entry) (ends .entry) (values .entry)) ⌝ }
+    ensures { λ r. ⌜ r ≡ setFirst (kindOf kind) (atEntry count starts ends values) ⌝ }
 {
     if !plain(values) {
         return Found::Refused(NOT_FORMED);
@@ -83,9 +84,9 @@ pub fn last(
     count: &usize,
     starts: &[i64; PLACES],
     ends: &[i64; PLACES],
-    values: &[u8; PLACES],
+    values: &[Value; PLACES],
 ) -> Found
-    ensures { λ r. ⌜ r ≡ setLast (kindOf kind) (lent (count .entry) (starts .entry) (ends .entry) (values .entry)) ⌝ }
+    ensures { λ r. ⌜ r ≡ setLast (kindOf kind) (atEntry count starts ends values) ⌝ }
 {
     if !plain(values) {
         return Found::Refused(NOT_FORMED);
@@ -99,13 +100,13 @@ pub fn cmp(
     count: &usize,
     starts: &[i64; PLACES],
     ends: &[i64; PLACES],
-    values: &[u8; PLACES],
+    values: &[Value; PLACES],
     count2: &usize,
     starts2: &[i64; PLACES],
     ends2: &[i64; PLACES],
-    values2: &[u8; PLACES],
+    values2: &[Value; PLACES],
 ) -> Compared
-    ensures { λ r. ⌜ r ≡ setOrdering (kindOf kind) (lent (count .entry) (starts .entry) (ends .entry) (values .entry)) (lent (count2 .entry) (starts2 .entry) (ends2 .entry) (values2 .entry)) ⌝ }
+    ensures { λ r. ⌜ r ≡ setOrder (kindOf kind) (atEntry count starts ends values) (atEntry count2 starts2 ends2 values2) ⌝ }
 {
     if !plain(values) {
         return Compared::Refused(NOT_FORMED);
@@ -132,13 +133,13 @@ pub fn eq(
     count: &usize,
     starts: &[i64; PLACES],
     ends: &[i64; PLACES],
-    values: &[u8; PLACES],
+    values: &[Value; PLACES],
     count2: &usize,
     starts2: &[i64; PLACES],
     ends2: &[i64; PLACES],
-    values2: &[u8; PLACES],
+    values2: &[Value; PLACES],
 ) -> Asked
-    ensures { λ r. ⌜ r ≡ setEquality (kindOf kind) (lent (count .entry) (starts .entry) (ends .entry) (values .entry)) (lent (count2 .entry) (starts2 .entry) (ends2 .entry) (values2 .entry)) ⌝ }
+    ensures { λ r. ⌜ r ≡ setEqual (kindOf kind) (atEntry count starts ends values) (atEntry count2 starts2 ends2 values2) ⌝ }
 {
     if !plain(values) {
         return Asked::Refused(NOT_FORMED);

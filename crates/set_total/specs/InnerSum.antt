@@ -2,11 +2,11 @@
 use Prim.Native.Nat.{ℕ}
 use mathlib.Core.List.{List}
 use lib.IntN.{ℤ}
-use Rattle.span.specs.Operations.{total}
+use Rattle.span.specs.Operations.{spanTotal}
 use Rattle.key.specs.Range.{kindOf}
 use Rattle.key.specs.declared.RangeKind.{RangeKind}
-use Rattle.range_list.specs.InnerColumns.{rows}
+use Rattle.range_list.specs.InnerColumns.{listed}
 
 -- how many keys the ranges of the first n places have
-abbrev pub sumOf : RangeKind → List ℤ → List ℤ → ℕ → ℕ
-sumOf kind ss es n = total (rows (kindOf kind) ss es n)
+abbrev pub columnsTotal : RangeKind → List ℤ → List ℤ → ℕ → ℕ
+columnsTotal kind ss es n = spanTotal (listed (kindOf kind) ss es n)

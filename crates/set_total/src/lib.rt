@@ -1,20 +1,22 @@
 // TOTAL: how many keys a set covers. A range's length is a difference of ranks, which never wraps; one of i64 can.
+use answers::NOT_FORMED;
+use answers::TOTAL_OVER;
 use key::RangeKind;
-use outcomes::NOT_FORMED;
+use key::Value;
 use outcomes::PLACES;
-use outcomes::TOTAL_OVER;
 use outcomes::Totalled;
 use store::plain::is_set;
 use two_sets::width;
 ghost use mathlib.Core.Path.{_≡_};
 ghost use Prim.Native.Nat.{_-_, _≤_, _<_};
+ghost use Rattle.lent.specs.Moments.{was};
 ghost use Rattle.key.specs.InnerDecides.{Decides};
 ghost use Rattle.key.specs.Rank.{rank, keys};
 ghost use Rattle.key.specs.Range.{kindOf};
-ghost use Rattle.outcomes.specs.Stored.{lent, stored};
-ghost use Rattle.outcomes.specs.Sets.{SoundSet, totalled, totalling};
+ghost use Rattle.outcomes.specs.Stored.{lent, stored, atEntry, atEntryWith};
+ghost use Rattle.outcomes.specs.Sets.{SoundSet, totalSound, totalOf};
 ghost use Rattle.two_sets.specs.InnerSides.{Side};
-ghost use Rattle.set_total.specs.InnerSum.{sumOf};
+ghost use Rattle.set_total.specs.InnerSum.{columnsTotal};
 
 // How far apart two keys are.
 fn apart(start: i64, end: i64) -> u64
@@ -27,7 +29,7 @@ fn apart(start: i64, end: i64) -> u64
 // Whether the set is the one range of all keys. No u64 holds its total, and it is the only such set.
 fn full(kind: RangeKind, starts: &[i64], ends: &[i64], count: usize) -> bool
     requires { ⌜ Side (kindOf kind) (now starts) (now ends) count ⌝ }
-    ensures { λ r. ⌜ Decides r (keys ≤ sumOf kind (now (starts .entry)) (now (ends .entry)) count) ⌝ }
+    ensures { λ r. ⌜ Decides r (keys ≤ columnsTotal kind (was starts) (was ends) count) ⌝ }
 {
     if width(kind) == 0 {
         return false;
@@ -44,8 +46,8 @@ fn full(kind: RangeKind, starts: &[i64], ends: &[i64], count: usize) -> bool
 
 // The lengths, added up.
 fn sum(kind: RangeKind, starts: &[i64], ends: &[i64], count: usize) -> u64
-    requires { ⌜ Side (kindOf kind) (now starts) (now ends) count × (sumOf kind (now starts) (now ends) count < keys) ⌝ }
-    ensures { λ r. ⌜ r ≡ sumOf kind (now (starts .entry)) (now (ends .entry)) count ⌝ }
+    requires { ⌜ Side (kindOf kind) (now starts) (now ends) count × (columnsTotal kind (now starts) (now ends) count < keys) ⌝ }
+    ensures { λ r. ⌜ r ≡ columnsTotal kind (was starts) (was ends) count ⌝ }
 {
     let mut total = 0;
     let mut k = 0;
@@ -62,10 +64,10 @@ pub fn total_unchecked(
     count: usize,
     starts: &[i64],
     ends: &[i64],
-    values: &[u8],
+    values: &[Value],
 ) -> Totalled
     requires { ⌜ SoundSet (kindOf kind) (stored count (now starts) (now ends) (now values)) ⌝ }
-    ensures { λ r. ⌜ r ≡ totalled (kindOf kind) (stored count (now (starts .entry)) (now (ends .entry)) (now (values .entry))) ⌝ }
+    ensures { λ r. ⌜ r ≡ totalSound (kindOf kind) (atEntryWith count starts ends values) ⌝ }
 {
     if full(kind, starts, ends, count) {
         return Totalled::Refused(TOTAL_OVER);
@@ -80,9 +82,9 @@ pub fn total(
     count: &usize,
     starts: &[i64; PLACES],
     ends: &[i64; PLACES],
-    values: &[u8; PLACES],
+    values: &[Value; PLACES],
 ) -> Totalled
-    ensures { λ r. ⌜ r ≡ totalling (kindOf kind) (lent (count .entry) (starts .entry) (ends .entry) (values .entry)) ⌝ }
+    ensures { λ r. ⌜ r ≡ totalOf (kindOf kind) (atEntry count starts ends values) ⌝ }
 {
     if !is_set(kind, *count, starts, ends, values) {
         return Totalled::Refused(NOT_FORMED);

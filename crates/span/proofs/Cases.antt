@@ -7,7 +7,7 @@ use mathlib.Core.List.{List, [], _∷_}
 use mathlib.Core.Option.{some}
 use Rattle.span.specs.Span.{Span, span, Ordered, Separate, inside, keep, before, after, joins, push, joined, given, inserted, removed, history}
 use Rattle.span.specs.Labels.{relabelled}
-use Rattle.span.specs.Operations.{puts, cuts, gaps, over, within, parts, common, chosen, overlaps, merged, absorb, united, total}
+use Rattle.span.specs.Operations.{puts, cuts, uncovered, laidOver, within, commonParts, common, chosen, spansOverlap, merged, absorb, united, spanTotal}
 use Rattle.span.proofs.Local.{given-local}
 
 -- n spans of one instant each, with label 1, from b on, an instant free after each
@@ -21,7 +21,7 @@ unfolding inside keep before after joins push joined given history
 of-edits = tt
 
 unfoldable all : Unit {0}
-unfolding of-edits puts cuts gaps over within parts common relabelled chosen overlaps merged absorb united total comb
+unfolding of-edits puts cuts uncovered laidOver within commonParts common relabelled chosen spansOverlap merged absorb united spanTotal comb
 all = tt
 
 insert-joins : inserted 5 8 1 (span 0 5 1 ∷ []) ≡ span 0 8 1 ∷ []
@@ -62,11 +62,11 @@ unfolding all
 union-overlapping = refl
 
 -- W-219
-union-maximal : over (span 0 3 0 ∷ []) (span 3 5 0 ∷ []) ≡ span 0 5 0 ∷ []
+union-maximal : laidOver (span 0 3 0 ∷ []) (span 3 5 0 ∷ []) ≡ span 0 5 0 ∷ []
 unfolding all
 union-maximal = refl
 
-gaps-between : gaps 1 9 (span 0 2 1 ∷ span 2 3 2 ∷ span 5 8 1 ∷ []) ≡ span 3 5 0 ∷ span 8 9 0 ∷ []
+gaps-between : uncovered 1 9 (span 0 2 1 ∷ span 2 3 2 ∷ span 5 8 1 ∷ []) ≡ span 3 5 0 ∷ span 8 9 0 ∷ []
 unfolding all
 gaps-between = refl
 
@@ -83,16 +83,16 @@ inclusive-greatest : inserted (2 ^ 64 - 1) (2 ^ 64) 7 (span 5 (2 ^ 64 - 1) 7 ∷
 unfolding all
 inclusive-greatest = refl
 
-inclusive-all : total (inserted 0 (2 ^ 64) 0 []) ≡ 2 ^ 64
+inclusive-all : spanTotal (inserted 0 (2 ^ 64) 0 []) ≡ 2 ^ 64
 unfolding all
 inclusive-all = refl
 
 -- seconds of a status: off duty over the November day, then driving
-report-driving : total (chosen 3 (inserted 1730628000 1730653200 3 (inserted 1730606400 1730696400 1 []))) ≡ 25200
+report-driving : spanTotal (chosen 3 (inserted 1730628000 1730653200 3 (inserted 1730606400 1730696400 1 []))) ≡ 25200
 unfolding all
 report-driving = refl
 
-report-off : total (chosen 1 (inserted 1730628000 1730653200 3 (inserted 1730606400 1730696400 1 []))) ≡ 64800
+report-off : spanTotal (chosen 1 (inserted 1730628000 1730653200 3 (inserted 1730606400 1730696400 1 []))) ≡ 64800
 unfolding all
 report-off = refl
 

@@ -8,24 +8,24 @@ use mathlib.Core.List.{List, [], _∷_}
 use mathlib.Core.Bool.{false}
 use lib.ListN.{length}
 use Rattle.span.specs.Span.{Span, span, inside, at, Ordered, Tidy, push, joined}
-use Rattle.span.specs.Operations.{Clear, AllClear, Disjoint, placed, sorted}
+use Rattle.span.specs.Operations.{Clear, AllClear, Disjoint, sortedInto, sorted}
 use Rattle.span.proofs.Tests.{lt-cases, joins-cases, in-no}
 use Rattle.span.proofs.Laws.{only, itself, reworded, joined-means}
 
-length-placed : (x : Span) (m : List Span) → length (placed x m) ≡ suc (length m)
-unfolding placed
+length-placed : (x : Span) (m : List Span) → length (sortedInto x m) ≡ suc (length m)
+unfolding sortedInto
 length-placed x [] = refl
 length-placed x (y ∷ ys) = let ih = length-placed x ys in
     lt-cases (x .lo) (y .lo) (λ (m : List Span). length m ≡ suc (suc (length ys))) (λ p. refl) (λ p. ap suc ih)
 
-clear-placed : (x y : Span) (m : List Span) → Clear x y → AllClear x m → AllClear x (placed y m)
-unfolding placed
+clear-placed : (x y : Span) (m : List Span) → Clear x y → AllClear x m → AllClear x (sortedInto y m)
+unfolding sortedInto
 clear-placed x y [] c a = (c, tt)
 clear-placed x y (z ∷ zs) c a = let ih = clear-placed x y zs c (a .1) in
     lt-cases (y .lo) (z .lo) (AllClear x) (λ p. (c, a)) (λ p. (a .0, ih))
 
-ordered-placed : (b : ℕ) (x : Span) (m : List Span) → b ≤ x .lo → x .lo < x .hi → AllClear x m → Ordered b m → Ordered b (placed x m)
-unfolding placed
+ordered-placed : (b : ℕ) (x : Span) (m : List Span) → b ≤ x .lo → x .lo < x .hi → AllClear x m → Ordered b m → Ordered b (sortedInto x m)
+unfolding sortedInto
 ordered-placed b x [] h i c o = (h, i, tt)
 ordered-placed b x (y ∷ ys) h i c o = lt-cases (x .lo) (y .lo) (Ordered b)
     (λ p. (h, i, (⊎-elim (λ q. q) (λ q. omega arith) (c .0), o .1, o .2)))
@@ -45,8 +45,8 @@ at-swap : (x y : Span) (m : List Span) (k : ℕ) → Clear x y → at (x ∷ y �
 unfolding at
 at-swap x y m k c = ⊎-elim (λ e. rw e) (λ e. rw e) (one-out x y k c)
 
-at-placed : (x : Span) (m : List Span) (k : ℕ) → AllClear x m → at (placed x m) k ≡ at (x ∷ m) k
-unfolding placed at
+at-placed : (x : Span) (m : List Span) (k : ℕ) → AllClear x m → at (sortedInto x m) k ≡ at (x ∷ m) k
+unfolding sortedInto at
 at-placed x [] k c = refl
 at-placed x (y ∷ ys) k c = let ih = at-placed x ys k (c .1) in
     lt-cases (x .lo) (y .lo) (λ m. at m k ≡ at (x ∷ y ∷ ys) k) (λ p. refl) (λ p. rw ih (at-swap y x ys k (⊎-elim inr inl (c .0))))

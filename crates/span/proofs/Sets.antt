@@ -6,7 +6,7 @@ use mathlib.Core.List.{List, [], _∷_}
 use mathlib.Core.Bool.{Bool, true, false, cond}
 use mathlib.Core.Option.{Option, some, none}
 use Rattle.span.specs.Span.{Span, inside, at, or-else, Ordered, Upto, Tidy, Means, before, put, last, Real}
-use Rattle.span.specs.Operations.{Plain, puts, cuts, gaps, over, within, parts, common, chosen, is, unless, when}
+use Rattle.span.specs.Operations.{Plain, puts, cuts, uncovered, laidOver, within, commonParts, common, chosen, is, unless, when}
 use Rattle.span.specs.Labels.{equals, member}
 use Rattle.span.proofs.Tests.{in-cases, below, among, beyond, place, in-yes, yes-in, in-no}
 use Rattle.span.proofs.Holding.{at-in, at-behind, at-below, at-upto, at-app, at-before, at-after, or-none}
@@ -35,8 +35,8 @@ last-cuts [] k old = refl
 last-cuts (x ∷ xs) k old = last-cuts xs k _ ∙ unless-cond (inside (x .lo) (x .hi) k) (x .label) (at xs k) old
 
 -- GAPS: the instants of the outer range at which nothing is held
-pub gaps-means : (lo hi b : ℕ) (m : List Span) → lo < hi → Ordered b m → Means (gaps lo hi m) (λ k. unless (at m k) (cond (inside lo hi k) (some 0) none))
-unfolding gaps last
+pub gaps-means : (lo hi b : ℕ) (m : List Span) → lo < hi → Ordered b m → Means (uncovered lo hi m) (λ k. unless (at m k) (cond (inside lo hi k) (some 0) none))
+unfolding uncovered last
 gaps-means lo hi b m h o = reworded (history-means (put lo hi 0 ∷ cuts m) (h, real-cuts b m o) nothing) (λ k. last-cuts m k _)
 
 or-swap : (t : Bool) (v : ℕ) (a old : Option ℕ) → (t ≡ true → a ≡ none) → or-else a (cond t (some v) old) ≡ or-else (cond t (some v) a) old
@@ -50,12 +50,12 @@ last-puts b (x ∷ xs) k old o = last-puts (x .hi) xs k _ (o .2)
     ∙ or-swap (inside (x .lo) (x .hi) k) (x .label) (at xs k) old (λ e. at-below xs k (o .2) (yes-in (x .lo) (x .hi) k e .to))
 
 -- UNION: what a holds, and what b holds where a holds nothing
-pub over-means : {f : ℕ → Option ℕ} (a b : List Span) → Ordered 0 a → Means b f → Means (over a b) (λ k. or-else (at a k) (f k))
-unfolding over
+pub over-means : {f : ℕ → Option ℕ} (a b : List Span) → Ordered 0 a → Means b f → Means (laidOver a b) (λ k. or-else (at a k) (f k))
+unfolding laidOver
 over-means a b o u = reworded (history-means (puts a) (real-puts 0 a o) u) (λ k. last-puts 0 a k _ o)
 
 -- to put the spans of a tidy list one by one makes it again
-pub rebuilt : {m : List Span} → Tidy 0 m → over m [] ≡ m
+pub rebuilt : {m : List Span} → Tidy 0 m → laidOver m [] ≡ m
 rebuilt {m} t = only (reworded (over-means m [] (t .ordered) nothing) (λ k. or-none (at m k))) (itself t)
 
 -- within: what is held there, and nothing elsewhere
@@ -82,22 +82,22 @@ when-cond true v (some u) none = refl
 when-cond true v (some u) (some w) = refl
 when-cond false v a b = refl
 
-at-parts : (a b : List Span) (k : ℕ) → Ordered 0 b → at (parts a b) k ≡ when (at a k) (at b k)
-unfolding parts at
+at-parts : (a b : List Span) (k : ℕ) → Ordered 0 b → at (commonParts a b) k ≡ when (at a k) (at b k)
+unfolding commonParts at
 at-parts [] b k o = refl
 at-parts (x ∷ xs) b k o = rw (at-app, at-within (x .lo) (x .hi) b k o, at-parts xs b k o) (when-cond (inside (x .lo) (x .hi) k) (x .label) (at xs k) (at b k))
 
-ordered-parts : (c : ℕ) (a b : List Span) → Ordered c a → Ordered 0 b → Ordered c (parts a b)
-unfolding parts
+ordered-parts : (c : ℕ) (a b : List Span) → Ordered c a → Ordered 0 b → Ordered c (commonParts a b)
+unfolding commonParts
 ordered-parts c [] b o p = tt
 ordered-parts c (x ∷ xs) b o p =
     let w = within (x .lo) (x .hi) b in
-    ordered-app c (x .hi) w (parts xs b) (omega arith) (ordered-from {b = x .lo} w (omega arith) (ordered-within (x .lo) (x .hi) b p)) (upto-within (x .lo) (x .hi) b) (ordered-parts (x .hi) xs b (o .2) p)
+    ordered-app c (x .hi) w (commonParts xs b) (omega arith) (ordered-from {b = x .lo} w (omega arith) (ordered-within (x .lo) (x .hi) b p)) (upto-within (x .lo) (x .hi) b) (ordered-parts (x .hi) xs b (o .2) p)
 
 -- INTERSECTION: what b holds where a holds something
 pub common-means : (a b : List Span) → Ordered 0 a → Ordered 0 b → Means (common a b) (λ k. when (at a k) (at b k))
 unfolding common
-common-means a b o p = reworded (joined-means (parts a b) (ordered-parts 0 a b o p)) (λ k. at-parts a b k p)
+common-means a b o p = reworded (joined-means (commonParts a b) (ordered-parts 0 a b o p)) (λ k. at-parts a b k p)
 
 -- THE INSTANTS OF A LABEL: where the list holds it
 pub chosen-means : (v : ℕ) (m : List Span) → Ordered 0 m → Means (chosen v m) (λ k. is v (at m k))
@@ -121,9 +121,9 @@ unless-zero none true v e = cc
 unless-zero none false v e = cc
 unless-zero (some u) t v e = cc
 
-pub gaps-plain : (lo hi b : ℕ) (m : List Span) → lo < hi → Ordered b m → Plain (gaps lo hi m)
+pub gaps-plain : (lo hi b : ℕ) (m : List Span) → lo < hi → Ordered b m → Plain (uncovered lo hi m)
 gaps-plain lo hi b m h o = let a = gaps-means lo hi b m h o in
-    plain-at 0 (gaps lo hi m) (a .tidy .ordered) (λ k v e. unless-zero (at m k) (inside lo hi k) v (sym (a .holds k) ∙ e))
+    plain-at 0 (uncovered lo hi m) (a .tidy .ordered) (λ k v e. unless-zero (at m k) (inside lo hi k) v (sym (a .holds k) ∙ e))
 
 when-some : (a b : Option ℕ) (v : ℕ) → when a b ≡ some v → b ≡ some v
 when-some none b v e = cc
@@ -137,6 +137,6 @@ or-zero : (a b : Option ℕ) (v : ℕ) → (a ≡ some v → v ≡ 0) → (b ≡
 or-zero none b v f g e = g e
 or-zero (some u) b v f g e = f e
 
-pub over-plain : (a b : List Span) → Ordered 0 a → Tidy 0 b → Plain a → Plain b → Plain (over a b)
+pub over-plain : (a b : List Span) → Ordered 0 a → Tidy 0 b → Plain a → Plain b → Plain (laidOver a b)
 over-plain a b o t l m = let c = over-means a b o (itself t) in
-    plain-at 0 (over a b) (c .tidy .ordered) (λ k v e. or-zero (at a k) (at b k) v (at-zero a k v l) (at-zero b k v m) (sym (c .holds k) ∙ e))
+    plain-at 0 (laidOver a b) (c .tidy .ordered) (λ k v e. or-zero (at a k) (at b k) v (at-zero a k v l) (at-zero b k v m) (sym (c .holds k) ∙ e))

@@ -8,19 +8,19 @@ use mathlib.Core.Option.{Option, some, none}
 use borrow.Author.Tests.{lt-ltb}
 use Rattle.span.specs.Span.{Span, at, Ordered, Upto, keep, before, piece}
 use Rattle.span.specs.Labels.{relabelled, those}
-use Rattle.span.specs.Operations.{Plain, common, when, united, any, holds, total, tally, count}
+use Rattle.span.specs.Operations.{Plain, common, when, united, any, holds, spanTotal, tally, count}
 use Rattle.span.proofs.Tests.{below, among, beyond, place, lt-cases}
 use Rattle.span.proofs.Holding.{at-in, at-out, at-below}
 use Rattle.span.proofs.Sets.{common-means}
 use Rattle.span.proofs.Union.{ordered-united, plain-united, holds-united, at-plain}
 
-pub total-keep : (x : Span) (xs : List Span) → total (keep x xs) ≡ (x .hi - x .lo) + total xs
-unfolding total keep
-total-keep x xs = lt-cases (x .lo) (x .hi) (λ m. total m ≡ (x .hi - x .lo) + total xs) (λ p. refl) (λ p. omega arith)
+pub total-keep : (x : Span) (xs : List Span) → spanTotal (keep x xs) ≡ (x .hi - x .lo) + spanTotal xs
+unfolding spanTotal keep
+total-keep x xs = lt-cases (x .lo) (x .hi) (λ m. spanTotal m ≡ (x .hi - x .lo) + spanTotal xs) (λ p. refl) (λ p. omega arith)
 
 -- one instant more
-total-step : (b n : ℕ) (m : List Span) → Ordered b m → total (before (suc n) m) ≡ total (before n m) + tally (at m n)
-unfolding total before at
+total-step : (b n : ℕ) (m : List Span) → Ordered b m → spanTotal (before (suc n) m) ≡ spanTotal (before n m) + tally (at m n)
+unfolding spanTotal before at
 total-step b n [] o = refl
 total-step b n (x ∷ xs) o =
     let ih = total-step (x .hi) n xs (o .2) in
@@ -30,12 +30,12 @@ total-step b n (x ∷ xs) o =
       | beyond p q ↦ rw (at-out x xs n (omega arith)) (omega arith)
     ])
 
-total-none : (m : List Span) → total (before 0 m) ≡ 0
-unfolding total before
+total-none : (m : List Span) → spanTotal (before 0 m) ≡ 0
+unfolding spanTotal before
 total-none [] = refl
 total-none (x ∷ xs) = rw (total-keep, total-none xs) (omega arith)
 
-pub total-before : (b n : ℕ) (m : List Span) → Ordered b m → total (before n m) ≡ count (at m) n
+pub total-before : (b n : ℕ) (m : List Span) → Ordered b m → spanTotal (before n m) ≡ count (at m) n
 unfolding count
 total-before b zero m o = total-none m
 total-before b (suc n) m o = total-step b n m o ∙ rw (total-before b n m o)
@@ -48,8 +48,8 @@ before-all b n (x ∷ xs) o u =
     rw (hi, lt-ltb (x .lo) (x .hi) (o .1), before-all (x .hi) n xs (o .2) (u .1))
 
 -- TOTAL: of a list that ends by n, at how many instants before n something is held
-pub total-counts : (b n : ℕ) (m : List Span) → Ordered b m → Upto n m → total m ≡ count (at m) n
-total-counts b n m o u = ap total (sym (before-all b n m o u)) ∙ total-before b n m o
+pub total-counts : (b n : ℕ) (m : List Span) → Ordered b m → Upto n m → spanTotal m ≡ count (at m) n
+total-counts b n m o u = ap spanTotal (sym (before-all b n m o u)) ∙ total-before b n m o
 
 -- counts of what is held alike are alike
 pub count-same : (f g : ℕ → Option ℕ) (n : ℕ) → ((k : ℕ) → k < n → f k ≡ g k) → count f n ≡ count g n
@@ -73,7 +73,7 @@ pub record EndsBy (n : ℕ) (m : List Span) : Type 0 where
 
 -- lists of which two tell of as many instants as two others have together the same total
 pub total-pairs : {n : ℕ} {a b c d : List Span} → EndsBy n a → EndsBy n b → EndsBy n c → EndsBy n d
-    → AsMany (at a) (at b) (at c) (at d) → total a + total b ≡ total c + total d
+    → AsMany (at a) (at b) (at c) (at d) → spanTotal a + spanTotal b ≡ spanTotal c + spanTotal d
 total-pairs {n} {a} {b} {c} {d} p q r s e =
     rw (
       total-counts 0 n a (p .ordered) (p .upto),
@@ -109,7 +109,7 @@ tally-both true false = refl
 tally-both false true = refl
 tally-both false false = refl
 
-pub total-both : (a b : List Span) → Ordered 0 a → Ordered 0 b → Plain a → Plain b → total (united a b) + total (common a b) ≡ total a + total b
+pub total-both : (a b : List Span) → Ordered 0 a → Ordered 0 b → Plain a → Plain b → spanTotal (united a b) + spanTotal (common a b) ≡ spanTotal a + spanTotal b
 total-both a b o q l m =
     let c = common-means a b o q in
     let n : ℕ = max (max (bound a) (bound b)) (max (bound (united a b)) (bound (common a b))) in
@@ -122,11 +122,11 @@ total-both a b o q l m =
     (tally-both (any (holds k) a) (any (holds k) b)))
 
 -- THE SPANS THAT PASS A TEST: their total, span by span, is no more than that of all
-pub total-those : (p : ℕ → Bool) (x : Span) (xs : List Span) → total (those p (x ∷ xs)) ≡ cond (p (x .label)) (x .hi - x .lo) 0 + total (those p xs)
-unfolding relabelled total
+pub total-those : (p : ℕ → Bool) (x : Span) (xs : List Span) → spanTotal (those p (x ∷ xs)) ≡ cond (p (x .label)) (x .hi - x .lo) 0 + spanTotal (those p xs)
+unfolding relabelled spanTotal
 total-those p x xs = go (p (x .label))
   where
-    go : (t : Bool) → total (piece (x .lo) (x .hi) (cond t (some (x .label)) none) (those p xs)) ≡ cond t (x .hi - x .lo) 0 + total (those p xs)
+    go : (t : Bool) → spanTotal (piece (x .lo) (x .hi) (cond t (some (x .label)) none) (those p xs)) ≡ cond t (x .hi - x .lo) 0 + spanTotal (those p xs)
     go true = refl
     go false = omega arith
 
@@ -134,7 +134,7 @@ cond-most : (t : Bool) (n : ℕ) → cond t n 0 ≤ n
 cond-most true n = omega arith
 cond-most false n = omega arith
 
-pub those-most : (p : ℕ → Bool) (m : List Span) → total (those p m) ≤ total m
-unfolding relabelled total
+pub those-most : (p : ℕ → Bool) (m : List Span) → spanTotal (those p m) ≤ spanTotal m
+unfolding relabelled spanTotal
 those-most p [] = omega arith
 those-most p (x ∷ xs) = omega (arith, total-those p x xs, cond-most (p (x .label)) (x .hi - x .lo), those-most p xs)

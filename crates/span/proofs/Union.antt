@@ -10,7 +10,7 @@ use mathlib.Core.Option.{Option, some, none}
 use lib.Dec.{ltb}
 use borrow.Author.Tests.{lt-ltb, le-ltb}
 use Rattle.span.specs.Span.{Span, span, inside, at, or-else, Ordered, Apart, Separate, Tidy, joined}
-use Rattle.span.specs.Operations.{Plain, over, overlaps, merged, absorb, united, any, holds, links}
+use Rattle.span.specs.Operations.{Plain, laidOver, spansOverlap, merged, absorb, united, any, holds, links}
 use Rattle.span.proofs.Tests.{below, among, beyond, place, in-yes, in-no, in-same}
 use Rattle.span.proofs.Holding.{ordered-from}
 use Rattle.span.proofs.Laws.{the-only-one, only, reworded, itself, joined-means}
@@ -18,12 +18,12 @@ use Rattle.span.proofs.Sets.{over-means}
 
 -- x and y overlap, or x comes first, or y does; and so the tests say
 data Lie (x y : Span) : Type 0 where
-  overlap : x .lo < y .hi → y .lo < x .hi → overlaps x y ≡ true → Lie x y
-  first : x .hi ≤ y .lo → overlaps x y ≡ false → ltb (x .lo) (y .lo) ≡ true → Lie x y
-  second : y .hi ≤ x .lo → overlaps x y ≡ false → ltb (x .lo) (y .lo) ≡ false → Lie x y
+  overlap : x .lo < y .hi → y .lo < x .hi → spansOverlap x y ≡ true → Lie x y
+  first : x .hi ≤ y .lo → spansOverlap x y ≡ false → ltb (x .lo) (y .lo) ≡ true → Lie x y
+  second : y .hi ≤ x .lo → spansOverlap x y ≡ false → ltb (x .lo) (y .lo) ≡ false → Lie x y
 
 lie : (x y : Span) → x .lo < x .hi → y .lo < y .hi → Lie x y
-unfolding overlaps
+unfolding spansOverlap
 lie x y h i = elim (decLt (x .lo) (y .hi)) [
   | yes p ↦ elim (decLt (y .lo) (x .hi)) [
     | yes q ↦ overlap p q (rw (lt-ltb (x .lo) (y .hi) p, lt-ltb (y .lo) (x .hi) q))
@@ -51,7 +51,7 @@ ordered-united c (x ∷ xs) b o q = ordered-absorb 0 x (united xs b) (omega arit
 pub plain-absorb : (x : Span) (m : List Span) → x .label ≡ 0 → Plain m → Plain (absorb x m)
 unfolding absorb merged
 plain-absorb x [] h l = (h, tt)
-plain-absorb x (y ∷ ys) h l = go (overlaps x y) (ltb (x .lo) (y .lo)) (plain-absorb (merged x y) ys h (l .1)) (plain-absorb x ys h (l .1))
+plain-absorb x (y ∷ ys) h l = go (spansOverlap x y) (ltb (x .lo) (y .lo)) (plain-absorb (merged x y) ys h (l .1)) (plain-absorb x ys h (l .1))
   where
     go : (s t : Bool) → Plain (absorb (merged x y) ys) → Plain (absorb x ys)
         → Plain (cond s (absorb (cond s (merged x y) x) ys) (cond t (x ∷ y ∷ ys) (y ∷ absorb (cond s (merged x y) x) ys)))
@@ -208,7 +208,7 @@ or-plain true t = refl
 or-plain false t = refl
 
 -- the two unions: with the spans that touch joined, rangemap's is the one in maximal spans
-pub united-joined : (a b : List Span) → Ordered 0 a → Tidy 0 b → Plain a → Plain b → joined (united a b) ≡ over a b
+pub united-joined : (a b : List Span) → Ordered 0 a → Tidy 0 b → Plain a → Plain b → joined (united a b) ≡ laidOver a b
 united-joined a b o u l m =
     only (reworded (joined-means (united a b) (ordered-united 0 a b o (u .ordered)))
     (λ k. at-plain (united a b) k (plain-united a b l m) ∙ rw (holds-united k a b o (u .ordered), at-plain a k l, at-plain b k m) (or-plain (any (holds k) a) (any (holds k) b))))

@@ -10,7 +10,7 @@ use lib.Dec.{ltb}
 use borrow.Author.Tests.{lt-ltb, le-ltb}
 use lib.ListN.{length, length-append}
 use Rattle.span.specs.Span.{Span, span, at, or-else, Ordered, Apart, Separate, Tidy, keep, joined}
-use Rattle.span.specs.Operations.{Plain, parts, common, when, overlaps, merged, absorb, united, any, holds, links}
+use Rattle.span.specs.Operations.{Plain, commonParts, common, when, spansOverlap, merged, absorb, united, any, holds, links}
 use Rattle.span.proofs.Tests.{below, among, beyond, place, in-yes, in-no, lt-cases}
 use Rattle.span.proofs.Holding.{at-in, at-below, at-keep, at-app, ordered-from}
 use Rattle.span.proofs.Laws.{the-only-one, never}
@@ -127,7 +127,7 @@ common-right x y xs ys s t h =
     swapped (x ∷ xs) (y ∷ ys) s t ∙ common-left y x ys xs t s h ∙ rw (meet-swap y x, swapped ys (x ∷ xs) (spaced-from {b = suc (y .hi)} ys (omega arith) (t .3)) s)
 
 pub common-none : (b : List Span) → common [] b ≡ []
-unfolding common parts joined
+unfolding common commonParts joined
 common-none b = refl
 
 pub common-no : (a : List Span) → Spaced 0 a → common a [] ≡ []
@@ -176,7 +176,7 @@ united-from c (x ∷ xs) b o q = ordered-absorb c x (united xs b) (o .0) (o .1) 
 
 -- a span that is past: all of the list comes after it
 pub absorb-apart : (x : Span) (m : List Span) → x .lo < x .hi → Ordered (x .hi) m → absorb x m ≡ x ∷ m
-unfolding absorb overlaps
+unfolding absorb spansOverlap
 absorb-apart x [] h o = refl
 absorb-apart x (y ∷ ys) h o = rw (lt-ltb (x .lo) (y .hi) (omega arith), le-ltb (y .lo) (x .hi) (omega arith), lt-ltb (x .lo) (y .lo) (omega arith))
 
@@ -227,7 +227,7 @@ absorb-step c x m h i f l n o p q = elim (decLt (x .lo) (c .hi)) [
 pub absorb-some : (x : Span) (m : List Span) → 0 < length (absorb x m)
 unfolding absorb
 absorb-some x [] = omega arith
-absorb-some x (y ∷ ys) = go (overlaps x y) (ltb (x .lo) (y .lo)) (absorb-some (merged x y) ys)
+absorb-some x (y ∷ ys) = go (spansOverlap x y) (ltb (x .lo) (y .lo)) (absorb-some (merged x y) ys)
   where
     go : (s t : Bool) → 0 < length (absorb (merged x y) ys)
         → 0 < length (cond s (absorb (cond s (merged x y) x) ys) (cond t (x ∷ y ∷ ys) (y ∷ absorb (cond s (merged x y) x) ys)))
@@ -239,7 +239,7 @@ absorb-some x (y ∷ ys) = go (overlaps x y) (ltb (x .lo) (y .lo)) (absorb-some 
 pub length-absorb : (x : Span) (m : List Span) → length (absorb x m) ≤ suc (length m)
 unfolding absorb
 length-absorb x [] = omega arith
-length-absorb x (y ∷ ys) = go (overlaps x y) (ltb (x .lo) (y .lo)) (length-absorb (merged x y) ys) (length-absorb x ys)
+length-absorb x (y ∷ ys) = go (spansOverlap x y) (ltb (x .lo) (y .lo)) (length-absorb (merged x y) ys) (length-absorb x ys)
   where
     go : (s t : Bool) → length (absorb (merged x y) ys) ≤ suc (length ys) → length (absorb x ys) ≤ suc (length ys)
         → length (cond s (absorb (cond s (merged x y) x) ys) (cond t (x ∷ y ∷ ys) (y ∷ absorb (cond s (merged x y) x) ys))) ≤ suc (suc (length ys))

@@ -7,7 +7,7 @@ use native.Mathlib.Numerals.{add-one, sub-one}
 use native.Mathlib.Nat.{add-zero, add-suc, lt-irrefl}
 use lib.ListN.{length, getD, set, take, drop, replicate, length-replicate, length-drop, length-append, length-take}
 use lib.ListN.{replicate-append-replicate, drop-of-length-le}
-use Rattle.splice.specs.InnerSplice.{moved, cleared, Spare, spliced}
+use Rattle.splice.specs.InnerSplice.{moved, filledWith, Filler, spliced}
 use lib.Seq.{sets, getD-set-other, set-comm, take-suc, drop-cons, getD-drop, getD-take, length-take-le, sets-eq}
 use lib.Seq.{take-append-le, take-take, take-at, drop-at, drop-append-add, drop-drop}
 
@@ -80,7 +80,7 @@ module _ {A : Type 0} where
   drop-replicate (suc m) (suc n) z = let e : n - m ≡ suc n - suc m = omega arith in drop-replicate m n z ∙ ap (λ (k : ℕ). replicate k z) e
 
 module _ {A : Type 0} (a : List A) (i j count : ℕ) (vs : List A) (z : A) (ij : i ≤ j) (jc : j ≤ count) (cl : count ≤ length a)
-    (fit : i + length vs + (count - j) ≤ length a) (sp : Spare a count z) where
+    (fit : i + length vs + (count - j) ≤ length a) (sp : Filler a count z) where
   abbrev tail : List A
   tail = take (count - j) (drop j a)
 
@@ -121,17 +121,17 @@ module _ {A : Type 0} (a : List A) (i j count : ℕ) (vs : List A) (z : A) (ij :
       let s : count - end + (length a - count - (end - count)) ≡ length a - end = omega arith in
       rw (sets-eq (replicate (count - end) z) (p ++ drop end a) end w, take-at p (drop end a) end n, d, append-assoc p, replicate-append-replicate, s)
 
-  pub splice-eq : cleared (sets (moved a j (i + length vs) (count - j)) i vs) (i + length vs + (count - j)) count z ≡ spliced a i j count vs z
+  pub splice-eq : filledWith (sets (moved a j (i + length vs) (count - j)) i vs) (i + length vs + (count - j)) count z ≡ spliced a i j count vs z
   unfolding spliced
-  splice-eq = ap (λ (m : List A). cleared (sets m i vs) end count z) after-move ∙ ap (λ (m : List A). cleared m end count z) after-put ∙ after-clear
+  splice-eq = ap (λ (m : List A). filledWith (sets m i vs) end count z) after-move ∙ ap (λ (m : List A). filledWith m end count z) after-put ∙ after-clear
 
   -- the three calls, by what each ensures
   pub splice-done : {m p c : List A} (k : ℕ) → length vs ≡ k → m ≡ moved a j (i + k) (count - j) → p ≡ sets m i vs
-      → c ≡ cleared p (i + k + (count - j)) count z → c ≡ spliced a i j count vs z
+      → c ≡ filledWith p (i + k + (count - j)) count z → c ≡ spliced a i j count vs z
   splice-done k ek em ep ec = rw (ec, ep, em, ← ek) splice-eq
 
 -- a list that is cleared whole holds nothing
-pub all-clear : {A : Type 0} (l : List A) (z : A) {n : ℕ} → length l ≡ n → cleared l 0 n z ≡ replicate n z
+pub all-clear : {A : Type 0} (l : List A) (z : A) {n : ℕ} → length l ≡ n → filledWith l 0 n z ≡ replicate n z
 all-clear l z {n} e =
     let r : length (replicate (n - 0) z) ≡ n = length-replicate (n - 0) z ∙ sub-zero n in
     let d : drop (0 + length (replicate (n - 0) z)) l ≡ [] = ap (λ (k : ℕ). drop (0 + k) l) r ∙ drop-of-length-le l {i = 0 + n} (omega arith) in

@@ -4,7 +4,7 @@ use mathlib.Core.Path.{_≡_}
 use mathlib.Core.List.{List, [], _∷_}
 use lib.ListN.{length, take}
 use lib.IntN.{ℤ, pos}
-use Rattle.splice.specs.InnerSplice.{Spare}
+use Rattle.splice.specs.InnerSplice.{Filler}
 use Rattle.splice.specs.declared.Replacement.{Replacement}
 
 -- the starts that come
@@ -39,6 +39,6 @@ pub record Columns (count : ℕ) (starts ends : List ℤ) (values : List ℕ) : 
   pub ends-as : length ends ≡ length starts
   pub values-as : length values ≡ length starts
   pub held : count ≤ length starts
-  pub spare-starts : Spare starts count (pos 0)
-  pub spare-ends : Spare ends count (pos 0)
-  pub spare-values : Spare values count 0
+  pub spare-starts : Filler starts count (pos 0)
+  pub spare-ends : Filler ends count (pos 0)
+  pub spare-values : Filler values count 0

@@ -1,17 +1,19 @@
 // Columns of a map: moves, stores, and the replacement of places. Each column has loops of its own, so that they vectorise.
+use key::Value;
 ghost use mathlib.Core.Path.{_≡_};
 ghost use mathlib.Core.List.{[], _∷_};
 ghost use Prim.Native.Nat.{_+_, _≤_};
 ghost use lib.ListN.{length, take};
 ghost use lib.IntN.{pos};
-ghost use Rattle.splice.specs.InnerSplice.{moved, cleared, put, Spare, spliced};
+ghost use Rattle.lent.specs.Moments.{was, becomes};
+ghost use Rattle.splice.specs.InnerSplice.{moved, filledWith, putFrom, Filler, spliced};
 ghost use Rattle.splice.specs.InnerReplace.{Columns, Apt, Room, newStarts, newEnds, newValues};
 
 // A range and its value.
 pub struct Entry {
     pub start: i64,
     pub end: i64,
-    pub value: u8,
+    pub value: Value,
 }
 
 // The places from `from` up to `to` go; the first `n` of x, y and z come in their stead.
@@ -27,7 +29,7 @@ pub struct Replacement {
 // Moves n places to the left, the first one first: none is written before it is read.
 fn move_left_i64(a: &mut [i64], from: usize, to: usize, n: usize)
     requires { ⌜ (to ≤ from) × (from + n ≤ length (now a)) ⌝ }
-    ensures { λ _. ⌜ now (a .exit) ≡ moved (now (a .entry)) from to n ⌝ }
+    ensures { λ _. ⌜ becomes a ≡ moved (was a) from to n ⌝ }
 {
     let mut p = 0;
     while p < n {
@@ -39,7 +41,7 @@ fn move_left_i64(a: &mut [i64], from: usize, to: usize, n: usize)
 // Moves n places to the right, the last one first, for the same reason.
 fn move_right_i64(a: &mut [i64], from: usize, to: usize, n: usize)
     requires { ⌜ (from ≤ to) × (to + n ≤ length (now a)) ⌝ }
-    ensures { λ _. ⌜ now (a .exit) ≡ moved (now (a .entry)) from to n ⌝ }
+    ensures { λ _. ⌜ becomes a ≡ moved (was a) from to n ⌝ }
 {
     let mut p = n;
     while 0 < p {
@@ -51,7 +53,7 @@ fn move_right_i64(a: &mut [i64], from: usize, to: usize, n: usize)
 // Moves n places, to either side.
 fn move_i64(a: &mut [i64], from: usize, to: usize, n: usize)
     requires { ⌜ (from + n ≤ length (now a)) × (to + n ≤ length (now a)) ⌝ }
-    ensures { λ _. ⌜ now (a .exit) ≡ moved (now (a .entry)) from to n ⌝ }
+    ensures { λ _. ⌜ becomes a ≡ moved (was a) from to n ⌝ }
 {
     if to < from {
         move_left_i64(a, from, to, n);
@@ -63,7 +65,7 @@ fn move_i64(a: &mut [i64], from: usize, to: usize, n: usize)
 // Writes 0 into the places from `from` up to `to`.
 pub fn clear_i64(a: &mut [i64], from: usize, to: usize)
     requires { ⌜ to ≤ length (now a) ⌝ }
-    ensures { λ _. ⌜ now (a .exit) ≡ cleared (now (a .entry)) from to (pos 0) ⌝ }
+    ensures { λ _. ⌜ becomes a ≡ filledWith (was a) from to (pos 0) ⌝ }
 {
     let mut p = from;
     while p < to {
@@ -75,7 +77,7 @@ pub fn clear_i64(a: &mut [i64], from: usize, to: usize)
 // Writes the first k of x, y and z from the place i on.
 fn put_i64(a: &mut [i64], i: usize, k: usize, x: i64, y: i64, z: i64)
     requires { ⌜ (k ≤ 3) × (i + k ≤ length (now a)) ⌝ }
-    ensures { λ _. ⌜ now (a .exit) ≡ put (now (a .entry)) i k x y z ⌝ }
+    ensures { λ _. ⌜ becomes a ≡ putFrom (was a) i k x y z ⌝ }
 {
     if k == 0 {
         return;
@@ -93,8 +95,8 @@ fn put_i64(a: &mut [i64], i: usize, k: usize, x: i64, y: i64, z: i64)
 
 // Carries a replacement out in one column, in which x, y and z come; the places after those that go move up or down.
 fn splice_i64(a: &mut [i64], count: usize, p: Replacement, x: i64, y: i64, z: i64)
-    requires { ⌜ Apt count p × Room count p (length (now a)) × Spare (now a) count (pos 0) ⌝ }
-    ensures { λ _. ⌜ now (a .exit) ≡ spliced (now (a .entry)) (p .from) (p .to) count (take (p .n) (x ∷ y ∷ z ∷ [])) (pos 0) ⌝ }
+    requires { ⌜ Apt count p × Room count p (length (now a)) × Filler (now a) count (pos 0) ⌝ }
+    ensures { λ _. ⌜ becomes a ≡ spliced (was a) (p .from) (p .to) count (take (p .n) (x ∷ y ∷ z ∷ [])) (pos 0) ⌝ }
 {
     let from = p.from;
     let to = p.to;
@@ -107,9 +109,9 @@ fn splice_i64(a: &mut [i64], count: usize, p: Replacement, x: i64, y: i64, z: i6
 }
 
 // Moves n places to the left, the first one first: none is written before it is read.
-fn move_left_u8(a: &mut [u8], from: usize, to: usize, n: usize)
+fn move_left_u8(a: &mut [Value], from: usize, to: usize, n: usize)
     requires { ⌜ (to ≤ from) × (from + n ≤ length (now a)) ⌝ }
-    ensures { λ _. ⌜ now (a .exit) ≡ moved (now (a .entry)) from to n ⌝ }
+    ensures { λ _. ⌜ becomes a ≡ moved (was a) from to n ⌝ }
 {
     let mut p = 0;
     while p < n {
@@ -119,9 +121,9 @@ fn move_left_u8(a: &mut [u8], from: usize, to: usize, n: usize)
 }
 
 // Moves n places to the right, the last one first, for the same reason.
-fn move_right_u8(a: &mut [u8], from: usize, to: usize, n: usize)
+fn move_right_u8(a: &mut [Value], from: usize, to: usize, n: usize)
     requires { ⌜ (from ≤ to) × (to + n ≤ length (now a)) ⌝ }
-    ensures { λ _. ⌜ now (a .exit) ≡ moved (now (a .entry)) from to n ⌝ }
+    ensures { λ _. ⌜ becomes a ≡ moved (was a) from to n ⌝ }
 {
     let mut p = n;
     while 0 < p {
@@ -131,9 +133,9 @@ fn move_right_u8(a: &mut [u8], from: usize, to: usize, n: usize)
 }
 
 // Moves n places, to either side.
-fn move_u8(a: &mut [u8], from: usize, to: usize, n: usize)
+fn move_u8(a: &mut [Value], from: usize, to: usize, n: usize)
     requires { ⌜ (from + n ≤ length (now a)) × (to + n ≤ length (now a)) ⌝ }
-    ensures { λ _. ⌜ now (a .exit) ≡ moved (now (a .entry)) from to n ⌝ }
+    ensures { λ _. ⌜ becomes a ≡ moved (was a) from to n ⌝ }
 {
     if to < from {
         move_left_u8(a, from, to, n);
@@ -143,9 +145,9 @@ fn move_u8(a: &mut [u8], from: usize, to: usize, n: usize)
 }
 
 // Writes 0 into the places from `from` up to `to`.
-pub fn clear_u8(a: &mut [u8], from: usize, to: usize)
+pub fn clear_u8(a: &mut [Value], from: usize, to: usize)
     requires { ⌜ to ≤ length (now a) ⌝ }
-    ensures { λ _. ⌜ now (a .exit) ≡ cleared (now (a .entry)) from to 0 ⌝ }
+    ensures { λ _. ⌜ becomes a ≡ filledWith (was a) from to 0 ⌝ }
 {
     let mut p = from;
     while p < to {
@@ -155,9 +157,9 @@ pub fn clear_u8(a: &mut [u8], from: usize, to: usize)
 }
 
 // Writes the first k of x, y and z from the place i on.
-fn put_u8(a: &mut [u8], i: usize, k: usize, x: u8, y: u8, z: u8)
+fn put_u8(a: &mut [Value], i: usize, k: usize, x: Value, y: Value, z: Value)
     requires { ⌜ (k ≤ 3) × (i + k ≤ length (now a)) ⌝ }
-    ensures { λ _. ⌜ now (a .exit) ≡ put (now (a .entry)) i k x y z ⌝ }
+    ensures { λ _. ⌜ becomes a ≡ putFrom (was a) i k x y z ⌝ }
 {
     if k == 0 {
         return;
@@ -174,9 +176,9 @@ fn put_u8(a: &mut [u8], i: usize, k: usize, x: u8, y: u8, z: u8)
 }
 
 // Carries a replacement out in one column, in which x, y and z come; the places after those that go move up or down.
-fn splice_u8(a: &mut [u8], count: usize, p: Replacement, x: u8, y: u8, z: u8)
-    requires { ⌜ Apt count p × Room count p (length (now a)) × Spare (now a) count 0 ⌝ }
-    ensures { λ _. ⌜ now (a .exit) ≡ spliced (now (a .entry)) (p .from) (p .to) count (take (p .n) (x ∷ y ∷ z ∷ [])) 0 ⌝ }
+fn splice_u8(a: &mut [Value], count: usize, p: Replacement, x: Value, y: Value, z: Value)
+    requires { ⌜ Apt count p × Room count p (length (now a)) × Filler (now a) count 0 ⌝ }
+    ensures { λ _. ⌜ becomes a ≡ spliced (was a) (p .from) (p .to) count (take (p .n) (x ∷ y ∷ z ∷ [])) 0 ⌝ }
 {
     let from = p.from;
     let to = p.to;
@@ -189,11 +191,17 @@ fn splice_u8(a: &mut [u8], count: usize, p: Replacement, x: u8, y: u8, z: u8)
 }
 
 // Replaces places in all three columns.
-pub fn splice(count: usize, starts: &mut [i64], ends: &mut [i64], values: &mut [u8], p: Replacement)
+pub fn splice(
+    count: usize,
+    starts: &mut [i64],
+    ends: &mut [i64],
+    values: &mut [Value],
+    p: Replacement,
+)
     requires { ⌜ Columns count (now starts) (now ends) (now values) × Apt count p × Room count p (length (now starts)) ⌝ }
-    ensures { λ _. ⌜ now (starts .exit) ≡ spliced (now (starts .entry)) (p .from) (p .to) count (newStarts p) (pos 0) ⌝ }
-    ensures { λ _. ⌜ now (ends .exit) ≡ spliced (now (ends .entry)) (p .from) (p .to) count (newEnds p) (pos 0) ⌝ }
-    ensures { λ _. ⌜ now (values .exit) ≡ spliced (now (values .entry)) (p .from) (p .to) count (newValues p) 0 ⌝ }
+    ensures { λ _. ⌜ becomes starts ≡ spliced (was starts) (p .from) (p .to) count (newStarts p) (pos 0) ⌝ }
+    ensures { λ _. ⌜ becomes ends ≡ spliced (was ends) (p .from) (p .to) count (newEnds p) (pos 0) ⌝ }
+    ensures { λ _. ⌜ becomes values ≡ spliced (was values) (p .from) (p .to) count (newValues p) 0 ⌝ }
 {
     let x = p.x;
     let y = p.y;

@@ -14,7 +14,7 @@ use Rattle.key.specs.InnerDecides.{Decides}
 use Rattle.key.specs.Range.{Kind}
 use Rattle.outcomes.specs.Stored.{places, Stored, ranges, wellFormed, AllFit, Sound}
 use Rattle.outcomes.proofs.Formed.{Formed, Shaped, formed, well-formed, length-ranges, getD-ranges}
-use Rattle.store.specs.InnerCheck.{place, Step, Follows, Steps, Keys, Unused}
+use Rattle.store.specs.InnerCheck.{spanAt, Step, Follows, Steps, Keys, Unused}
 
 pub refused : (t : Bool) → (t ≡ true → ⊥) → false ≡ t
 refused true h = absurd (h refl)
@@ -27,11 +27,11 @@ follows-step f = record { full = f .full; past = λ _. f .past; unlike = λ _. f
 pub step-follows : {kind : Kind} {m : Stored} {k : ℕ} → k + 1 < m .count → Step kind m k → Follows kind m k
 step-follows h s = record { full = s .full; past = s .past h; unlike = s .unlike h }
 
-pub all-steps : (kind : Kind) (m : Stored) (last : ℕ) → m .count ≡ last + 1 → ((k : ℕ) → k < last → Follows kind m k) → place kind m last .lo < place kind m last .hi → Steps kind m
+pub all-steps : (kind : Kind) (m : Stored) (last : ℕ) → m .count ≡ last + 1 → ((k : ℕ) → k < last → Follows kind m k) → spanAt kind m last .lo < spanAt kind m last .hi → Steps kind m
 all-steps kind m last e f l k h =
     elim (decLt k last) [
       | yes p ↦ follows-step (f k p)
-      | no p ↦ let q : last ≡ k = omega arith in record { full = subst (λ (j : ℕ). place kind m j .lo < place kind m j .hi) q l; past = λ i. absurd (omega arith); unlike = λ i. absurd (omega arith) }
+      | no p ↦ let q : last ≡ k = omega arith in record { full = subst (λ (j : ℕ). spanAt kind m j .lo < spanAt kind m j .hi) q l; past = λ i. absurd (omega arith); unlike = λ i. absurd (omega arith) }
     ]
 
 -- b is the greatest key at which the next range may not begin: e, the end of a half-open range, where the two values v and w are the same, else the key before
@@ -55,7 +55,7 @@ module _ {v w e b : ℕ} (same : v ≡ w → b ≡ e) (other : (v ≡ w → ⊥)
 module _ (kind : Kind) {n : ℕ} {m : Stored} (shape : Shaped n m) where
   module _ (held : m .count ≤ n) where
     -- the span at a live place of the list of ranges is the range at that place of the map
-    at-place : (k : ℕ) → k < m .count → getD (ranges kind m) k (span 0 0 0) ≡ place kind m k
+    at-place : (k : ℕ) → k < m .count → getD (ranges kind m) k (span 0 0 0) ≡ spanAt kind m k
     at-place k b = getD-ranges kind n m shape held k (span 0 0 0) b
 
     steps-tidy : Steps kind m → Tidy 0 (ranges kind m)

@@ -1,20 +1,22 @@
 // The check of a lent map of either kind. The live places are walked once, and each column of the unused ones once.
 use key::RangeKind;
+use key::Value;
 use outcomes::PLACES;
 ghost use mathlib.Core.Path.{_≡_};
 ghost use mathlib.Core.Bool.{true};
 ghost use Prim.Native.Nat.{ℕ, _+_, _<_, _≤_};
 ghost use lib.ListN.{length};
 ghost use lib.IntN.{pos};
+ghost use Rattle.lent.specs.Moments.{was};
 ghost use Rattle.key.specs.InnerDecides.{Decides};
 ghost use Rattle.key.specs.Rank.{rank};
 ghost use Rattle.key.specs.Range.{halfOpen, inclusive, kindOf};
-ghost use Rattle.outcomes.specs.Stored.{stored, Sound, Spare};
+ghost use Rattle.outcomes.specs.Stored.{Sound, Spare, atEntryWith};
 ghost use Rattle.outcomes.specs.Outcomes.{formed};
 ghost use Rattle.store.specs.InnerCheck.{Follows, Steps, Keys, Unused};
 
 // The greatest key at which the next range may not begin: the end of a half-open range before one of the same value, else the key before its end.
-fn bar(end: i64, value: u8, next: u8) -> i64
+fn bar(end: i64, value: Value, next: Value) -> i64
     requires { ⌜ 0 < rank end ⌝ }
     ensures { λ r. ⌜ (value ≡ next → rank r ≡ rank end) × ((value ≡ next → ⊥) → rank r + 1 ≡ rank end) ⌝ }
 {
@@ -25,10 +27,10 @@ fn bar(end: i64, value: u8, next: u8) -> i64
 }
 
 // Whether the half-open range at `k` is not empty, and the next one may follow it. A good map passes both tests, so no branch is ever mistaken.
-fn half_open(starts: &[i64], ends: &[i64], values: &[u8], k: usize) -> bool
+fn half_open(starts: &[i64], ends: &[i64], values: &[Value], k: usize) -> bool
     requires { ⌜ (k + 1 < length (now starts)) × (length (now ends) ≡ length (now starts)) × (length (now values) ≡ length (now starts)) ⌝ }
-    ensures { λ r. ⌜ ((n : ℕ) → Decides r (Follows halfOpen (stored n (now (starts .entry)) (now (ends .entry)) (now (values .entry))) k)) ⌝ }
-    ensures { λ _. ⌜ ((n : ℕ) → Keys (stored n (now (starts .entry)) (now (ends .entry)) (now (values .entry))) k) ⌝ }
+    ensures { λ r. ⌜ ((n : ℕ) → Decides r (Follows halfOpen (atEntryWith n starts ends values) k)) ⌝ }
+    ensures { λ _. ⌜ ((n : ℕ) → Keys (atEntryWith n starts ends values) k) ⌝ }
 {
     let end = ends[k];
     if starts[k] >= end {
@@ -43,10 +45,10 @@ fn half_open(starts: &[i64], ends: &[i64], values: &[u8], k: usize) -> bool
 }
 
 // The same for an inclusive range. One is added to the end only where a later key was seen.
-fn inclusive(starts: &[i64], ends: &[i64], values: &[u8], k: usize) -> bool
+fn inclusive(starts: &[i64], ends: &[i64], values: &[Value], k: usize) -> bool
     requires { ⌜ (k + 1 < length (now starts)) × (length (now ends) ≡ length (now starts)) × (length (now values) ≡ length (now starts)) ⌝ }
-    ensures { λ r. ⌜ ((n : ℕ) → Decides r (Follows inclusive (stored n (now (starts .entry)) (now (ends .entry)) (now (values .entry))) k)) ⌝ }
-    ensures { λ _. ⌜ ((n : ℕ) → Keys (stored n (now (starts .entry)) (now (ends .entry)) (now (values .entry))) k) ⌝ }
+    ensures { λ r. ⌜ ((n : ℕ) → Decides r (Follows inclusive (atEntryWith n starts ends values) k)) ⌝ }
+    ensures { λ _. ⌜ ((n : ℕ) → Keys (atEntryWith n starts ends values) k) ⌝ }
 {
     let end = ends[k];
     if starts[k] > end {
@@ -66,10 +68,10 @@ fn inclusive(starts: &[i64], ends: &[i64], values: &[u8], k: usize) -> bool
 }
 
 // The same for a range of either kind.
-fn step(kind: RangeKind, starts: &[i64], ends: &[i64], values: &[u8], k: usize) -> bool
+fn step(kind: RangeKind, starts: &[i64], ends: &[i64], values: &[Value], k: usize) -> bool
     requires { ⌜ (k + 1 < length (now starts)) × (length (now ends) ≡ length (now starts)) × (length (now values) ≡ length (now starts)) ⌝ }
-    ensures { λ r. ⌜ ((n : ℕ) → Decides r (Follows (kindOf kind) (stored n (now (starts .entry)) (now (ends .entry)) (now (values .entry))) k)) ⌝ }
-    ensures { λ _. ⌜ ((n : ℕ) → Keys (stored n (now (starts .entry)) (now (ends .entry)) (now (values .entry))) k) ⌝ }
+    ensures { λ r. ⌜ ((n : ℕ) → Decides r (Follows (kindOf kind) (atEntryWith n starts ends values) k)) ⌝ }
+    ensures { λ _. ⌜ ((n : ℕ) → Keys (atEntryWith n starts ends values) k) ⌝ }
 {
     match kind {
         RangeKind::HalfOpen => half_open(starts, ends, values, k),
@@ -78,10 +80,10 @@ fn step(kind: RangeKind, starts: &[i64], ends: &[i64], values: &[u8], k: usize) 
 }
 
 // Whether the live places are tidy: no range empty or reversed, all ascending without overlap, none joining the next. The last has no next.
-fn tidy(kind: RangeKind, starts: &[i64], ends: &[i64], values: &[u8], count: usize) -> bool
+fn tidy(kind: RangeKind, starts: &[i64], ends: &[i64], values: &[Value], count: usize) -> bool
     requires { ⌜ (count ≤ length (now starts)) × (length (now ends) ≡ length (now starts)) × (length (now values) ≡ length (now starts)) ⌝ }
-    ensures { λ r. ⌜ Decides r (Steps (kindOf kind) (stored count (now (starts .entry)) (now (ends .entry)) (now (values .entry)))) ⌝ }
-    ensures { λ r. ⌜ (r ≡ true → (k : ℕ) → k < count → Keys (stored count (now (starts .entry)) (now (ends .entry)) (now (values .entry))) k) ⌝ }
+    ensures { λ r. ⌜ Decides r (Steps (kindOf kind) (atEntryWith count starts ends values)) ⌝ }
+    ensures { λ r. ⌜ (r ≡ true → (k : ℕ) → k < count → Keys (atEntryWith count starts ends values) k) ⌝ }
 {
     if count == 0 {
         return true;
@@ -102,7 +104,7 @@ fn tidy(kind: RangeKind, starts: &[i64], ends: &[i64], values: &[u8], count: usi
 // Whether all keys from a place on are 0. With no early return the loop takes several places at a time.
 fn zeros_from(keys: &[i64], from: usize) -> bool
     requires { ⌜ from ≤ length (now keys) ⌝ }
-    ensures { λ r. ⌜ Decides r (Spare (now (keys .entry)) from (pos 0)) ⌝ }
+    ensures { λ r. ⌜ Decides r (Spare (was keys) from (pos 0)) ⌝ }
 {
     let mut seen = 0;
     let mut k = from;
@@ -117,9 +119,9 @@ fn zeros_from(keys: &[i64], from: usize) -> bool
 }
 
 // The same for values.
-fn noughts_from(values: &[u8], from: usize) -> bool
+fn noughts_from(values: &[Value], from: usize) -> bool
     requires { ⌜ from ≤ length (now values) ⌝ }
-    ensures { λ r. ⌜ Decides r (Spare (now (values .entry)) from 0) ⌝ }
+    ensures { λ r. ⌜ Decides r (Spare (was values) from 0) ⌝ }
 {
     let mut seen = 0;
     let mut k = from;
@@ -134,9 +136,9 @@ fn noughts_from(values: &[u8], from: usize) -> bool
 }
 
 // What both kinds of map share: whether the count is at most the number of places, and the places from it on hold 0.
-fn unused(starts: &[i64], ends: &[i64], values: &[u8], count: usize) -> bool
+fn unused(starts: &[i64], ends: &[i64], values: &[Value], count: usize) -> bool
     requires { ⌜ (length (now ends) ≡ length (now starts)) × (length (now values) ≡ length (now starts)) ⌝ }
-    ensures { λ r. ⌜ Decides r (Unused (length (now (starts .entry))) (stored count (now (starts .entry)) (now (ends .entry)) (now (values .entry)))) ⌝ }
+    ensures { λ r. ⌜ Decides r (Unused (length (was starts)) (atEntryWith count starts ends values)) ⌝ }
 {
     if starts.len() < count {
         return false;
@@ -159,10 +161,10 @@ pub fn well_formed(
     count: usize,
     starts: &[i64; PLACES],
     ends: &[i64; PLACES],
-    values: &[u8; PLACES],
+    values: &[Value; PLACES],
 ) -> bool
-    ensures { λ r. ⌜ r ≡ formed (kindOf kind) (stored count (now (starts .entry)) (now (ends .entry)) (now (values .entry))) ⌝ }
-    ensures { λ r. ⌜ (r ≡ true → Sound (kindOf kind) (stored count (now (starts .entry)) (now (ends .entry)) (now (values .entry)))) ⌝ }
+    ensures { λ r. ⌜ r ≡ formed (kindOf kind) (atEntryWith count starts ends values) ⌝ }
+    ensures { λ r. ⌜ (r ≡ true → Sound (kindOf kind) (atEntryWith count starts ends values)) ⌝ }
 {
     if !unused(starts, ends, values, count) {
         return false;

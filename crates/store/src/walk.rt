@@ -3,6 +3,7 @@ use key::RangeKind;
 use key::full;
 ghost use Prim.Native.Nat.{_≤_};
 ghost use lib.ListN.{length};
+ghost use Rattle.lent.specs.Moments.{was};
 ghost use Rattle.key.specs.Range.{kindOf};
 ghost use Rattle.store.specs.InnerSearch.{FirstPast};
 
@@ -10,7 +11,7 @@ ghost use Rattle.store.specs.InnerSearch.{FirstPast};
 // It walks, since an edit or a question meets few ranges; `search::first_past` promises the same and halves.
 pub fn first_past(kind: RangeKind, starts: &[i64], from: usize, count: usize, end: i64) -> usize
     requires { ⌜ (from ≤ count) × (count ≤ length (now starts)) ⌝ }
-    ensures { λ r. ⌜ FirstPast (kindOf kind) count (now (starts .entry)) from end r ⌝ }
+    ensures { λ r. ⌜ FirstPast (kindOf kind) count (was starts) from end r ⌝ }
 {
     let mut k = from;
     while k < count {

@@ -4,24 +4,24 @@ use mathlib.Core.Path.{_≡_, refl}
 use mathlib.Core.List.{List, [], _∷_, _++_}
 use lib.IntN.{pos}
 use Rattle.span.specs.Span.{Span, span, inside, keep, before, after, joins, push, joined, given, history}
-use Rattle.span.specs.Operations.{cuts, gaps, within, total}
-use Rattle.key.specs.Rank.{place, bitRank, rank}
+use Rattle.span.specs.Operations.{cuts, uncovered, within, spanTotal}
+use Rattle.key.specs.Rank.{aboveLeast, bitRank, rank}
 use Rattle.duty.proofs.ByStatus.{of-duties}
 use Rattle.decimal.specs.Decimal.{digitsText, spelled, decimalText}
-use Rattle.filling.specs.Filling.{ascii, pieceOf, leftBy, filled, series}
+use Rattle.filling.specs.Filling.{ascii, pieceOf, leftBy, filledIn, series}
 use Rattle.report_text.specs.Rows.{rowName, rowOf}
 use Rattle.report_text.specs.Times.{pairText, clockText}
-use Rattle.graph_text.specs.Grid.{clockHour, inQuarter, marked}
+use Rattle.graph_text.specs.Grid.{clockHour, inQuarter, isMarked}
 use Rattle.svg_text.specs.SvgText.{headSvg, hourRule, hourRules, rowRule, rowRules, hourSvg, nameSvg}
 use Rattle.svg_text.specs.SvgText.{totalSvg, inkOf, markAt, markSvg, inkSvg, marksSvg, footSvg}
 
 -- `unfolding all` opens every definition that a case computes with: of spans, of text, of the picture
 unfoldable of-spans : Unit {0}
-unfolding inside keep before after joins push joined given history cuts gaps within total place bitRank
+unfolding inside keep before after joins push joined given history cuts uncovered within spanTotal aboveLeast bitRank
 of-spans = tt
 
 unfoldable of-text : Unit {0}
-unfolding digitsText spelled decimalText pieceOf leftBy filled series rowName rowOf pairText clockText clockHour inQuarter marked
+unfolding digitsText spelled decimalText pieceOf leftBy filledIn series rowName rowOf pairText clockText clockHour inQuarter isMarked
 of-text = tt
 
 unfoldable all : Unit {0}

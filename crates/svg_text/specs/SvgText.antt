@@ -6,42 +6,42 @@ use lib.Dec.{eqb}
 use lib.IntN.{ℤ}
 use Rattle.span.specs.Span.{Span}
 use Rattle.duty.specs.declared.Totals.{Totals}
-use Rattle.filling.specs.Filling.{ascii, filled, series}
-use Rattle.report_text.specs.Rows.{rows, rowName, rowOf, sumSeconds}
+use Rattle.filling.specs.Filling.{ascii, filledIn, series}
+use Rattle.report_text.specs.Rows.{rowCount, rowName, rowOf, sumSeconds}
 use Rattle.report_text.specs.Times.{clockText}
-use Rattle.graph_text.specs.Grid.{quartersIn, clockHour, marked}
+use Rattle.graph_text.specs.Grid.{quartersIn, clockHour, isMarked}
 
 -- the head and the white ground, where w is the width of all quarters
 unfoldable pub headSvg : ℕ → List ℕ
 headSvg w =
-    filled (ascii "<svg xmlns=\"http://www.w3.org/2000/svg\" width=\"{\" height=\"180\" font-family=\"monospace\" font-size=\"12\">\n") ((w + 200) ∷ []) ++
+    filledIn (ascii "<svg xmlns=\"http://www.w3.org/2000/svg\" width=\"{\" height=\"180\" font-family=\"monospace\" font-size=\"12\">\n") ((w + 200) ∷ []) ++
     ascii "<rect width=\"100%\" height=\"100%\" fill=\"white\"/>\n"
 
 -- the lines between n hours
 unfoldable pub hourRule : ℕ → List ℕ
-hourRule i = filled (ascii "M{ 32v120") ((112 + 32 * i) ∷ [])
+hourRule i = filledIn (ascii "M{ 32v120") ((112 + 32 * i) ∷ [])
 
 unfoldable pub hourRules : ℕ → List ℕ
 hourRules n = ascii "<path stroke=\"silver\" d=\"" ++ series hourRule (n + 1) ++ ascii "\"/>\n"
 
 -- the lines between the rows
 unfoldable pub rowRule : ℕ → ℕ → List ℕ
-rowRule w j = filled (ascii "M112 {h{") ((32 + 24 * j) ∷ w ∷ [])
+rowRule w j = filledIn (ascii "M112 {h{") ((32 + 24 * j) ∷ w ∷ [])
 
 unfoldable pub rowRules : ℕ → List ℕ
-rowRules w = ascii "<path stroke=\"gray\" d=\"" ++ series (rowRule w) (rows + 1) ++ ascii "\"/>\n"
+rowRules w = ascii "<path stroke=\"gray\" d=\"" ++ series (rowRule w) (rowCount + 1) ++ ascii "\"/>\n"
 
 -- an hour of n as the clock shows it
 unfoldable pub hourSvg : ℕ → ℕ → List ℕ
-hourSvg n h = filled (ascii "<text x=\"{\" y=\"26\">{</text>\n") ((114 + 32 * h) ∷ clockHour n h ∷ [])
+hourSvg n h = filledIn (ascii "<text x=\"{\" y=\"26\">{</text>\n") ((114 + 32 * h) ∷ clockHour n h ∷ [])
 
 -- a name at the left, at a height
 unfoldable pub nameSvg : ℕ → List ℕ → List ℕ
-nameSvg y name = filled (ascii "<text x=\"6\" y=\"{\">") (y ∷ []) ++ name ++ ascii "</text>\n"
+nameSvg y name = filledIn (ascii "<text x=\"6\" y=\"{\">") (y ∷ []) ++ name ++ ascii "</text>\n"
 
 -- a total at the right of w quarters' width, at a height
 unfoldable pub totalSvg : ℕ → ℕ → ℕ → List ℕ
-totalSvg w y n = filled (ascii "<text x=\"{\" y=\"{\" text-anchor=\"end\">") ((w + 192) ∷ y ∷ []) ++ clockText n ++ ascii "</text>\n"
+totalSvg w y n = filledIn (ascii "<text x=\"{\" y=\"{\" text-anchor=\"end\">") ((w + 192) ∷ y ∷ []) ++ clockText n ++ ascii "</text>\n"
 
 -- a mark is navy, in the row of unrecorded time red
 unfoldable pub inkOf : ℕ → List ℕ
@@ -49,10 +49,10 @@ inkOf j = cond (eqb j 4) (ascii "red") (ascii "navy")
 
 -- a quarter of a row, if it is marked
 unfoldable pub markAt : ℕ → ℕ → List ℕ
-markAt j q = filled (ascii "M{ {h8") ((112 + 8 * q) ∷ (44 + 24 * j) ∷ [])
+markAt j q = filledIn (ascii "M{ {h8") ((112 + 8 * q) ∷ (44 + 24 * j) ∷ [])
 
 unfoldable pub markSvg : List Span → ℤ → ℕ → ℕ → List ℕ
-markSvg m s j q = cond (marked m s j q) (markAt j q) []
+markSvg m s j q = cond (isMarked m s j q) (markAt j q) []
 
 -- the marks of a row of n quarters
 unfoldable pub inkSvg : ℕ → List ℕ
@@ -74,4 +74,4 @@ footSvg n sum = nameSvg 169 (ascii "sum") ++ totalSvg (8 * n) 169 sum ++ ascii "
 
 -- THE PICTURE of the day from s up to e, in which the map holds m, and whose totals are t
 unfoldable pub svgText : List Span → ℤ → ℤ → Totals → List ℕ
-svgText m s e t = frameSvg (quartersIn s e) ++ series (rowSvg m s (quartersIn s e) t) rows ++ footSvg (quartersIn s e) (sumSeconds t)
+svgText m s e t = frameSvg (quartersIn s e) ++ series (rowSvg m s (quartersIn s e) t) rowCount ++ footSvg (quartersIn s e) (sumSeconds t)

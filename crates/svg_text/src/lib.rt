@@ -13,10 +13,11 @@ use text::put;
 ghost use mathlib.Core.Path.{_≡_};
 ghost use Prim.Native.Nat.{_+_, _*_, _≤_, _<_};
 ghost use lib.ListN.{length};
+ghost use Rattle.lent.specs.Moments.{was, becomes};
 ghost use Rattle.key.specs.Range.{halfOpen};
-ghost use Rattle.outcomes.specs.Stored.{stored, ranges};
+ghost use Rattle.outcomes.specs.Stored.{stored, ranges, atEntryWith};
 ghost use Rattle.filling.specs.Filling.{series, AddsWithin};
-ghost use Rattle.report_text.specs.Rows.{rows, rowName};
+ghost use Rattle.report_text.specs.Rows.{rowCount, rowName};
 ghost use Rattle.graph_text.specs.Grid.{Drawable};
 ghost use Rattle.graph_text.specs.InnerRoom.{mostQuarters, mostHours, Quarters, Quarter};
 ghost use Rattle.svg_text.specs.SvgText.{headSvg, hourRule, hourRules, rowRule, rowRules, hourSvg, nameSvg, totalSvg, inkOf, markAt, markSvg, inkSvg, marksSvg, rowSvg, frameSvg, footSvg, svgText};
@@ -31,7 +32,7 @@ pub const SVG_ROOM: usize = 29400;
 // The head and the white ground, where w is the width of all quarters.
 fn put_head(out: &mut [u8], at: usize, w: u64) -> usize
     requires { ⌜ (w ≤ 800) × (at + 200 ≤ length (now out)) ⌝ }
-    ensures { λ r. ⌜ AddsWithin 200 (headSvg w) (now (out .entry)) at (now (out .exit)) r ⌝ }
+    ensures { λ r. ⌜ AddsWithin 200 (headSvg w) (was out) at (becomes out) r ⌝ }
 {
     let numbers = [w + 200];
     let ground = fill(
@@ -50,7 +51,7 @@ fn put_head(out: &mut [u8], at: usize, w: u64) -> usize
 // The line before the hour i.
 fn put_hour_rule(out: &mut [u8], at: usize, i: usize) -> usize
     requires { ⌜ (i ≤ mostHours) × (at + 29 ≤ length (now out)) ⌝ }
-    ensures { λ r. ⌜ AddsWithin 29 (hourRule i) (now (out .entry)) at (now (out .exit)) r ⌝ }
+    ensures { λ r. ⌜ AddsWithin 29 (hourRule i) (was out) at (becomes out) r ⌝ }
 {
     let numbers = [112 + 32 * i as u64];
     fill(out, at, b"M{ 32v120", &numbers)
@@ -59,7 +60,7 @@ fn put_hour_rule(out: &mut [u8], at: usize, i: usize) -> usize
 // The first n of these lines.
 fn put_hour_rules(out: &mut [u8], at: usize, n: usize) -> usize
     requires { ⌜ (n ≤ mostHours + 1) × (at + 754 ≤ length (now out)) ⌝ }
-    ensures { λ r. ⌜ AddsWithin 754 (series hourRule n) (now (out .entry)) at (now (out .exit)) r ⌝ }
+    ensures { λ r. ⌜ AddsWithin 754 (series hourRule n) (was out) at (becomes out) r ⌝ }
 {
     let mut to = at;
     let mut i = 0;
@@ -73,7 +74,7 @@ fn put_hour_rules(out: &mut [u8], at: usize, n: usize) -> usize
 // The lines between n hours.
 fn put_hour_path(out: &mut [u8], at: usize, n: usize) -> usize
     requires { ⌜ (n ≤ mostHours) × (at + 800 ≤ length (now out)) ⌝ }
-    ensures { λ r. ⌜ AddsWithin 800 (hourRules n) (now (out .entry)) at (now (out .exit)) r ⌝ }
+    ensures { λ r. ⌜ AddsWithin 800 (hourRules n) (was out) at (becomes out) r ⌝ }
 {
     let rules = put(out, at, b"<path stroke=\"silver\" d=\"");
     let to = put_hour_rules(out, rules, n + 1);
@@ -82,8 +83,8 @@ fn put_hour_path(out: &mut [u8], at: usize, n: usize) -> usize
 
 // The line before the row j.
 fn put_row_rule(out: &mut [u8], at: usize, w: u64, j: usize) -> usize
-    requires { ⌜ (j ≤ rows) × (at + 48 ≤ length (now out)) ⌝ }
-    ensures { λ r. ⌜ AddsWithin 48 (rowRule w j) (now (out .entry)) at (now (out .exit)) r ⌝ }
+    requires { ⌜ (j ≤ rowCount) × (at + 48 ≤ length (now out)) ⌝ }
+    ensures { λ r. ⌜ AddsWithin 48 (rowRule w j) (was out) at (becomes out) r ⌝ }
 {
     let numbers = [32 + 24 * j as u64, w];
     fill(out, at, b"M112 {h{", &numbers)
@@ -92,7 +93,7 @@ fn put_row_rule(out: &mut [u8], at: usize, w: u64, j: usize) -> usize
 // These lines.
 fn put_row_rules(out: &mut [u8], at: usize, w: u64) -> usize
     requires { ⌜ at + 288 ≤ length (now out) ⌝ }
-    ensures { λ r. ⌜ AddsWithin 288 (series (rowRule w) (rows + 1)) (now (out .entry)) at (now (out .exit)) r ⌝ }
+    ensures { λ r. ⌜ AddsWithin 288 (series (rowRule w) (rowCount + 1)) (was out) at (becomes out) r ⌝ }
 {
     let mut to = at;
     let mut j = 0;
@@ -106,7 +107,7 @@ fn put_row_rules(out: &mut [u8], at: usize, w: u64) -> usize
 // The lines between the rows.
 fn put_row_path(out: &mut [u8], at: usize, w: u64) -> usize
     requires { ⌜ at + 320 ≤ length (now out) ⌝ }
-    ensures { λ r. ⌜ AddsWithin 320 (rowRules w) (now (out .entry)) at (now (out .exit)) r ⌝ }
+    ensures { λ r. ⌜ AddsWithin 320 (rowRules w) (was out) at (becomes out) r ⌝ }
 {
     let rules = put(out, at, b"<path stroke=\"gray\" d=\"");
     let to = put_row_rules(out, rules, w);
@@ -116,7 +117,7 @@ fn put_row_path(out: &mut [u8], at: usize, w: u64) -> usize
 // The hour h of n, as the clock shows it.
 fn put_hour_text(out: &mut [u8], at: usize, n: usize, h: usize) -> usize
     requires { ⌜ (n ≤ mostHours) × (h < n) × (at + 70 ≤ length (now out)) ⌝ }
-    ensures { λ r. ⌜ AddsWithin 70 (hourSvg n h) (now (out .entry)) at (now (out .exit)) r ⌝ }
+    ensures { λ r. ⌜ AddsWithin 70 (hourSvg n h) (was out) at (becomes out) r ⌝ }
 {
     let hour = clock_hour(n, h) as u64;
     let numbers = [114 + 32 * h as u64, hour];
@@ -126,7 +127,7 @@ fn put_hour_text(out: &mut [u8], at: usize, n: usize, h: usize) -> usize
 // The hours of a day of n hours.
 fn put_hour_texts(out: &mut [u8], at: usize, n: usize) -> usize
     requires { ⌜ (n ≤ mostHours) × (at + 1750 ≤ length (now out)) ⌝ }
-    ensures { λ r. ⌜ AddsWithin 1750 (series (hourSvg n) n) (now (out .entry)) at (now (out .exit)) r ⌝ }
+    ensures { λ r. ⌜ AddsWithin 1750 (series (hourSvg n) n) (was out) at (becomes out) r ⌝ }
 {
     let mut to = at;
     let mut h = 0;
@@ -140,7 +141,7 @@ fn put_hour_texts(out: &mut [u8], at: usize, n: usize) -> usize
 // What stands before the rows of n quarters.
 fn put_frame(out: &mut [u8], at: usize, n: usize) -> usize
     requires { ⌜ (n ≤ mostQuarters) × (at + frameRoom ≤ length (now out)) ⌝ }
-    ensures { λ r. ⌜ AddsWithin frameRoom (frameSvg n) (now (out .entry)) at (now (out .exit)) r ⌝ }
+    ensures { λ r. ⌜ AddsWithin frameRoom (frameSvg n) (was out) at (becomes out) r ⌝ }
 {
     let w = 8 * n as u64;
     let hours = put_head(out, at, w);
@@ -152,7 +153,7 @@ fn put_frame(out: &mut [u8], at: usize, n: usize) -> usize
 // A name at a height.
 fn put_label(out: &mut [u8], at: usize, y: u64, name: &[u8]) -> usize
     requires { ⌜ (length (now name) ≤ 14) × (at + 60 ≤ length (now out)) ⌝ }
-    ensures { λ r. ⌜ AddsWithin 60 (nameSvg y (now (name .entry))) (now (out .entry)) at (now (out .exit)) r ⌝ }
+    ensures { λ r. ⌜ AddsWithin 60 (nameSvg y (was name)) (was out) at (becomes out) r ⌝ }
 {
     let numbers = [y];
     let word = fill(out, at, b"<text x=\"6\" y=\"{\">", &numbers);
@@ -162,8 +163,8 @@ fn put_label(out: &mut [u8], at: usize, y: u64, name: &[u8]) -> usize
 
 // The name of a row.
 fn put_row_label(out: &mut [u8], at: usize, row: usize) -> usize
-    requires { ⌜ (row < rows) × (at + 60 ≤ length (now out)) ⌝ }
-    ensures { λ r. ⌜ AddsWithin 60 (nameSvg (49 + 24 * row) (rowName row)) (now (out .entry)) at (now (out .exit)) r ⌝ }
+    requires { ⌜ (row < rowCount) × (at + 60 ≤ length (now out)) ⌝ }
+    ensures { λ r. ⌜ AddsWithin 60 (nameSvg (49 + 24 * row) (rowName row)) (was out) at (becomes out) r ⌝ }
 {
     let numbers = [49 + 24 * row as u64];
     let word = fill(out, at, b"<text x=\"6\" y=\"{\">", &numbers);
@@ -174,7 +175,7 @@ fn put_row_label(out: &mut [u8], at: usize, row: usize) -> usize
 // A total behind the quarters, which are w wide, at a height.
 fn put_total(out: &mut [u8], at: usize, w: u64, y: u64, n: u64) -> usize
     requires { ⌜ (w ≤ 800) × (at + textRoom ≤ length (now out)) ⌝ }
-    ensures { λ r. ⌜ AddsWithin textRoom (totalSvg w y n) (now (out .entry)) at (now (out .exit)) r ⌝ }
+    ensures { λ r. ⌜ AddsWithin textRoom (totalSvg w y n) (was out) at (becomes out) r ⌝ }
 {
     let numbers = [w + 192, y];
     let clock = fill(
@@ -190,7 +191,7 @@ fn put_total(out: &mut [u8], at: usize, w: u64, y: u64, n: u64) -> usize
 // The colour of a row's marks.
 fn put_ink(out: &mut [u8], at: usize, row: usize) -> usize
     requires { ⌜ at + 4 ≤ length (now out) ⌝ }
-    ensures { λ r. ⌜ AddsWithin 4 (inkOf row) (now (out .entry)) at (now (out .exit)) r ⌝ }
+    ensures { λ r. ⌜ AddsWithin 4 (inkOf row) (was out) at (becomes out) r ⌝ }
 {
     if row == UNRECORDED {
         return put(out, at, b"red");
@@ -201,7 +202,7 @@ fn put_ink(out: &mut [u8], at: usize, row: usize) -> usize
 // What stands before a row's marks.
 fn put_ink_head(out: &mut [u8], at: usize, row: usize) -> usize
     requires { ⌜ at + 40 ≤ length (now out) ⌝ }
-    ensures { λ r. ⌜ AddsWithin 40 (inkSvg row) (now (out .entry)) at (now (out .exit)) r ⌝ }
+    ensures { λ r. ⌜ AddsWithin 40 (inkSvg row) (was out) at (becomes out) r ⌝ }
 {
     let ink = put(out, at, b"<path stroke=\"");
     let to = put_ink(out, ink, row);
@@ -210,8 +211,8 @@ fn put_ink_head(out: &mut [u8], at: usize, row: usize) -> usize
 
 // One mark of a row.
 fn put_one(out: &mut [u8], at: usize, row: usize, q: usize) -> usize
-    requires { ⌜ (row < rows) × (q < mostQuarters) × (at + markRoom ≤ length (now out)) ⌝ }
-    ensures { λ r. ⌜ AddsWithin markRoom (markAt row q) (now (out .entry)) at (now (out .exit)) r ⌝ }
+    requires { ⌜ (row < rowCount) × (q < mostQuarters) × (at + markRoom ≤ length (now out)) ⌝ }
+    ensures { λ r. ⌜ AddsWithin markRoom (markAt row q) (was out) at (becomes out) r ⌝ }
 {
     let numbers = [112 + 8 * q as u64, 44 + 24 * row as u64];
     fill(out, at, b"M{ {h8", &numbers)
@@ -229,8 +230,8 @@ fn put_mark(
     out: &mut [u8],
     at: usize,
 ) -> usize
-    requires { ⌜ Quarter (stored count (now starts) (now ends) (now values)) start q × (row < rows) × (q < mostQuarters) × (at + markRoom ≤ length (now out)) ⌝ }
-    ensures { λ r. ⌜ AddsWithin markRoom (markSvg (ranges halfOpen (stored count (now (starts .entry)) (now (ends .entry)) (now (values .entry)))) start row q) (now (out .entry)) at (now (out .exit)) r ⌝ }
+    requires { ⌜ Quarter (stored count (now starts) (now ends) (now values)) start q × (row < rowCount) × (q < mostQuarters) × (at + markRoom ≤ length (now out)) ⌝ }
+    ensures { λ r. ⌜ AddsWithin markRoom (markSvg (ranges halfOpen (atEntryWith count starts ends values)) start row q) (was out) at (becomes out) r ⌝ }
 {
     if is_marked(count, starts, ends, values, start, row, q) {
         return put_one(out, at, row, q);
@@ -250,8 +251,8 @@ fn put_marks(
     out: &mut [u8],
     at: usize,
 ) -> usize
-    requires { ⌜ Quarters (stored count (now starts) (now ends) (now values)) start n × (row < rows) × (at + marksRoom ≤ length (now out)) ⌝ }
-    ensures { λ r. ⌜ AddsWithin marksRoom (series (markSvg (ranges halfOpen (stored count (now (starts .entry)) (now (ends .entry)) (now (values .entry)))) start row) n) (now (out .entry)) at (now (out .exit)) r ⌝ }
+    requires { ⌜ Quarters (stored count (now starts) (now ends) (now values)) start n × (row < rowCount) × (at + marksRoom ≤ length (now out)) ⌝ }
+    ensures { λ r. ⌜ AddsWithin marksRoom (series (markSvg (ranges halfOpen (atEntryWith count starts ends values)) start row) n) (was out) at (becomes out) r ⌝ }
 {
     let mut to = at;
     let mut q = 0;
@@ -274,8 +275,8 @@ fn put_marks_path(
     out: &mut [u8],
     at: usize,
 ) -> usize
-    requires { ⌜ Quarters (stored count (now starts) (now ends) (now values)) start n × (row < rows) × (at + 4650 ≤ length (now out)) ⌝ }
-    ensures { λ r. ⌜ AddsWithin 4650 (marksSvg (ranges halfOpen (stored count (now (starts .entry)) (now (ends .entry)) (now (values .entry)))) start n row) (now (out .entry)) at (now (out .exit)) r ⌝ }
+    requires { ⌜ Quarters (stored count (now starts) (now ends) (now values)) start n × (row < rowCount) × (at + 4650 ≤ length (now out)) ⌝ }
+    ensures { λ r. ⌜ AddsWithin 4650 (marksSvg (ranges halfOpen (atEntryWith count starts ends values)) start n row) (was out) at (becomes out) r ⌝ }
 {
     let marks = put_ink_head(out, at, row);
     let to = put_marks(count, starts, ends, values, start, n, row, out, marks);
@@ -295,8 +296,8 @@ fn put_row(
     out: &mut [u8],
     at: usize,
 ) -> usize
-    requires { ⌜ Quarters (stored count (now starts) (now ends) (now values)) start n × (row < rows) × (at + rowRoom ≤ length (now out)) ⌝ }
-    ensures { λ r. ⌜ AddsWithin rowRoom (rowSvg (ranges halfOpen (stored count (now (starts .entry)) (now (ends .entry)) (now (values .entry)))) start n t row) (now (out .entry)) at (now (out .exit)) r ⌝ }
+    requires { ⌜ Quarters (stored count (now starts) (now ends) (now values)) start n × (row < rowCount) × (at + rowRoom ≤ length (now out)) ⌝ }
+    ensures { λ r. ⌜ AddsWithin rowRoom (rowSvg (ranges halfOpen (atEntryWith count starts ends values)) start n t row) (was out) at (becomes out) r ⌝ }
 {
     let path = put_row_label(out, at, row);
     let to = put_marks_path(count, starts, ends, values, start, n, row, out, path);
@@ -316,8 +317,8 @@ fn put_rows(
     out: &mut [u8],
     at: usize,
 ) -> usize
-    requires { ⌜ Quarters (stored count (now starts) (now ends) (now values)) start n × (at + rows * rowRoom ≤ length (now out)) ⌝ }
-    ensures { λ r. ⌜ AddsWithin (rows * rowRoom) (series (rowSvg (ranges halfOpen (stored count (now (starts .entry)) (now (ends .entry)) (now (values .entry)))) start n t) rows) (now (out .entry)) at (now (out .exit)) r ⌝ }
+    requires { ⌜ Quarters (stored count (now starts) (now ends) (now values)) start n × (at + rowCount * rowRoom ≤ length (now out)) ⌝ }
+    ensures { λ r. ⌜ AddsWithin (rowCount * rowRoom) (series (rowSvg (ranges halfOpen (atEntryWith count starts ends values)) start n t) rowCount) (was out) at (becomes out) r ⌝ }
 {
     let mut to = at;
     let mut row = 0;
@@ -331,7 +332,7 @@ fn put_rows(
 // What stands behind the rows.
 fn put_foot(out: &mut [u8], at: usize, n: usize, sum: u64) -> usize
     requires { ⌜ (n ≤ mostQuarters) × (at + footRoom ≤ length (now out)) ⌝ }
-    ensures { λ r. ⌜ AddsWithin footRoom (footSvg n sum) (now (out .entry)) at (now (out .exit)) r ⌝ }
+    ensures { λ r. ⌜ AddsWithin footRoom (footSvg n sum) (was out) at (becomes out) r ⌝ }
 {
     let total = put_label(out, at, 169, b"sum");
     let to = put_total(out, total, 8 * n as u64, 169, sum);
@@ -350,7 +351,7 @@ pub fn svg_text(
     out: &mut [u8; SVG_ROOM],
 ) -> usize
     requires { ⌜ Drawable (stored count (now starts) (now ends) (now values)) start end ⌝ }
-    ensures { λ r. ⌜ AddsWithin svgRoom (svgText (ranges halfOpen (stored count (now (starts .entry)) (now (ends .entry)) (now (values .entry)))) start end t) (now (out .entry)) 0 (now (out .exit)) r ⌝ }
+    ensures { λ r. ⌜ AddsWithin svgRoom (svgText (ranges halfOpen (atEntryWith count starts ends values)) start end t) (was out) 0 (becomes out) r ⌝ }
 {
     let n = quarters_of(start, end);
     let first = put_frame(out, 0, n);

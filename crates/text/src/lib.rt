@@ -3,12 +3,13 @@ ghost use mathlib.Core.List.{[], _∷_};
 ghost use Prim.Native.Nat.{_+_, _-_, _<_, _≤_, max};
 ghost use mathlib.Core.Path.{_≡_};
 ghost use lib.ListN.{length, replicate};
+ghost use Rattle.lent.specs.Moments.{was, becomes};
 ghost use Rattle.text.specs.Text.{space, Adds, rightOf, leftOf};
 
 // A text as it is.
 pub fn put(out: &mut [u8], at: usize, text: &[u8]) -> usize
     requires { ⌜ at + length (now text) ≤ length (now out) ⌝ }
-    ensures { λ r. ⌜ Adds (now (text .entry)) (now (out .entry)) at (now (out .exit)) r ⌝ }
+    ensures { λ r. ⌜ Adds (was text) (was out) at (becomes out) r ⌝ }
 {
     let mut i = 0;
     while i < text.len() {
@@ -21,7 +22,7 @@ pub fn put(out: &mut [u8], at: usize, text: &[u8]) -> usize
 // A text of one byte.
 pub fn put_byte(out: &mut [u8], at: usize, byte: u8) -> usize
     requires { ⌜ at < length (now out) ⌝ }
-    ensures { λ r. ⌜ Adds (byte ∷ []) (now (out .entry)) at (now (out .exit)) r ⌝ }
+    ensures { λ r. ⌜ Adds (byte ∷ []) (was out) at (becomes out) r ⌝ }
 {
     out[at] = byte;
     at + 1
@@ -30,7 +31,7 @@ pub fn put_byte(out: &mut [u8], at: usize, byte: u8) -> usize
 // n spaces.
 pub fn put_spaces(out: &mut [u8], at: usize, n: usize) -> usize
     requires { ⌜ at + n ≤ length (now out) ⌝ }
-    ensures { λ r. ⌜ Adds (replicate n space) (now (out .entry)) at (now (out .exit)) r ⌝ }
+    ensures { λ r. ⌜ Adds (replicate n space) (was out) at (becomes out) r ⌝ }
 {
     let mut i = 0;
     while i < n {
@@ -50,7 +51,7 @@ fn left_of_width(width: usize, n: usize) -> usize
 // A text at the right of its columns. One that is wider than they are stands whole.
 pub fn put_right(out: &mut [u8], at: usize, width: usize, text: &[u8]) -> usize
     requires { ⌜ at + max width (length (now text)) ≤ length (now out) ⌝ }
-    ensures { λ r. ⌜ Adds (rightOf width (now (text .entry))) (now (out .entry)) at (now (out .exit)) r ⌝ }
+    ensures { λ r. ⌜ Adds (rightOf width (was text)) (was out) at (becomes out) r ⌝ }
 {
     let n = left_of_width(width, text.len());
     let to = put_spaces(out, at, n);
@@ -60,7 +61,7 @@ pub fn put_right(out: &mut [u8], at: usize, width: usize, text: &[u8]) -> usize
 // A text at the left of its columns. One that is wider than they are stands whole.
 pub fn put_left(out: &mut [u8], at: usize, width: usize, text: &[u8]) -> usize
     requires { ⌜ at + max width (length (now text)) ≤ length (now out) ⌝ }
-    ensures { λ r. ⌜ Adds (leftOf width (now (text .entry))) (now (out .entry)) at (now (out .exit)) r ⌝ }
+    ensures { λ r. ⌜ Adds (leftOf width (was text)) (was out) at (becomes out) r ⌝ }
 {
     let n = left_of_width(width, text.len());
     let to = put(out, at, text);

@@ -13,7 +13,7 @@ use lib.ListN.{length-set}
 use Rattle.span.specs.Span.{Span}
 use Rattle.key.specs.Rank.{keyAt}
 use Rattle.key.specs.Range.{Kind}
-use Rattle.range_list.specs.InnerLists.{Room, Puts}
+use Rattle.range_list.specs.InnerLists.{ListRoom, Puts}
 use Rattle.two_sets.specs.InnerLists.{Counting, Going, Ended}
 
 -- one range more is counted, or none
@@ -51,11 +51,11 @@ module _ (kind : Kind) {n : ℕ} {os oe : List ℤ} {goal : List Span} where
 
   module _ {at : ℕ} {todo : List Span} {os₁ oe₁ : List ℤ} (g : Going kind n os oe goal at todo os₁ oe₁) where
     -- there is a place for the next range
-    pub going-room : 0 < length todo → Room n goal os oe → (at < length os₁) × (at < length oe₁)
+    pub going-room : 0 < length todo → ListRoom n goal os oe → (at < length os₁) × (at < length oe₁)
     going-room h r = (omega (arith, g .count, g .starts-as, r .starts), omega (arith, g .count, g .ends-as, r .ends))
 
     -- and for all that are left
-    pub going-rest : Room n goal os oe → Room at todo os₁ oe₁
+    pub going-rest : ListRoom n goal os oe → ListRoom at todo os₁ oe₁
     going-rest r = record { starts = omega (arith, g .count, g .starts-as, r .starts); ends = omega (arith, g .count, g .ends-as, r .ends) }
 
     -- the open range x is written: it is done, or it stays open
@@ -85,7 +85,7 @@ from-first w = (omega (arith, w .count), w .puts)
 
 -- nothing was written before, and all is written now; and there is nothing to write
 module _ (kind : Kind) {os oe os₁ oe₁ : List ℤ} {goal todo : List Span} (s : os₁ ≡ os) (e : oe₁ ≡ oe) (t : goal ≡ todo) where
-  pub first-room : Room 0 goal os oe → Room 0 todo os₁ oe₁
+  pub first-room : ListRoom 0 goal os oe → ListRoom 0 todo os₁ oe₁
   first-room r = rw (s, e, ← t) r
 
   pub first-written : {r : ℕ} {os₂ oe₂ : List ℤ} → Ended kind 0 todo os₁ oe₁ r os₂ oe₂ → Ended kind 0 goal os oe r os₂ oe₂

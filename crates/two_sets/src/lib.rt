@@ -1,6 +1,7 @@
 // What the walks over two sets share, for either kind of range. A walk has no branch that depends on the keys: what would be a branch is a choice
 // of two values, since no processor foresees which of two sets comes next.
 use key::RangeKind;
+use key::Value;
 use key::full;
 use outcomes::PLACES;
 use store::plain::is_set;
@@ -10,7 +11,7 @@ ghost use Prim.Native.Nat.{_+_, _≤_};
 ghost use lib.Dec.{ltb};
 ghost use Rattle.key.specs.Rank.{rank};
 ghost use Rattle.key.specs.Range.{kindOf};
-ghost use Rattle.outcomes.specs.Stored.{stored};
+ghost use Rattle.outcomes.specs.Stored.{atEntryWith};
 ghost use Rattle.outcomes.specs.Sets.{formedSet, SoundSet};
 ghost use Rattle.two_sets.specs.InnerKind.{wide};
 
@@ -29,16 +30,16 @@ pub fn are_sets(
     count_a: usize,
     starts_a: &[i64; PLACES],
     ends_a: &[i64; PLACES],
-    values_a: &[u8; PLACES],
+    values_a: &[Value; PLACES],
     count_b: usize,
     starts_b: &[i64; PLACES],
     ends_b: &[i64; PLACES],
-    values_b: &[u8; PLACES],
+    values_b: &[Value; PLACES],
 ) -> bool
-    ensures { λ r. ⌜ r ≡ (formedSet (kindOf kind) (stored «count_a» (now («starts_a» .entry)) (now («ends_a» .entry)) (now («values_a» .entry)))
-        && formedSet (kindOf kind) (stored «count_b» (now («starts_b» .entry)) (now («ends_b» .entry)) (now («values_b» .entry)))) ⌝ }
-    ensures { λ r. ⌜ (r ≡ true → SoundSet (kindOf kind) (stored «count_a» (now («starts_a» .entry)) (now («ends_a» .entry)) (now («values_a» .entry)))
-        × SoundSet (kindOf kind) (stored «count_b» (now («starts_b» .entry)) (now («ends_b» .entry)) (now («values_b» .entry)))) ⌝ }
+    ensures { λ r. ⌜ r ≡ (formedSet (kindOf kind) (atEntryWith «count_a» «starts_a» «ends_a» «values_a»)
+        && formedSet (kindOf kind) (atEntryWith «count_b» «starts_b» «ends_b» «values_b»)) ⌝ }
+    ensures { λ r. ⌜ (r ≡ true → SoundSet (kindOf kind) (atEntryWith «count_a» «starts_a» «ends_a» «values_a»)
+        × SoundSet (kindOf kind) (atEntryWith «count_b» «starts_b» «ends_b» «values_b»)) ⌝ }
 {
     if !is_set(kind, count_a, starts_a, ends_a, values_a) {
         return false;

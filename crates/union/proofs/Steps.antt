@@ -21,12 +21,12 @@ use Rattle.key.proofs.Answers.{never}
 use Rattle.key.specs.Range.{kindOf}
 use Rattle.key.specs.declared.RangeKind.{RangeKind}
 use Rattle.two_sets.specs.InnerKind.{wide}
-use Rattle.range_list.specs.InnerColumns.{rows, rest}
+use Rattle.range_list.specs.InnerColumns.{listed, rest}
 use Rattle.two_sets.specs.InnerSides.{Side}
 use Rattle.two_sets.proofs.Columns.{length-rows, spaced-rest, rest-more, rest-none, rest-all}
 use Rattle.two_sets.specs.InnerLists.{Counting, Going}
 use Rattle.two_sets.proofs.Writing.{counting-step, going-step}
-use Rattle.union.specs.InnerFound.{either, openFrom, Opened, Takes, Next}
+use Rattle.union.specs.InnerFound.{either, openFrom, Opened, Takes, TakesNext}
 use Rattle.union.specs.declared.walk.Taken.{Taken}
 
 -- THE NEXT RANGE: of one set where the other is at its end, and else of the one that starts first
@@ -35,15 +35,15 @@ alone : {ss es ts : List ℤ} {n m k l : ℕ} (r : Taken) → k < n → m ≤ l
 alone r there h s e = record { there = there; start = s; end = e; first = λ i. absurd (omega arith) }
 
 module _ {ss es ts us : List ℤ} {n m k l : ℕ} (r : Taken) (there : k < n) where
-  pub next-left : m ≤ l → r .left ≡ true → rank (r .start) ≡ rank (getD ss k (pos 0)) → rank (r .end) ≡ rank (getD es k (pos 0)) → Next ss es n k ts us m l r
+  pub next-left : m ≤ l → r .left ≡ true → rank (r .start) ≡ rank (getD ss k (pos 0)) → rank (r .end) ≡ rank (getD es k (pos 0)) → TakesNext ss es n k ts us m l r
   next-left h f s e = record { lefts = λ _. alone r there h s e; rights = λ g. never (sym g ∙ f) }
 
-  pub next-right : m ≤ l → r .left ≡ false → rank (r .start) ≡ rank (getD ss k (pos 0)) → rank (r .end) ≡ rank (getD es k (pos 0)) → Next ts us m l ss es n k r
+  pub next-right : m ≤ l → r .left ≡ false → rank (r .start) ≡ rank (getD ss k (pos 0)) → rank (r .end) ≡ rank (getD es k (pos 0)) → TakesNext ts us m l ss es n k r
   next-right h f s e = record { lefts = λ g. never (sym f ∙ g); rights = λ _. alone r there h s e }
 
   pub next-both : l < m → r .left ≡ ltb (rank (getD ss k (pos 0))) (rank (getD ts l (pos 0)))
       → rank (r .start) ≡ cond (r .left) (rank (getD ss k (pos 0))) (rank (getD ts l (pos 0)))
-      → rank (r .end) ≡ cond (r .left) (rank (getD es k (pos 0))) (rank (getD us l (pos 0))) → Next ss es n k ts us m l r
+      → rank (r .end) ≡ cond (r .left) (rank (getD es k (pos 0))) (rank (getD us l (pos 0))) → TakesNext ss es n k ts us m l r
   next-both h f s e = record {
     lefts = λ g. record {
       there = there;
@@ -129,9 +129,9 @@ turned false xs ys = refl
 module _ (kind : RangeKind) {sa ea sb eb : List ℤ} {na nb : ℕ} (a : Side (kindOf kind) sa ea na) (b : Side (kindOf kind) sb eb nb) where
   -- at most as many as the sets have together
   pub most : length (either kind sa ea na sb eb nb) ≤ na + nb
-  most = omega (arith, length-united (rows (kindOf kind) sa ea na) (rows (kindOf kind) sb eb nb), length-rows (kindOf kind) a, length-rows (kindOf kind) b)
+  most = omega (arith, length-united (listed (kindOf kind) sa ea na) (listed (kindOf kind) sb eb nb), length-rows (kindOf kind) a, length-rows (kindOf kind) b)
 
-  module _ {i j lo h : ℕ} (o : Opened kind lo h sa ea na i sb eb nb j) (r : Taken) (t : Next sa ea na i sb eb nb j r) where
+  module _ {i j lo h : ℕ} (o : Opened kind lo h sa ea na i sb eb nb j) (r : Taken) (t : TakesNext sa ea na i sb eb nb j r) where
     by-left : (left : Bool) → r .left ≡ left →
         let s = rank (r .start) in
         let joins = ltb s (wide kind + h) in
@@ -199,7 +199,7 @@ module _ (kind : RangeKind) {sa ea sb eb : List ℤ} {na nb : ℕ} (a : Side (ki
       (absorb-apart (span lo (wide kind + h) 0) [] (o .full) tt)
 
   -- THE FIRST range that is taken is the open one
-  module _ (r : Taken) (t : Next sa ea na 0 sb eb nb 0 r) where
+  module _ (r : Taken) (t : TakesNext sa ea na 0 sb eb nb 0 r) where
     first-by : (left : Bool) → r .left ≡ left
         → (either kind sa ea na sb eb nb ≡ openFrom kind (rank (r .start)) (rank (r .end)) sa ea na (boolByte left) sb eb nb (boolByte (not left)))
         × Opened kind (rank (r .start)) (rank (r .end)) sa ea na (boolByte left) sb eb nb (boolByte (not left))
@@ -229,7 +229,7 @@ module _ (kind : RangeKind) {sa ea sb eb : List ℤ} {na nb : ℕ} (a : Side (ki
       (united-none [])
 
   -- COUNTING and WRITING, after a step
-  module _ {i j lo h : ℕ} (o : Opened kind lo h sa ea na i sb eb nb j) (r : Taken) (t : Next sa ea na i sb eb nb j r) (joins : Bool) {lo₁ h₁ : ℕ}
+  module _ {i j lo h : ℕ} (o : Opened kind lo h sa ea na i sb eb nb j) (r : Taken) (t : TakesNext sa ea na i sb eb nb j r) (joins : Bool) {lo₁ h₁ : ℕ}
       (p : joins ≡ ltb (rank (r .start)) (wide kind + h)) (l : lo₁ ≡ cond joins lo (rank (r .start))) (q : h₁ ≡ max h (rank (r .end))) where
     pub still-open : OpenedNext kind lo₁ h₁ sa ea na i sb eb nb j (r .left)
     still-open = step-open o r t joins p l q .1

@@ -10,14 +10,14 @@ use Rattle.span.specs.Operations.{absorb, united}
 use Rattle.key.specs.Rank.{rank}
 use Rattle.key.specs.Range.{kindOf}
 use Rattle.key.specs.declared.RangeKind.{RangeKind}
-use Rattle.range_list.specs.InnerColumns.{rows, rest}
+use Rattle.range_list.specs.InnerColumns.{listed, rest}
 use Rattle.two_sets.specs.InnerKind.{wide}
 use Rattle.two_sets.specs.declared.Position.{Position}
 use Rattle.union.specs.declared.walk.Taken.{Taken}
 
 -- the union of the two sets
 abbrev pub either : RangeKind → List ℤ → List ℤ → ℕ → List ℤ → List ℤ → ℕ → List Span
-either kind sa ea na sb eb nb = united (rows (kindOf kind) sa ea na) (rows (kindOf kind) sb eb nb)
+either kind sa ea na sb eb nb = united (listed (kindOf kind) sa ea na) (listed (kindOf kind) sb eb nb)
 
 -- what is still to be written where a range of the ranks from s to e is open: it, laid into the union from place i of the first set
 -- and place j of the second on
@@ -53,6 +53,6 @@ pub record Takes (ss es : List ℤ) (n k : ℕ) (ts : List ℤ) (m l : ℕ) (r :
   pub first : l < m → rank (getD ss k (pos 0)) ≤ rank (getD ts l (pos 0))
 
 -- it is taken from the left set, or from the right one
-pub record Next (sa ea : List ℤ) (na i : ℕ) (sb eb : List ℤ) (nb j : ℕ) (r : Taken) : Type 0 where
+pub record TakesNext (sa ea : List ℤ) (na i : ℕ) (sb eb : List ℤ) (nb j : ℕ) (r : Taken) : Type 0 where
   pub lefts : r .left ≡ true → Takes sa ea na i sb nb j r
   pub rights : r .left ≡ false → Takes sb eb nb j sa na i r

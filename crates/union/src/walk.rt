@@ -9,13 +9,14 @@ ghost use mathlib.Core.Path.{_≡_};
 ghost use Prim.Native.Nat.{_+_, _≤_, _<_};
 ghost use lib.Dec.{ltb};
 ghost use lib.ListN.{length};
+ghost use Rattle.lent.specs.Moments.{was, becomes};
 ghost use Rattle.key.specs.Rank.{rank};
 ghost use Rattle.key.specs.Range.{kindOf};
-ghost use Rattle.range_list.specs.InnerLists.{Room};
+ghost use Rattle.range_list.specs.InnerLists.{ListRoom};
 ghost use Rattle.two_sets.specs.InnerKind.{wide};
 ghost use Rattle.two_sets.specs.InnerSides.{Side};
 ghost use Rattle.two_sets.specs.InnerLists.{Ended};
-ghost use Rattle.union.specs.InnerFound.{openAt, OpenedAt, Next, First};
+ghost use Rattle.union.specs.InnerFound.{openAt, OpenedAt, TakesNext, First};
 
 // A range that is taken, and whether it is the left set's.
 struct Taken {
@@ -38,7 +39,7 @@ fn next(
     requires { ⌜ («count_a» ≤ length (now «starts_a»)) × (length (now «ends_a») ≡ length (now «starts_a»))
         × («count_b» ≤ length (now «starts_b»)) × (length (now «ends_b») ≡ length (now «starts_b»))
         × (i ≤ «count_a») × (j ≤ «count_b») × (i + j < «count_a» + «count_b») ⌝ }
-    ensures { λ r. ⌜ Next (now («starts_a» .entry)) (now («ends_a» .entry)) «count_a» i (now («starts_b» .entry)) (now («ends_b» .entry)) «count_b» j r ⌝ }
+    ensures { λ r. ⌜ TakesNext (was «starts_a») (was «ends_a») «count_a» i (was «starts_b») (was «ends_b») «count_b» j r ⌝ }
 {
     if count_b <= j {
         return Taken {
@@ -83,7 +84,7 @@ pub fn first(
 ) -> Position
     requires { ⌜ Side (kindOf kind) (now «starts_a») (now «ends_a») «count_a»
         × Side (kindOf kind) (now «starts_b») (now «ends_b») «count_b» × (0 < «count_a» + «count_b») ⌝ }
-    ensures { λ r. ⌜ First kind (now («starts_a» .entry)) (now («ends_a» .entry)) «count_a» (now («starts_b» .entry)) (now («ends_b» .entry)) «count_b» r ⌝ }
+    ensures { λ r. ⌜ First kind (was «starts_a») (was «ends_a») «count_a» (was «starts_b») (was «ends_b») «count_b» r ⌝ }
 {
     let t = next(starts_a, ends_a, count_a, 0, starts_b, ends_b, count_b, 0);
     let i = t.left as usize;
@@ -111,8 +112,8 @@ pub fn counted_from(
     requires { ⌜ Side (kindOf kind) (now «starts_a») (now «ends_a») «count_a»
         × Side (kindOf kind) (now «starts_b») (now «ends_b») «count_b»
         × OpenedAt kind (now «starts_a») (now «ends_a») «count_a» (now «starts_b») (now «ends_b») «count_b» from ⌝ }
-    ensures { λ r. ⌜ r ≡ length (openAt kind (now («starts_a» .entry)) (now («ends_a» .entry)) «count_a»
-        (now («starts_b» .entry)) (now («ends_b» .entry)) «count_b» from) ⌝ }
+    ensures { λ r. ⌜ r ≡ length (openAt kind (was «starts_a») (was «ends_a») «count_a»
+        (was «starts_b») (was «ends_b») «count_b» from) ⌝ }
 {
     let total = count_a + count_b;
     let mut n = 0;
@@ -149,11 +150,11 @@ pub fn write_from(
     requires { ⌜ Side (kindOf kind) (now «starts_a») (now «ends_a») «count_a»
         × Side (kindOf kind) (now «starts_b») (now «ends_b») «count_b»
         × OpenedAt kind (now «starts_a») (now «ends_a») «count_a» (now «starts_b») (now «ends_b») «count_b» from
-        × Room (from .at) (openAt kind (now «starts_a») (now «ends_a») «count_a» (now «starts_b») (now «ends_b») «count_b» from)
+        × ListRoom (from .at) (openAt kind (now «starts_a») (now «ends_a») «count_a» (now «starts_b») (now «ends_b») «count_b» from)
         (now «out_starts») (now «out_ends») ⌝ }
-    ensures { λ r. ⌜ Ended (kindOf kind) (from .at) (openAt kind (now («starts_a» .entry)) (now («ends_a» .entry)) «count_a»
-        (now («starts_b» .entry)) (now («ends_b» .entry)) «count_b» from)
-        (now («out_starts» .entry)) (now («out_ends» .entry)) r (now («out_starts» .exit)) (now («out_ends» .exit)) ⌝ }
+    ensures { λ r. ⌜ Ended (kindOf kind) (from .at) (openAt kind (was «starts_a») (was «ends_a») «count_a»
+        (was «starts_b») (was «ends_b») «count_b» from)
+        (was «out_starts») (was «out_ends») r (becomes «out_starts») (becomes «out_ends») ⌝ }
 {
     let total = count_a + count_b;
     let mut at = from.at;

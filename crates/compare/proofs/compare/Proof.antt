@@ -6,7 +6,7 @@ use mathlib.Core.Path.{_≡_}
 use Rattle.key.specs.Range.{halfOpen}
 use Rattle.key.proofs.Laws.{rank-back}
 use Rattle.outcomes.specs.Stored.{Stored, stored}
-use Rattle.outcomes.specs.Outcomes.{compared}
+use Rattle.outcomes.specs.Outcomes.{orderSound}
 use Rattle.compare.proofs.Walk.{onward, all-left, passed, decided, first-left, second-left, neither-left}
 use Rattle.compare.proofs.compare.Statement.{statement}
 use Rattle.compare.proofs.compare.Tie as tie
@@ -15,7 +15,7 @@ abbrev Inv-loop : tie.InvT-loop
 Inv-loop count starts ends values count2 starts2 ends2 values2 k₀ k =
     let a = stored count starts ends values in
     let b = stored count2 starts2 ends2 values2 in
-    (k ≤ count) × (k ≤ count2) × (compared halfOpen a b ≡ onward a b k)
+    (k ≤ count) × (k ≤ count2) × (orderSound halfOpen a b ≡ onward a b k)
 
 abbrev μ-loop : tie.MeasureT-loop
 μ-loop count starts ends values count2 starts2 ends2 values2 k₀ k = count - k

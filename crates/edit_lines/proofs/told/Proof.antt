@@ -1,7 +1,7 @@
 -- `edit_lines::told` meets its contract.
 use mathlib.Core.Path.{ap, sym}
 use borrow.Author.Needs.{needs}
-use Rattle.edit_lines.specs.InnerStep.{toldOf}
+use Rattle.edit_lines.specs.InnerStep.{madeBy}
 use Rattle.edit_lines.proofs.told.Statement.{statement}
 use Rattle.edit_lines.proofs.told.Tie as tie
 
@@ -15,7 +15,7 @@ returns : tie.Need-returns
 returns c = search needs
 
 returns-2 : tie.Need-returns-2
-returns-2 c = ap (toldOf (c .before .before .before .args .n)) (sym (c .before .went .given .1))
+returns-2 c = ap (madeBy (c .before .before .before .args .n)) (sym (c .before .went .given .1))
 
 pub told-spec : {M : Type 1} → statement M
 told-spec = tie.close (tie.spec enum-told enum-known-went returns returns-2)

@@ -11,7 +11,7 @@ use Rattle.key.proofs.Laws.{rank-back}
 use Rattle.key.specs.Range.{kindOf}
 use Rattle.two_sets.proofs.Writing.{first-room, first-written, none-written}
 use Rattle.two_sets.proofs.Columns.{one-goes}
-use Rattle.intersection.specs.InnerFound.{shared, sharedFrom, piece}
+use Rattle.intersection.specs.InnerFound.{shared, sharedFrom, openSpan}
 use Rattle.intersection.proofs.Steps.{found-all, found-none, found-no, first-found, none-found, sharedNext}
 use Rattle.intersection.proofs.write.Statement.{statement}
 use Rattle.intersection.proofs.write.Tie as tie
@@ -66,7 +66,7 @@ on-b c = omega (arith, one-goes (c .step .result .left), right-in (c .before))
 -- what is still to be written, once the first range is found
 opened : (c : tie.Then2 Inv-loop μ-loop) → let st = c .before .before .before in let l = turn st .loop in let a = entry (turn st) .args in
     shared (a .kind) (a .starts-a .now) (a .ends-a .now) (a .count-a) (a .starts-b .now) (a .ends-b .now) (a .count-b)
-    ≡ piece (a .kind) (st .step .result .start) (st .step .result .end)
+    ≡ openSpan (a .kind) (st .step .result .start) (st .step .result .end)
     ∷ sharedNext (a .kind) (a .starts-a .now) (a .ends-a .now) (a .count-a) (l .i) (a .starts-b .now) (a .ends-b .now) (a .count-b) (l .j)
     (st .step .result .left)
 opened c =

@@ -1,6 +1,6 @@
 -- `log_day::changes_clock` meets its contract.
 use mathlib.Core.Path.{refl}
-use Rattle.log_day.specs.Days.{changes}
+use Rattle.log_day.specs.Days.{changesClock}
 use borrow.Author.Needs.{needs}
 use Rattle.log_day.proofs.changes_clock.Statement.{statement}
 use Rattle.log_day.proofs.changes_clock.Tie as tie
@@ -9,7 +9,7 @@ array-read-result : tie.Need-array-read-result
 array-read-result c = search needs
 
 returns : tie.Need-returns
-unfolding changes
+unfolding changesClock
 returns c = refl
 
 pub changes-clock-spec : {M : Type 1} → statement M

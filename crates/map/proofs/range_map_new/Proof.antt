@@ -1,12 +1,12 @@
 -- `map::range_map_new` meets its contract.
 use mathlib.Core.Path.{refl}
 use Rattle.outcomes.specs.Stored.{filled, storing}
-use Rattle.outcomes.specs.Outcomes.{cleared}
+use Rattle.outcomes.specs.Outcomes.{clear}
 use Rattle.map.proofs.range_map_new.Statement.{statement}
 use Rattle.map.proofs.range_map_new.Tie as tie
 
 returns : tie.Need-returns
-unfolding cleared storing filled
+unfolding clear storing filled
 returns c = refl
 
 pub range-map-new-spec : {M : Type 1} → statement M

@@ -1,7 +1,7 @@
 -- `map_abi::gaps_unchecked` meets its contract.
 use mathlib.Core.Path.{ap, _∙_}
 use mir.Facts.{toZ-ofZ}
-use Rattle.outcomes.specs.Numbers.{countOf}
+use Rattle.outcomes.specs.Numbers.{countedInC}
 use Rattle.outcomes.specs.Outcomes.{Written}
 use borrow.Author.Needs.{needs}
 use Rattle.map_abi.proofs.gaps_unchecked.Statement.{statement}
@@ -24,7 +24,7 @@ returns c =
     let s = c .before .before .before .before .before .before .before .before .before .before in
     let w = rw (toZ-ofZ (s .fits .start), toZ-ofZ (s .fits .end)) at (c .before .before .before .gaps .ensures) in
     record {
-      number = c .count-of .ensures ∙ ap (λ (x : Written). countOf (x .answer)) w;
+      number = c .count-of .ensures ∙ ap (λ (x : Written). countedInC (x .answer)) w;
       starts-are = ap (λ (x : Written). x .starts) w;
       ends-are = ap (λ (x : Written). x .ends) w;
     }

@@ -1,7 +1,7 @@
 -- `map_abi::get_key_value` meets its contract.
 use mathlib.Core.Path.{ap, _∙_}
 use mir.Facts.{toZ-ofZ}
-use Rattle.outcomes.specs.Numbers.{rangeOf}
+use Rattle.outcomes.specs.Numbers.{foundInC}
 use borrow.Author.Needs.{needs}
 use Rattle.map_abi.proofs.get_key_value.Statement.{statement}
 use Rattle.map_abi.proofs.get_key_value.Tie as tie
@@ -15,7 +15,7 @@ range-of-requires c κs = search needs
 returns : tie.Need-returns
 returns c =
     let s = c .before .before in
-    c .range-of .ensures ∙ ap rangeOf (rw (toZ-ofZ (s .fits .key)) at (c .before .get-key-value .ensures))
+    c .range-of .ensures ∙ ap foundInC (rw (toZ-ofZ (s .fits .key)) at (c .before .get-key-value .ensures))
 
 pub get-key-value-spec : {M : Type 1} → statement M
 get-key-value-spec = tie.close (tie.spec get-key-value-requires range-of-requires returns)

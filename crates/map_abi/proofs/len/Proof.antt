@@ -1,6 +1,6 @@
 -- `map_abi::len` meets its contract.
 use mathlib.Core.Path.{ap, _∙_}
-use Rattle.outcomes.specs.Numbers.{countOf}
+use Rattle.outcomes.specs.Numbers.{countedInC}
 use borrow.Author.Needs.{needs}
 use Rattle.map_abi.proofs.len.Statement.{statement}
 use Rattle.map_abi.proofs.len.Tie as tie
@@ -14,7 +14,7 @@ count-of-requires c κs = search needs
 returns : tie.Need-returns
 returns c =
     let s = c .before .before in
-    c .count-of .ensures ∙ ap countOf (c .before .len .ensures)
+    c .count-of .ensures ∙ ap countedInC (c .before .len .ensures)
 
 pub len-spec : {M : Type 1} → statement M
 len-spec = tie.close (tie.spec len-requires count-of-requires returns)

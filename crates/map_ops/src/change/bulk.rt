@@ -1,16 +1,19 @@
 // Bulk insert: in list order, up to the first refusal. The map is checked once.
+use answers::DONE;
+use answers::NOT_FORMED;
 use key::RangeKind;
+use key::Value;
 use outcomes::Applied;
-use outcomes::NOT_FORMED;
 use outcomes::Outcome;
 use outcomes::PLACES;
 use store::check::well_formed;
 ghost use mathlib.Core.Path.{_≡_};
 ghost use Prim.Native.Nat.{min};
 ghost use lib.ListN.{length};
+ghost use Rattle.lent.specs.Moments.{was};
 ghost use Rattle.key.specs.Range.{kindOf};
-ghost use Rattle.outcomes.specs.Stored.{lent, Sound};
-ghost use Rattle.outcomes.specs.Outcomes.{entries, inserts, extended, extending};
+ghost use Rattle.outcomes.specs.Stored.{lent, Sound, atEntry, atExit};
+ghost use Rattle.outcomes.specs.Outcomes.{entries, bulkInsertSound, extended, bulkInsert};
 
 // The lesser of two lengths.
 fn shorter(a: usize, b: usize) -> usize
@@ -28,13 +31,13 @@ fn extend_formed(
     count: &mut usize,
     starts: &mut [i64; PLACES],
     ends: &mut [i64; PLACES],
-    values: &mut [u8; PLACES],
+    values: &mut [Value; PLACES],
     new_starts: &[i64],
     new_ends: &[i64],
-    new_values: &[u8],
+    new_values: &[Value],
 ) -> Applied
     requires { ⌜ Sound (kindOf kind) (lent count starts ends values) ⌝ }
-    ensures { λ r. ⌜ extended r (lent (count .exit) (starts .exit) (ends .exit) (values .exit)) ≡ inserts (kindOf kind) (lent (count .entry) (starts .entry) (ends .entry) (values .entry)) 0 (entries (now («new_starts» .entry)) (now («new_ends» .entry)) (now («new_values» .entry))) ⌝ }
+    ensures { λ r. ⌜ extended r (atExit count starts ends values) ≡ bulkInsertSound (kindOf kind) (atEntry count starts ends values) 0 (entries (was «new_starts») (was «new_ends») (was «new_values»)) ⌝ }
 {
     let n = shorter(shorter(new_starts.len(), new_ends.len()), new_values.len());
     let mut i = 0;
@@ -58,7 +61,7 @@ fn extend_formed(
         i += 1;
     }
     Applied {
-        answer: 0,
+        answer: DONE,
         applied: i,
     }
 }
@@ -69,12 +72,12 @@ pub fn extend(
     count: &mut usize,
     starts: &mut [i64; PLACES],
     ends: &mut [i64; PLACES],
-    values: &mut [u8; PLACES],
+    values: &mut [Value; PLACES],
     new_starts: &[i64],
     new_ends: &[i64],
-    new_values: &[u8],
+    new_values: &[Value],
 ) -> Applied
-    ensures { λ r. ⌜ extended r (lent (count .exit) (starts .exit) (ends .exit) (values .exit)) ≡ extending (kindOf kind) (lent (count .entry) (starts .entry) (ends .entry) (values .entry)) (entries (now («new_starts» .entry)) (now («new_ends» .entry)) (now («new_values» .entry))) ⌝ }
+    ensures { λ r. ⌜ extended r (atExit count starts ends values) ≡ bulkInsert (kindOf kind) (atEntry count starts ends values) (entries (was «new_starts») (was «new_ends») (was «new_values»)) ⌝ }
 {
     if !well_formed(kind, *count, starts, ends, values) {
         return Applied {

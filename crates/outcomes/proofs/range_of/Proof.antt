@@ -1,6 +1,6 @@
 -- `outcomes::range_of` meets its contract.
 use mathlib.Core.Path.{ap, sym}
-use Rattle.outcomes.specs.Numbers.{rangeOf}
+use Rattle.outcomes.specs.Numbers.{foundInC}
 use mir.Facts.{toZ-ofZ}
 use borrow.Author.Needs.{sfits-of}
 use borrow.Author.Needs.{needs}
@@ -17,13 +17,13 @@ enum-known-a-2 : tie.Need-enum-known-a-2
 enum-known-a-2 c = search needs
 
 returns : tie.Need-returns
-returns c = let k = c .known-told .given in rw (toZ-ofZ (sfits-of (k .0 .1)), toZ-ofZ (sfits-of (k .1 .0 .1))) (ap rangeOf (sym (c .before .a .given .1)))
+returns c = let k = c .known-told .given in rw (toZ-ofZ (sfits-of (k .0 .1)), toZ-ofZ (sfits-of (k .1 .0 .1))) (ap foundInC (sym (c .before .a .given .1)))
 
 returns-2 : tie.Need-returns-2
-returns-2 c = ap rangeOf (sym (c .enum-told .given .1))
+returns-2 c = ap foundInC (sym (c .enum-told .given .1))
 
 returns-3 : tie.Need-returns-3
-returns-3 c = ap rangeOf (sym (c .before .a2 .given .1))
+returns-3 c = ap foundInC (sym (c .before .a2 .given .1))
 
 pub range-of-spec : {M : Type 1} → statement M
 range-of-spec =

@@ -1,6 +1,6 @@
 -- `outcomes::stretch_of` meets its contract.
 use mathlib.Core.Path.{ap, sym}
-use Rattle.outcomes.specs.Numbers.{stretchOf}
+use Rattle.outcomes.specs.Numbers.{partInC}
 use borrow.Author.Needs.{needs}
 use Rattle.outcomes.proofs.stretch_of.Statement.{statement}
 use Rattle.outcomes.proofs.stretch_of.Tie as tie
@@ -12,10 +12,10 @@ enum-known-a-2 : tie.Need-enum-known-a-2
 enum-known-a-2 c = search needs
 
 returns : tie.Need-returns
-returns c = ap stretchOf (sym (c .before .a .given .1))
+returns c = ap partInC (sym (c .before .a .given .1))
 
 returns-2 : tie.Need-returns-2
-returns-2 c = ap stretchOf (sym (c .before .a2 .given .1))
+returns-2 c = ap partInC (sym (c .before .a2 .given .1))
 
 pub stretch-of-spec : {M : Type 1} → statement M
 stretch-of-spec = tie.close (tie.spec enum-known-a enum-known-a-2 returns returns-2)

@@ -1,6 +1,6 @@
 -- `outcomes::told_of` meets its contract.
 use mathlib.Core.Path.{ap, sym}
-use Rattle.outcomes.specs.Numbers.{toldOf}
+use Rattle.outcomes.specs.Numbers.{askedInC}
 use borrow.Author.Needs.{needs}
 use Rattle.outcomes.proofs.told_of.Statement.{statement}
 use Rattle.outcomes.proofs.told_of.Tie as tie
@@ -15,13 +15,13 @@ enum-known-a : tie.Need-enum-known-a
 enum-known-a c = search needs
 
 returns : tie.Need-returns
-returns c = ap toldOf (sym (c .enum-told .given .1))
+returns c = ap askedInC (sym (c .enum-told .given .1))
 
 returns-2 : tie.Need-returns-2
-returns-2 c = ap toldOf (sym (c .enum-told2 .given .1))
+returns-2 c = ap askedInC (sym (c .enum-told2 .given .1))
 
 returns-3 : tie.Need-returns-3
-returns-3 c = ap toldOf (sym (c .before .a .given .1))
+returns-3 c = ap askedInC (sym (c .before .a .given .1))
 
 pub told-of-spec : {M : Type 1} → statement M
 told-of-spec = tie.close (tie.spec enum-told enum-told-2 enum-known-a returns returns-2 returns-3)

@@ -2,7 +2,7 @@
 use mathlib.Core.Path.{ap, sym, _∙_}
 use mir.Facts.{toZ-ofZ}
 use borrow.Author.Needs.{sfits-of}
-use Rattle.report.specs.Report.{reportOf}
+use Rattle.report.specs.Report.{reportedInC}
 use borrow.Author.Needs.{needs}
 use Rattle.report.proofs.report_of.Statement.{statement}
 use Rattle.report.proofs.report_of.Tie as tie
@@ -22,10 +22,10 @@ refused-requires c κs = search needs
 returns : tie.Need-returns
 returns c =
     let k = c .before .known-told .given in
-    c .filled .ensures ∙ rw (toZ-ofZ (sfits-of (k .0 .1)), toZ-ofZ (sfits-of (k .1 .0 .1))) (ap reportOf (sym (c .before .before .r .given .1)))
+    c .filled .ensures ∙ rw (toZ-ofZ (sfits-of (k .0 .1)), toZ-ofZ (sfits-of (k .1 .0 .1))) (ap reportedInC (sym (c .before .before .r .given .1)))
 
 returns-2 : tie.Need-returns-2
-returns-2 c = c .refused .ensures ∙ ap reportOf (sym (c .before .before .r2 .given .1))
+returns-2 c = c .refused .ensures ∙ ap reportedInC (sym (c .before .before .r2 .given .1))
 
 pub report-of-spec : {M : Type 1} → statement M
 report-of-spec =

@@ -7,7 +7,7 @@ use Rattle.key.proofs.Laws.{rank-back}
 use Rattle.outcomes.specs.Stored.{stored}
 use Rattle.log_day.specs.Days.{dayOf}
 use Rattle.log_day.specs.declared.Day.the-variants as Day
-use Rattle.report.specs.Report.{between, inDay}
+use Rattle.report.specs.Report.{withKeys, dayReportSound}
 use Rattle.report.proofs.Returns.{Window, day-window, window-short}
 use borrow.Author.Needs.{needs}
 use Rattle.report.proofs.unchecked.Statement.{statement}
@@ -43,11 +43,11 @@ returns c =
     let m = stored (c .before .before .before .before .before .before .before .args .count) (c .before .before .before .before .before .before .before .args .starts .now) (c .before .before .before .before .before .before .before .args .ends .now) (c .before .before .before .before .before .before .before .args .values .now) in
     let f = toZ-ofZ {w = w64} {z = c .before .before .before .d .given .0 .0} (sfits-of (k .0 .1)) in
     let g = toZ-ofZ {w = w64} {z = c .before .before .before .d .given .0 .1 .0} (sfits-of (k .1 .0 .1)) in
-    (rw (f, g) at (c .with-keys .ensures)) ∙ ap (between _ _) (rw (f, g) at (c .before .between .ensures)) ∙ ap (inDay m) (sym (span (c .before .before)))
+    (rw (f, g) at (c .with-keys .ensures)) ∙ ap (withKeys _ _) (rw (f, g) at (c .before .between .ensures)) ∙ ap (dayReportSound m) (sym (span (c .before .before)))
 
 returns-2 : tie.Need-returns-2
 returns-2 c = let a = c .before .before .before .before .before .args in
-    ap (inDay (stored (a .count) (a .starts .now) (a .ends .now) (a .values .now))) (sym (c .before .d2 .given .1) ∙ c .before .before .before .day-of .ensures)
+    ap (dayReportSound (stored (a .count) (a .starts .now) (a .ends .now) (a .values .now))) (sym (c .before .d2 .given .1) ∙ c .before .before .before .day-of .ensures)
 
 pub unchecked-spec : {M : Type 1} → statement M
 unchecked-spec =

@@ -1,7 +1,7 @@
 -- `report::with_keys` meets its contract.
 use mathlib.Core.Path.{ap, sym}
 use mir.Facts.{toZ-ofZ}
-use Rattle.report.specs.Report.{between}
+use Rattle.report.specs.Report.{withKeys}
 use borrow.Author.Needs.{needs}
 use Rattle.report.proofs.with_keys.Statement.{statement}
 use Rattle.report.proofs.with_keys.Tie as tie
@@ -15,10 +15,10 @@ enum-known-t-2 c = search needs
 returns : tie.Need-returns
 returns c =
     let s = c .before .before .before in
-    rw (toZ-ofZ (s .fits .start), toZ-ofZ (s .fits .end)) (ap (between (s .args .start) (s .args .end)) (sym (c .before .t .given .1)))
+    rw (toZ-ofZ (s .fits .start), toZ-ofZ (s .fits .end)) (ap (withKeys (s .args .start) (s .args .end)) (sym (c .before .t .given .1)))
 
 returns-2 : tie.Need-returns-2
-returns-2 c = let s = c .before .before .before in ap (between (s .args .start) (s .args .end)) (sym (c .before .t2 .given .1))
+returns-2 c = let s = c .before .before .before in ap (withKeys (s .args .start) (s .args .end)) (sym (c .before .t2 .given .1))
 
 pub with-keys-spec : {M : Type 1} → statement M
 with-keys-spec = tie.close (tie.spec enum-known-t enum-known-t-2 returns returns-2)

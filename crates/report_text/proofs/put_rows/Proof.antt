@@ -4,17 +4,17 @@ use native.Mathlib.Omega.{arith}
 use mathlib.Core.Path.{_≡_, refl}
 use Rattle.filling.specs.Filling.{series, AddsWithin}
 use Rattle.filling.proofs.Laws.{as-within, within-length, series-none, series-more}
-use Rattle.report_text.specs.Rows.{rows, rowName, rowOf}
+use Rattle.report_text.specs.Rows.{rowCount, rowName, rowOf}
 use Rattle.report_text.specs.ReportText.{secondsLine, rowLines}
 use Rattle.report_text.specs.InnerRoom.{reportLineRoom}
 use Rattle.report_text.proofs.put_rows.Statement.{statement}
 use Rattle.report_text.proofs.put_rows.Tie as tie
 
 abbrev Inv-loop : tie.InvT-loop
-Inv-loop out₀ at t to₀ row₀ out to row = (row ≤ rows) × AddsWithin (reportLineRoom * row) (series (λ j. secondsLine (rowName j) (rowOf t j)) row) out₀ at out to
+Inv-loop out₀ at t to₀ row₀ out to row = (row ≤ rowCount) × AddsWithin (reportLineRoom * row) (series (λ j. secondsLine (rowName j) (rowOf t j)) row) out₀ at out to
 
 abbrev μ-loop : tie.MeasureT-loop
-μ-loop out₀ at t to₀ row₀ out to row = rows - row
+μ-loop out₀ at t to₀ row₀ out to row = rowCount - row
 
 loop-holds : tie.Need-loop-holds Inv-loop μ-loop
 loop-holds c = (omega arith, as-within refl (omega arith) (series-none _ _ _))
@@ -42,7 +42,7 @@ same-length c = within-length (c .before .loop .inv .1)
 
 returns : tie.Need-returns Inv-loop μ-loop
 unfolding rowLines
-returns c = let n : c .before .loop .row ≡ rows = omega arith in rw n at (c .before .loop .inv .1)
+returns c = let n : c .before .loop .row ≡ rowCount = omega arith in rw n at (c .before .loop .inv .1)
 
 pub put-rows-spec : {M : Type 1} → statement M
 put-rows-spec = tie.close (tie.spec Inv-loop μ-loop loop-holds seconds-of-requires put-row-line-requires add-row loop-less loop-again same-length returns)

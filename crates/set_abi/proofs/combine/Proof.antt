@@ -1,6 +1,6 @@
 -- `set_abi::combine` meets its contract.
 use mathlib.Core.Path.{ap, _∙_}
-use Rattle.outcomes.specs.Numbers.{countOf}
+use Rattle.outcomes.specs.Numbers.{countedInC}
 use Rattle.outcomes.specs.Outcomes.{Written}
 use borrow.Author.Needs.{needs}
 use Rattle.set_abi.proofs.combine.Statement.{statement}
@@ -22,7 +22,7 @@ returns : tie.Need-returns
 returns c =
     let w = c .before .before .before .combine .ensures in
     record {
-      number = c .count-of .ensures ∙ ap (λ (x : Written). countOf (x .answer)) w;
+      number = c .count-of .ensures ∙ ap (λ (x : Written). countedInC (x .answer)) w;
       starts-are = ap (λ (x : Written). x .starts) w;
       ends-are = ap (λ (x : Written). x .ends) w;
     }

@@ -1,7 +1,7 @@
 -- `set_abi::contains` meets its contract.
 use mathlib.Core.Path.{ap, _∙_}
 use mir.Facts.{toZ-ofZ}
-use Rattle.outcomes.specs.Numbers.{toldOf}
+use Rattle.outcomes.specs.Numbers.{askedInC}
 use borrow.Author.Needs.{needs}
 use Rattle.set_abi.proofs.contains.Statement.{statement}
 use Rattle.set_abi.proofs.contains.Tie as tie
@@ -15,7 +15,7 @@ told-of-requires c κs = search needs
 returns : tie.Need-returns
 returns c =
     let s = c .before .before in
-    c .told-of .ensures ∙ ap toldOf (rw (toZ-ofZ (s .fits .key)) at (c .before .contains .ensures))
+    c .told-of .ensures ∙ ap askedInC (rw (toZ-ofZ (s .fits .key)) at (c .before .contains .ensures))
 
 pub contains-spec : {M : Type 1} → statement M
 contains-spec = tie.close (tie.spec contains-requires told-of-requires returns)

@@ -1,7 +1,7 @@
 -- `set_abi::get` meets its contract.
 use mathlib.Core.Path.{ap, _∙_}
 use mir.Facts.{toZ-ofZ}
-use Rattle.outcomes.specs.Numbers.{rangeOf}
+use Rattle.outcomes.specs.Numbers.{foundInC}
 use borrow.Author.Needs.{needs}
 use Rattle.set_abi.proofs.get.Statement.{statement}
 use Rattle.set_abi.proofs.get.Tie as tie
@@ -15,7 +15,7 @@ range-of-requires c κs = search needs
 returns : tie.Need-returns
 returns c =
     let s = c .before .before in
-    c .range-of .ensures ∙ ap rangeOf (rw (toZ-ofZ (s .fits .key)) at (c .before .get .ensures))
+    c .range-of .ensures ∙ ap foundInC (rw (toZ-ofZ (s .fits .key)) at (c .before .get .ensures))
 
 pub get-spec : {M : Type 1} → statement M
 get-spec = tie.close (tie.spec get-requires range-of-requires returns)

@@ -1,6 +1,6 @@
 -- `set_abi::is_empty` meets its contract.
 use mathlib.Core.Path.{ap, _∙_}
-use Rattle.outcomes.specs.Numbers.{toldOf}
+use Rattle.outcomes.specs.Numbers.{askedInC}
 use borrow.Author.Needs.{needs}
 use Rattle.set_abi.proofs.is_empty.Statement.{statement}
 use Rattle.set_abi.proofs.is_empty.Tie as tie
@@ -14,7 +14,7 @@ told-of-requires c κs = search needs
 returns : tie.Need-returns
 returns c =
     let s = c .before .before in
-    c .told-of .ensures ∙ ap toldOf (c .before .is-empty .ensures)
+    c .told-of .ensures ∙ ap askedInC (c .before .is-empty .ensures)
 
 pub is-empty-spec : {M : Type 1} → statement M
 is-empty-spec = tie.close (tie.spec is-empty-requires told-of-requires returns)

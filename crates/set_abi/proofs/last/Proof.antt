@@ -1,6 +1,6 @@
 -- `set_abi::last` meets its contract.
 use mathlib.Core.Path.{ap, _∙_}
-use Rattle.outcomes.specs.Numbers.{rangeOf}
+use Rattle.outcomes.specs.Numbers.{foundInC}
 use borrow.Author.Needs.{needs}
 use Rattle.set_abi.proofs.last.Statement.{statement}
 use Rattle.set_abi.proofs.last.Tie as tie
@@ -14,7 +14,7 @@ range-of-requires c κs = search needs
 returns : tie.Need-returns
 returns c =
     let s = c .before .before in
-    c .range-of .ensures ∙ ap rangeOf (c .before .last .ensures)
+    c .range-of .ensures ∙ ap foundInC (c .before .last .ensures)
 
 pub last-spec : {M : Type 1} → statement M
 last-spec = tie.close (tie.spec last-requires range-of-requires returns)

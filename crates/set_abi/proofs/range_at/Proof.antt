@@ -1,6 +1,6 @@
 -- `set_abi::range_at` meets its contract.
 use mathlib.Core.Path.{ap, _∙_}
-use Rattle.outcomes.specs.Numbers.{rangeOf}
+use Rattle.outcomes.specs.Numbers.{foundInC}
 use borrow.Author.Needs.{needs}
 use Rattle.set_abi.proofs.range_at.Statement.{statement}
 use Rattle.set_abi.proofs.range_at.Tie as tie
@@ -14,7 +14,7 @@ range-of-requires c κs = search needs
 returns : tie.Need-returns
 returns c =
     let s = c .before .before in
-    c .range-of .ensures ∙ ap rangeOf (c .before .range-at .ensures)
+    c .range-of .ensures ∙ ap foundInC (c .before .range-at .ensures)
 
 pub range-at-spec : {M : Type 1} → statement M
 range-at-spec = tie.close (tie.spec range-at-requires range-of-requires returns)

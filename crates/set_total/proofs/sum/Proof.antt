@@ -2,17 +2,17 @@
 use Prim.Native.Nat.{_+_, _-_, _≤_}
 use native.Mathlib.Omega.{arith}
 use mathlib.Core.Path.{_≡_, refl}
-use Rattle.span.specs.Operations.{total}
+use Rattle.span.specs.Operations.{spanTotal}
 use Rattle.key.proofs.Laws.{rank-back}
 use Rattle.key.specs.Range.{kindOf}
 use Rattle.range_list.specs.InnerColumns.{rest}
-use Rattle.set_total.specs.InnerSum.{sumOf}
+use Rattle.set_total.specs.InnerSum.{columnsTotal}
 use Rattle.set_total.proofs.Laws.{sum-none, sum-all, length-at, sum-more}
 use Rattle.set_total.proofs.sum.Statement.{statement}
 use Rattle.set_total.proofs.sum.Tie as tie
 
 abbrev Inv-loop : tie.InvT-loop
-Inv-loop kind starts ends count total₀ k₀ sum k = (k ≤ count) × (sum + total (rest (kindOf kind) starts ends count k) ≡ sumOf kind starts ends count)
+Inv-loop kind starts ends count total₀ k₀ sum k = (k ≤ count) × (sum + spanTotal (rest (kindOf kind) starts ends count k) ≡ columnsTotal kind starts ends count)
 
 abbrev μ-loop : tie.MeasureT-loop
 μ-loop kind starts ends count total₀ k₀ sum k = count - k
@@ -43,7 +43,7 @@ width-requires c κs = tt
 
 -- what the step adds
 adds : (c : tie.After-width Inv-loop μ-loop) → let s = c .before .before .before .before .before .before in let l = c .before .before .before .before .before .loop in
-    total (rest (kindOf (s .args .kind)) (s .args .starts .now) (s .args .ends .now) (s .args .count) (l .k)) ≡ (c .before .apart .result + c .width .result) + total (rest (kindOf (s .args .kind)) (s .args .starts .now) (s .args .ends .now) (s .args .count) (l .k + 1))
+    spanTotal (rest (kindOf (s .args .kind)) (s .args .starts .now) (s .args .ends .now) (s .args .count) (l .k)) ≡ (c .before .apart .result + c .width .result) + spanTotal (rest (kindOf (s .args .kind)) (s .args .starts .now) (s .args .ends .now) (s .args .count) (l .k + 1))
 adds c =
     let s = c .before .before .before .before .before .before in
     let l = c .before .before .before .before .before .loop in

@@ -4,16 +4,16 @@ use native.Mathlib.Omega.{arith}
 use mathlib.Core.Path.{_≡_, refl}
 use Rattle.filling.specs.Filling.{series, AddsWithin}
 use Rattle.filling.proofs.Laws.{as-within, within-length, series-none, series-more}
-use Rattle.report_text.specs.Rows.{rows}
+use Rattle.report_text.specs.Rows.{rowCount}
 use Rattle.svg_text.specs.SvgText.{rowRule}
 use Rattle.svg_text.proofs.put_row_rules.Statement.{statement}
 use Rattle.svg_text.proofs.put_row_rules.Tie as tie
 
 abbrev Inv-loop : tie.InvT-loop
-Inv-loop out₀ at w to₀ j₀ out to j = (j ≤ rows + 1) × AddsWithin (48 * j) (series (rowRule w) j) out₀ at out to
+Inv-loop out₀ at w to₀ j₀ out to j = (j ≤ rowCount + 1) × AddsWithin (48 * j) (series (rowRule w) j) out₀ at out to
 
 abbrev μ-loop : tie.MeasureT-loop
-μ-loop out₀ at w to₀ j₀ out to j = rows + 1 - j
+μ-loop out₀ at w to₀ j₀ out to j = rowCount + 1 - j
 
 loop-holds : tie.Need-loop-holds Inv-loop μ-loop
 loop-holds c = (omega arith, as-within refl (omega arith) (series-none _ _ _))
@@ -34,7 +34,7 @@ same-length : tie.Need-same-length Inv-loop μ-loop
 same-length c = within-length (c .before .loop .inv .1)
 
 returns : tie.Need-returns Inv-loop μ-loop
-returns c = let e : c .before .loop .j ≡ rows + 1 = omega arith in as-within refl (omega arith) (rw e at (c .before .loop .inv .1))
+returns c = let e : c .before .loop .j ≡ rowCount + 1 = omega arith in as-within refl (omega arith) (rw e at (c .before .loop .inv .1))
 
 pub put-row-rules-spec : {M : Type 1} → statement M
 put-row-rules-spec = tie.close (tie.spec Inv-loop μ-loop loop-holds put-row-rule-requires add-j loop-less loop-again same-length returns)

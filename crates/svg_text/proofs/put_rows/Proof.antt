@@ -9,17 +9,17 @@ use Rattle.key.specs.Range.{halfOpen}
 use Rattle.outcomes.specs.Stored.{stored, ranges}
 use Rattle.filling.specs.Filling.{series, AddsWithin}
 use Rattle.filling.proofs.Laws.{as-within, within-length, series-none, series-more}
-use Rattle.report_text.specs.Rows.{rows}
+use Rattle.report_text.specs.Rows.{rowCount}
 use Rattle.svg_text.specs.SvgText.{rowSvg}
 use Rattle.svg_text.specs.InnerRoom.{rowRoom}
 use Rattle.svg_text.proofs.put_rows.Statement.{statement}
 use Rattle.svg_text.proofs.put_rows.Tie as tie
 
 abbrev Inv-loop : tie.InvT-loop
-Inv-loop count starts ends values start n t out₀ at to₀ row₀ out to row = (row ≤ rows) × AddsWithin (rowRoom * row) (series (rowSvg (ranges halfOpen (stored count starts ends values)) (toZ w64 start) n t) row) out₀ at out to
+Inv-loop count starts ends values start n t out₀ at to₀ row₀ out to row = (row ≤ rowCount) × AddsWithin (rowRoom * row) (series (rowSvg (ranges halfOpen (stored count starts ends values)) (toZ w64 start) n t) row) out₀ at out to
 
 abbrev μ-loop : tie.MeasureT-loop
-μ-loop count starts ends values start n t out₀ at to₀ row₀ out to row = rows - row
+μ-loop count starts ends values start n t out₀ at to₀ row₀ out to row = rowCount - row
 
 loop-holds : tie.Need-loop-holds Inv-loop μ-loop
 loop-holds c = (omega arith, as-within refl (omega arith) (series-none _ _ _))
@@ -43,7 +43,7 @@ same-length : tie.Need-same-length Inv-loop μ-loop
 same-length c = within-length (c .before .loop .inv .1)
 
 returns : tie.Need-returns Inv-loop μ-loop
-returns c = let e : c .before .loop .row ≡ rows = omega arith in as-within refl (omega arith) (rw (e, toZ-ofZ (c .before .before .before .before .fits .start)) at (c .before .loop .inv .1))
+returns c = let e : c .before .loop .row ≡ rowCount = omega arith in as-within refl (omega arith) (rw (e, toZ-ofZ (c .before .before .before .before .fits .start)) at (c .before .loop .inv .1))
 
 pub put-rows-spec : {M : Type 1} → statement M
 put-rows-spec = tie.close (tie.spec Inv-loop μ-loop loop-holds put-row-requires add-row loop-less loop-again same-length returns)

@@ -6,7 +6,7 @@ use borrow.Author.Tests.{not-true, not-false}
 use borrow.Author.Needs.{needs}
 use Rattle.outcomes.specs.Stored.{lent}
 use Rattle.byte_form.specs.Layout.{rm01}
-use Rattle.byte_form.specs.Form.{isForm, reading}
+use Rattle.byte_form.specs.Form.{isForm, read}
 use Rattle.byte_form.proofs.Lawful.{rm01-lawful}
 use Rattle.byte_form.proofs.Forms.{form-yes}
 use Rattle.byte_io.specs.InnerRead.{Sized}
@@ -37,7 +37,7 @@ is-form-requires : tie.Need-is-form-requires
 is-form-requires c κs = search needs
 
 returns : tie.Need-returns
-unfolding reading
+unfolding read
 returns c = rw (sym (c .before .is-form .ensures) ∙ not-true _ (c .if1 .taken))
 
 count-in-requires : tie.Need-count-in-requires

@@ -5,7 +5,7 @@ use borrow.Author.Needs.{needs}
 use Rattle.key.specs.Range.{halfOpen}
 use Rattle.outcomes.specs.Stored.{places}
 use Rattle.outcomes.proofs.Formed.{formed}
-use Rattle.byte_form.specs.Form.{writing}
+use Rattle.byte_form.specs.Form.{write}
 use Rattle.byte_io.proofs.write.write.Statement.{statement}
 use Rattle.byte_io.proofs.write.write.Tie as tie
 
@@ -13,7 +13,7 @@ well-formed-requires : tie.Need-well-formed-requires
 well-formed-requires c κs = search needs
 
 returns : tie.Need-returns
-unfolding writing
+unfolding write
 returns c = rw (sym (c .before .well-formed .ensures .0) ∙ not-true _ (c .if1 .taken))
 
 write-formed-requires : tie.Need-write-formed-requires
@@ -26,7 +26,7 @@ same-length : tie.Need-same-length
 same-length c = search needs
 
 returns-2 : tie.Need-returns-2
-unfolding writing
+unfolding write
 returns-2 c =
     let wrote = c .before .before in
     let yes = wrote .before .before in

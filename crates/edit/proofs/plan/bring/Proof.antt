@@ -1,7 +1,7 @@
 -- `edit::plan::bring` meets its contract.
 use native.Mathlib.Omega.{arith}
 use mathlib.Core.Path.{ap, _∙_}
-use Rattle.edit.specs.InnerPlan.{ahead}
+use Rattle.edit.specs.InnerPlan.{inFront}
 use Rattle.edit.proofs.plan.bring.Statement.{statement}
 use Rattle.edit.proofs.plan.bring.Tie as tie
 
@@ -26,7 +26,7 @@ returns c =
       from-is = z .from-is ∙ y .from-is ∙ x .from-is;
       to-is = z .to-is ∙ y .to-is ∙ x .to-is;
       few = omega (arith, x .few, y .few, z .few);
-      are = z .are ∙ ap (ahead (g .left)) (y .are ∙ ap (ahead (g .new)) (x .are));
+      are = z .are ∙ ap (inFront (g .left)) (y .are ∙ ap (inFront (g .new)) (x .are));
     }
 
 pub bring-spec : {M : Type 1} → statement M

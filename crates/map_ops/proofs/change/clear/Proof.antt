@@ -3,7 +3,7 @@ use mathlib.Core.Path.{_∙_}
 use native.Mathlib.Omega.{arith}
 use lib.IntN.{pos}
 use Rattle.outcomes.specs.Stored.{places, filled, storing}
-use Rattle.outcomes.specs.Outcomes.{cleared}
+use Rattle.outcomes.specs.Outcomes.{clear}
 use Rattle.splice.proofs.Sets.{all-clear}
 use borrow.Author.Needs.{needs}
 use Rattle.map_ops.proofs.change.clear.Statement.{statement}
@@ -19,7 +19,7 @@ clear-u8-requires : tie.Need-clear-u8-requires
 clear-u8-requires c κs = search needs
 
 returns : tie.Need-returns
-unfolding cleared storing filled
+unfolding clear storing filled
 returns c =
     let a = c .before .before .before .before .before .before .args in
     λ k. rw (c .before .before .before .before .clear-i64 .ensures ∙ all-clear (a .starts .now) (pos 0) {n = places} (omega arith), c .before .before .clear-i642 .ensures ∙ all-clear (a .ends .now) (pos 0) {n = places} (omega arith), c .clear-u8 .ensures ∙ all-clear (a .values .now) 0 {n = places} (omega arith))

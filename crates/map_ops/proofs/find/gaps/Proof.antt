@@ -2,7 +2,7 @@
 use mathlib.Core.Path.{sym, _∙_}
 use borrow.Author.Tests.{not-true, not-false}
 use mir.Facts.{toZ-ofZ}
-use Rattle.outcomes.specs.Outcomes.{gapsIn}
+use Rattle.outcomes.specs.Outcomes.{gaps}
 use borrow.Author.Needs.{needs}
 use Rattle.map_ops.proofs.find.gaps.Statement.{statement}
 use Rattle.map_ops.proofs.find.gaps.Tie as tie
@@ -11,7 +11,7 @@ well-formed-requires : tie.Need-well-formed-requires
 well-formed-requires c κs = search needs
 
 returns : tie.Need-returns
-unfolding gapsIn
+unfolding gaps
 returns c = rw (sym (c .before .well-formed .ensures .0) ∙ not-true _ (c .if1 .taken))
 
 gaps-requires : tie.Need-gaps-requires
@@ -24,7 +24,7 @@ same-length-2 : tie.Need-same-length-2
 same-length-2 c = search needs
 
 returns-2 : tie.Need-returns-2
-unfolding gapsIn
+unfolding gaps
 returns-2 c =
     let l = c .before .before .before .before .before .before .before .before in
     let s = l .before .before .before in

@@ -2,7 +2,7 @@
 use mathlib.Core.Path.{sym, _∙_}
 use borrow.Author.Tests.{not-true, not-false}
 use mir.Facts.{toZ-ofZ}
-use Rattle.outcomes.specs.Outcomes.{meeting}
+use Rattle.outcomes.specs.Outcomes.{overlaps}
 use borrow.Author.Needs.{needs}
 use Rattle.map_ops.proofs.find.overlaps.Statement.{statement}
 use Rattle.map_ops.proofs.find.overlaps.Tie as tie
@@ -11,14 +11,14 @@ well-formed-requires : tie.Need-well-formed-requires
 well-formed-requires c κs = search needs
 
 returns : tie.Need-returns
-unfolding meeting
+unfolding overlaps
 returns c = rw (sym (c .before .well-formed .ensures .0) ∙ not-true _ (c .if1 .taken))
 
 overlaps-requires : tie.Need-overlaps-requires
 overlaps-requires c κs = c .before .before .before .before .well-formed .ensures .1 (not-false _ (c .before .before .before .if1 .left))
 
 returns-2 : tie.Need-returns-2
-unfolding meeting
+unfolding overlaps
 returns-2 c =
     let s = c .before .before .before .before .before .before .before in
     rw (sym (c .before .before .before .before .before .well-formed .ensures .0) ∙ not-false _ (c .before .before .before .before .if1 .left)) (rw (toZ-ofZ (s .fits .start), toZ-ofZ (s .fits .end)) at (c .overlaps .ensures))

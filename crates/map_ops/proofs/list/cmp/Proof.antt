@@ -3,7 +3,7 @@ use mathlib.Core.Path.{ap, sym, _∙_}
 use borrow.Author.Tests.{not-true, not-false}
 use Rattle.key.specs.Range.{kindOf}
 use Rattle.outcomes.specs.Stored.{stored}
-use Rattle.outcomes.specs.Outcomes.{ordering, comparedBy}
+use Rattle.outcomes.specs.Outcomes.{order, comparedBy}
 use Rattle.compare.proofs.Laws.{either-order}
 use Rattle.outcomes.proofs.Formed.{sound-held}
 use borrow.Author.Needs.{needs}
@@ -14,14 +14,14 @@ well-formed-requires : tie.Need-well-formed-requires
 well-formed-requires c κs = search needs
 
 returns : tie.Need-returns
-unfolding ordering
+unfolding order
 returns c = rw (sym (c .before .well-formed .ensures .0) ∙ not-true _ (c .if1 .taken))
 
 well-formed-requires-2 : tie.Need-well-formed-requires-2
 well-formed-requires-2 c κs = search needs
 
 returns-2 : tie.Need-returns-2
-unfolding ordering
+unfolding order
 returns-2 c = rw (sym (c .before .before .before .before .well-formed .ensures .0) ∙ not-false _ (c .before .before .before .if1 .left), sym (c .before .well-formed2 .ensures .0) ∙ not-true _ (c .if2 .taken))
 
 compare-requires : tie.Need-compare-requires
@@ -35,7 +35,7 @@ compare-requires c κs =
     ((sound-held (kindOf (a .kind)) m p, p .ends-as, p .values-as), (sound-held (kindOf (a .kind)) n q, q .ends-as, q .values-as))
 
 returns-3 : tie.Need-returns-3
-unfolding ordering
+unfolding order
 returns-3 c =
     let a = c .before .before .before .before .before .before .before .before .before .before .before .before .before .args in
     let m = stored (a .count .now) (a .starts .now) (a .ends .now) (a .values .now) in

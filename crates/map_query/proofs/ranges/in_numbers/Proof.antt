@@ -2,7 +2,7 @@
 use native.Mathlib.Omega.{arith}
 use mathlib.Core.Path.{ap, _∙_}
 use mir.Facts.{toZ-ofZ}
-use Rattle.outcomes.specs.Numbers.{countOf}
+use Rattle.outcomes.specs.Numbers.{countedInC}
 use Rattle.outcomes.specs.Outcomes.{Written}
 use Rattle.map_query.proofs.ranges.in_numbers.Statement.{statement}
 use Rattle.map_query.proofs.ranges.in_numbers.Tie as tie
@@ -25,7 +25,7 @@ returns c =
     let s = called .before .before .before .before in
     let w = rw (toZ-ofZ (s .fits .start), toZ-ofZ (s .fits .end)) at (called .query .ensures) in
     record {
-      number = c .count-of .ensures ∙ ap (λ (x : Written). countOf (x .answer)) w;
+      number = c .count-of .ensures ∙ ap (λ (x : Written). countedInC (x .answer)) w;
       starts-are = ap (λ (x : Written). x .starts) w;
       ends-are = ap (λ (x : Written). x .ends) w;
     }

@@ -3,7 +3,7 @@ use mathlib.Core.Path.{sym, _∙_}
 use mir.Facts.{toZ-ofZ}
 use borrow.Author.Needs.{needs}
 use borrow.Author.Tests.{not-true, not-false}
-use Rattle.query.specs.Answers.{queryingAt}
+use Rattle.query.specs.Answers.{queryAt}
 use Rattle.query.proofs.instant.query_at.Statement.{statement}
 use Rattle.query.proofs.instant.query_at.Tie as tie
 
@@ -11,7 +11,7 @@ are-formed-requires : tie.Need-are-formed-requires
 are-formed-requires c κs = tt
 
 returns : tie.Need-returns
-unfolding queryingAt
+unfolding queryAt
 returns c = let asked = c .before .are-formed in rw (sym (asked .ensures .0) ∙ not-true (asked .result) (c .if1 .taken))
 
 query-at-unchecked-requires : tie.Need-query-at-unchecked-requires
@@ -19,7 +19,7 @@ query-at-unchecked-requires c κs = let e = c .before .before .before .before .b
     e .before .are-formed .ensures .1 (not-false (e .before .are-formed .result) (e .if1 .left))
 
 returns-2 : tie.Need-returns-2
-unfolding queryingAt
+unfolding queryAt
 returns-2 c =
     let called = c in
     let e = called .before .before .before .before .before .before .before in

@@ -12,13 +12,13 @@ use Rattle.outcomes.specs.Stored.{stored, ranges}
 use Rattle.outcomes.specs.Outcomes.{yesNo}
 use Rattle.query_text.specs.Reader.{queryOf}
 use Rattle.query_text.proofs.Parts.{as-got, as-bad}
-use Rattle.query.specs.Answers.{queriedAt}
+use Rattle.query.specs.Answers.{queryAtSound}
 use Rattle.query.proofs.Glue.{says-truth, before-window, behind-window, in-window}
 use Rattle.query.proofs.instant.query_at_unchecked.Statement.{statement}
 use Rattle.query.proofs.instant.query_at_unchecked.Tie as tie
 
 returns : tie.Need-returns
-unfolding queriedAt
+unfolding queryAtSound
 returns c =
     let s = c .before .before .before .before in
     rw (le-ltb (rank (s .args .start)) (rank (s .args .end)) (omega (arith, tests))) refl
@@ -33,7 +33,7 @@ enum-told : tie.Need-enum-told
 enum-told c = search needs
 
 returns-2 : tie.Need-returns-2
-unfolding queriedAt
+unfolding queryAtSound
 returns-2 c =
     let at-query = c .before .before in
     let s = at-query .before .before .before .before .before in
@@ -41,7 +41,7 @@ returns-2 c =
     rw (lt-ltb (rank (s .args .start)) (rank (s .args .end)) (omega (arith, tests)), e) refl
 
 returns-3 : tie.Need-returns-3
-unfolding queriedAt
+unfolding queryAtSound
 returns-3 c =
     let at-t = c .before .before in
     let at-query = at-t .before .before in
@@ -52,7 +52,7 @@ returns-3 c =
     rw (lt-ltb (rank (a .start)) (rank (a .end)) (omega (arith, tests, at-query .before .if1 .left)), f .is, before-window) refl
 
 returns-4 : tie.Need-returns-4
-unfolding queriedAt
+unfolding queryAtSound
 returns-4 c =
     let at-t = c .before .before .before in
     let at-query = at-t .before .before in
@@ -68,7 +68,7 @@ by-table-requires c κs =
     rw (toZ-ofZ (s .fits .key), toZ-ofZ (s .fits .end)) (s .pre .0, s .pre .1, omega (arith, tests, c .if3 .left))
 
 returns-5 : tie.Need-returns-5
-unfolding queriedAt
+unfolding queryAtSound
 returns-5 c =
     let at-t = c .before .before .before .before in
     let at-query = at-t .before .before in

@@ -3,7 +3,7 @@ use native.Mathlib.Omega.{arith}
 use mathlib.Core.Path.{sym, _∙_}
 use mir.Facts.{toZ-ofZ}
 use borrow.Author.Tests.{not-true, not-false}
-use Rattle.query.specs.Answers.{querying}
+use Rattle.query.specs.Answers.{queryRanges}
 use Rattle.query.proofs.ranges.query.Statement.{statement}
 use Rattle.query.proofs.ranges.query.Tie as tie
 
@@ -11,7 +11,7 @@ are-formed-requires : tie.Need-are-formed-requires
 are-formed-requires c κs = tt
 
 returns : tie.Need-returns
-unfolding querying
+unfolding queryRanges
 returns c = let asked = c .before .are-formed in rw (sym (asked .ensures .0) ∙ not-true (asked .result) (c .if1 .taken))
 
 query-unchecked-requires : tie.Need-query-unchecked-requires
@@ -25,7 +25,7 @@ same-length-2 : tie.Need-same-length-2
 same-length-2 c = omega arith
 
 returns-2 : tie.Need-returns-2
-unfolding querying
+unfolding queryRanges
 returns-2 c =
     let called = c .before .before in
     let e = called .before .before .before .before .before .before .before .before .before in

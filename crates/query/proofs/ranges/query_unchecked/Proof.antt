@@ -10,13 +10,13 @@ use Rattle.key.proofs.Laws.{tests}
 use Rattle.outcomes.specs.Stored.{stored}
 use Rattle.query_text.specs.Reader.{queryOf}
 use Rattle.query_text.proofs.Parts.{as-got, as-bad}
-use Rattle.query.specs.Answers.{resultOf, queried}
+use Rattle.query.specs.Answers.{resultOf, queryRangesSound}
 use Rattle.query.proofs.Glue.{result-comes, sound-few}
 use Rattle.query.proofs.ranges.query_unchecked.Statement.{statement}
 use Rattle.query.proofs.ranges.query_unchecked.Tie as tie
 
 returns : tie.Need-returns
-unfolding queried
+unfolding queryRangesSound
 returns c =
     let s = c .before .before .before .before in
     rw (le-ltb (rank (s .args .start)) (rank (s .args .end)) (omega (arith, tests))) refl
@@ -31,7 +31,7 @@ enum-told : tie.Need-enum-told
 enum-told c = search needs
 
 returns-2 : tie.Need-returns-2
-unfolding queried
+unfolding queryRangesSound
 returns-2 c =
     let at-query = c .before .before in
     let s = at-query .before .before .before .before .before in
@@ -67,7 +67,7 @@ same-length-2 : tie.Need-same-length-2
 same-length-2 c = omega arith
 
 returns-3 : tie.Need-returns-3
-unfolding queried
+unfolding queryRangesSound
 returns-3 c =
     let at-table = c .before .before in
     let at-t = at-table .before .before .before .before in

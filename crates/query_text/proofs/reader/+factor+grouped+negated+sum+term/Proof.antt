@@ -9,7 +9,7 @@ use borrow.Author.Tests.{leb-true, leb-false}
 use borrow.Fn.Kinds.{In}
 use borrow.Fn.PlainCycle.{Measures, is, falls, and}
 use Rattle.query_text.proofs.Bytes.{seen}
-use Rattle.query_text.specs.Grammar.{limit, factor as Level·factor, sum as Level·sum}
+use Rattle.query_text.specs.Grammar.{openLimit, factor as Level·factor, sum as Level·sum}
 use Rattle.query_text.specs.InnerReading.{here}
 use Rattle.query_text.specs.declared.cursor.Cursor.{Cursor}
 use Rattle.query_text.proofs.cursor.Cursor.is_full.Reads as is-full-reads
@@ -213,13 +213,13 @@ grouped-returns t c =
     let s = c .before .before .before in
     let bytes = s .args .bytes .now in
     let c₀ = s .args .c in
-    no-grouping bytes c₀ (leb-true limit (c₀ .marks) (sym (c .before .is-full .ensures) ∙ c .if1 .taken))
+    no-grouping bytes c₀ (leb-true openLimit (c₀ .marks) (sym (c .before .is-full .ensures) ∙ c .if1 .taken))
 
 grouped-opened-requires : (t : ℕ) → grouped-lts.Need-opened-requires (grouped-claims t) (grouped-at t) grouped.Post
 grouped-opened-requires t c κs =
     let s = c .before .before .before in
     let c₀ = s .args .c in
-    let few = leb-false limit (c₀ .marks) (sym (c .before .is-full .ensures) ∙ c .if1 .left) in
+    let few = leb-false openLimit (c₀ .marks) (sym (c .before .is-full .ensures) ∙ c .if1 .left) in
     (omega (arith, s .good, s .pre .1 .0), few)
 
 grouped-sum-requires : (t : ℕ) → grouped-lts.Need-sum-requires (grouped-claims t) (grouped-at t) grouped.Post
@@ -313,13 +313,13 @@ negated-returns t c =
     let s = c .before .before .before in
     let bytes = s .args .bytes .now in
     let c₀ = s .args .c in
-    no-negation bytes c₀ (leb-true limit (c₀ .marks) (sym (c .before .is-full .ensures) ∙ c .if1 .taken))
+    no-negation bytes c₀ (leb-true openLimit (c₀ .marks) (sym (c .before .is-full .ensures) ∙ c .if1 .taken))
 
 negated-opened-requires : (t : ℕ) → negated-lts.Need-opened-requires (negated-claims t) (negated-at t) negated.Post
 negated-opened-requires t c κs =
     let s = c .before .before .before in
     let c₀ = s .args .c in
-    let few = leb-false limit (c₀ .marks) (sym (c .before .is-full .ensures) ∙ c .if1 .left) in
+    let few = leb-false openLimit (c₀ .marks) (sym (c .before .is-full .ensures) ∙ c .if1 .left) in
     (omega (arith, s .good, s .pre .1 .0), few)
 
 negated-factor-requires : (t : ℕ) → negated-lts.Need-factor-requires (negated-claims t) (negated-at t) negated.Post

@@ -1,7 +1,7 @@
 -- `query_text::reader::read_query` meets its contract.
 use borrow.Author.Needs.{needs}
-use Rattle.query_text.specs.Grammar.{sum, limit}
-use Rattle.query_text.specs.Reader.{read}
+use Rattle.query_text.specs.Grammar.{sum, openLimit}
+use Rattle.query_text.specs.Reader.{readLevel}
 use Rattle.query_text.proofs.Atoms.{too-long, no-sum, not-all, all-read}
 use Rattle.query_text.proofs.Parts.{as-got, as-bad}
 use Rattle.query_text.proofs.reader.read_query.Statement.{statement}
@@ -25,7 +25,7 @@ returns-2 c =
     let at-if1 = at-sum .before in
     let s = at-if1 .before .before in
     let bytes = s .args .bytes .now in
-    no-sum bytes (at-if1 .if1 .left) (as-bad bytes 0 (read sum limit bytes) (c .enum-told .given .1) (at-sum .sum .ensures))
+    no-sum bytes (at-if1 .if1 .left) (as-bad bytes 0 (readLevel sum openLimit bytes) (c .enum-told .given .1) (at-sum .sum .ensures))
 
 returns-3 : tie.Need-returns-3
 returns-3 c =
@@ -34,7 +34,7 @@ returns-3 c =
     let at-if1 = at-sum .before in
     let s = at-if1 .before .before in
     let bytes = s .args .bytes .now in
-    let f = as-got bytes 0 (read sum limit bytes) (at-d .d .given .1) (at-sum .sum .ensures) in
+    let f = as-got bytes 0 (readLevel sum openLimit bytes) (at-d .d .given .1) (at-sum .sum .ensures) in
     not-all bytes _ _ (at-if1 .if1 .left) f (c .if2 .taken)
 
 returns-4 : tie.Need-returns-4
@@ -44,7 +44,7 @@ returns-4 c =
     let at-if1 = at-sum .before in
     let s = at-if1 .before .before in
     let bytes = s .args .bytes .now in
-    let f = as-got bytes 0 (read sum limit bytes) (at-d .d .given .1) (at-sum .sum .ensures) in
+    let f = as-got bytes 0 (readLevel sum openLimit bytes) (at-d .d .given .1) (at-sum .sum .ensures) in
     all-read bytes _ _ (at-if1 .if1 .left) f (c .if2 .left)
 
 pub read-query-spec : {M : Type 1} → statement M

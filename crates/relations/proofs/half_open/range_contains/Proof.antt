@@ -1,7 +1,7 @@
 -- `relations::half_open::range_contains` meets its contract.
 use mathlib.Core.Path.{ap, _∙_}
 use mir.Facts.{toZ-ofZ}
-use Rattle.relations.specs.Relations.{relationNumbers}
+use Rattle.relations.specs.Relations.{relationInC}
 use borrow.Author.Needs.{needs}
 use Rattle.relations.proofs.half_open.range_contains.Statement.{statement}
 use Rattle.relations.proofs.half_open.range_contains.Tie as tie
@@ -15,7 +15,7 @@ relation-numbers-requires c κs = search needs
 returns : tie.Need-returns
 returns c =
     let s = c .before .before in
-    c .relation-numbers .ensures ∙ ap relationNumbers (rw (toZ-ofZ (s .fits .start), toZ-ofZ (s .fits .end), toZ-ofZ (s .fits .key)) at (c .before .contains .ensures))
+    c .relation-numbers .ensures ∙ ap relationInC (rw (toZ-ofZ (s .fits .start), toZ-ofZ (s .fits .end), toZ-ofZ (s .fits .key)) at (c .before .contains .ensures))
 
 pub range-contains-spec : {M : Type 1} → statement M
 range-contains-spec = tie.close (tie.spec contains-requires relation-numbers-requires returns)

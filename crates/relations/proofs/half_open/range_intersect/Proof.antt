@@ -1,7 +1,7 @@
 -- `relations::half_open::range_intersect` meets its contract.
 use mathlib.Core.Path.{ap, _∙_}
 use mir.Facts.{toZ-ofZ}
-use Rattle.relations.specs.Relations.{commonNumbers}
+use Rattle.relations.specs.Relations.{commonInC}
 use borrow.Author.Needs.{needs}
 use Rattle.relations.proofs.half_open.range_intersect.Statement.{statement}
 use Rattle.relations.proofs.half_open.range_intersect.Tie as tie
@@ -15,7 +15,7 @@ common-numbers-requires c κs = search needs
 returns : tie.Need-returns
 returns c =
     let s = c .before .before in
-    c .common-numbers .ensures ∙ ap commonNumbers (rw (toZ-ofZ (s .fits .start), toZ-ofZ (s .fits .end), toZ-ofZ (s .fits .other-start), toZ-ofZ (s .fits .other-end)) at (c .before .intersect .ensures))
+    c .common-numbers .ensures ∙ ap commonInC (rw (toZ-ofZ (s .fits .start), toZ-ofZ (s .fits .end), toZ-ofZ (s .fits .other-start), toZ-ofZ (s .fits .other-end)) at (c .before .intersect .ensures))
 
 pub range-intersect-spec : {M : Type 1} → statement M
 range-intersect-spec = tie.close (tie.spec intersect-requires common-numbers-requires returns)

@@ -11,7 +11,7 @@ use borrow.Author.Needs.{needs, sfits-of}
 use Rattle.key.specs.Range.{kindOf}
 use Rattle.key.proofs.Lawful.{lawful}
 use Rattle.outcomes.specs.Stored.{stored, Sound}
-use Rattle.outcomes.specs.Outcomes.{Entry, inserts}
+use Rattle.outcomes.specs.Outcomes.{Entry, bulkInsertSound}
 use Rattle.set_ops.specs.Answers.{pairs}
 use Rattle.set_ops.proofs.Pairs.{length-pairs, getD-pairs, pair-at}
 use Rattle.outcomes.proofs.Went.{numbered, not-done}
@@ -20,7 +20,7 @@ use Rattle.set_ops.proofs.bulk.extend_formed.Statement.{statement}
 use Rattle.set_ops.proofs.bulk.extend_formed.Tie as tie
 
 abbrev Inv-loop : tie.InvT-loop
-Inv-loop kind count₀ starts₀ ends₀ values₀ new-starts new-ends n i₀ count starts ends values i = (i ≤ n) × Sound (kindOf kind) (stored count starts ends values) × (inserts (kindOf kind) (stored count₀ starts₀ ends₀ values₀) 0 (pairs new-starts new-ends) ≡ inserts (kindOf kind) (stored count starts ends values) i (drop i (pairs new-starts new-ends)))
+Inv-loop kind count₀ starts₀ ends₀ values₀ new-starts new-ends n i₀ count starts ends values i = (i ≤ n) × Sound (kindOf kind) (stored count starts ends values) × (bulkInsertSound (kindOf kind) (stored count₀ starts₀ ends₀ values₀) 0 (pairs new-starts new-ends) ≡ bulkInsertSound (kindOf kind) (stored count starts ends values) i (drop i (pairs new-starts new-ends)))
 
 abbrev μ-loop : tie.MeasureT-loop
 μ-loop kind count₀ starts₀ ends₀ values₀ new-starts new-ends n i₀ count starts ends values i = n - i
@@ -67,7 +67,7 @@ returns c =
     let rest = drop (suc (l .i)) xs in
     let cut : drop (l .i) xs ≡ x ∷ rest = drop-cons xs (l .i) _ h ∙ ap (λ (e : Entry). e ∷ rest) (getD-pairs ss es (l .i) h) in
     let went = rw (c .before .went .given .1) at (rw (toZ-ofZ (sfits-of (t .before .insert-arg5 .given)), toZ-ofZ (sfits-of (t .insert-arg6 .given))) at (c .before .before .before .insert .ensures)) in
-    entry-refused (kindOf (a .kind)) m (l .i) x rest (numbered went) (not-done went) ∙ sym (l .inv .2 ∙ ap (inserts (kindOf (a .kind)) m (l .i)) cut)
+    entry-refused (kindOf (a .kind)) m (l .i) x rest (numbered went) (not-done went) ∙ sym (l .inv .2 ∙ ap (bulkInsertSound (kindOf (a .kind)) m (l .i)) cut)
 
 add-i : tie.Need-add-i Inv-loop μ-loop
 add-i c = omega arith
@@ -93,11 +93,11 @@ loop-again c =
     let is = numbered went in (
       omega arith,
       entry-sound (kindOf (a .kind)) m (l .i) x rest is (lawful (a .kind)) (l .inv .1) refl .0,
-      rw (add-one (l .i)) (l .inv .2 ∙ ap (inserts (kindOf (a .kind)) m (l .i)) cut ∙ sym (entry-done (kindOf (a .kind)) m (l .i) x rest is refl)),
+      rw (add-one (l .i)) (l .inv .2 ∙ ap (bulkInsertSound (kindOf (a .kind)) m (l .i)) cut ∙ sym (entry-done (kindOf (a .kind)) m (l .i) x rest is refl)),
     )
 
 returns-2 : tie.Need-returns-2 Inv-loop μ-loop
-unfolding inserts
+unfolding bulkInsertSound
 returns-2 c =
     let s = c .before .before .before in
     let a = s .args in
@@ -108,7 +108,7 @@ returns-2 c =
     let xs = pairs ss es in
     let m = stored (l .count) (l .starts) (l .ends) (l .values) in
     let e : drop (l .i) xs ≡ [] = drop-of-length-le xs {i = l .i} (omega (arith, c .before .before .shorter .ensures)) in
-    sym (l .inv .2 ∙ ap (inserts (kindOf (a .kind)) m (l .i)) e)
+    sym (l .inv .2 ∙ ap (bulkInsertSound (kindOf (a .kind)) m (l .i)) e)
 
 pub extend-formed-spec : {M : Type 1} → statement M
 extend-formed-spec =

@@ -1,0 +1,2 @@
+-- What a reader must believe of lent references.
+pub mod Moments

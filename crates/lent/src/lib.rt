@@ -1,0 +1,1 @@
+// What a contract says of a lent reference: definitions alone. See specs/Moments.

@@ -1,0 +1,2 @@
+-- One outcome of each exported function.
+pub mod OneOutcome

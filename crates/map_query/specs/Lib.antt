@@ -1,0 +1,2 @@
+-- What a reader must believe of these functions: what each promises.
+pub mod Promises
