@@ -45,7 +45,8 @@ pub record Wrote (r : Count) (out : List ℕ) (w : Output) : Type 0 where
 
 -- bytes into the first places of a lent output, if it is long enough
 unfoldable pub intoOutput : List ℕ → List ℕ → Output
-intoOutput bs out = cond (ltb (length out) (length bs)) (output (Counted.Refused tooShort) out) (output (Counted.Count (length bs)) (bs ++ drop (length bs) out))
+intoOutput bs out = cond (ltb (length out) (length bs)) (output (Counted.Refused tooShort) out)
+    (output (Counted.Count (length bs)) (bs ++ drop (length bs) out))
 
 -- are two lists of bytes the same
 unfoldable pub sameBytes : List ℕ → List ℕ → Bool

@@ -82,14 +82,16 @@ queryIn Signed.Not e = Command.Other
 -- THE COMMAND of some words
 abbrev pub commandOf : List (List ℕ) → Command
 commandOf [] = Command.Ranges
-commandOf (w ∷ []) = cond (sameBytes w rangesWord) Command.Ranges (cond (sameBytes w makeWord) Command.Make (cond (sameBytes w helpWord) Command.Help Command.Other))
+commandOf (w ∷ []) = cond (sameBytes w rangesWord) Command.Ranges
+    (cond (sameBytes w makeWord) Command.Make (cond (sameBytes w helpWord) Command.Help Command.Other))
 commandOf (w ∷ a ∷ []) = Command.Other
 commandOf (w ∷ a ∷ b ∷ []) = Command.Other
 commandOf (w ∷ a ∷ b ∷ c ∷ []) = Command.Other
 commandOf (w ∷ a ∷ b ∷ c ∷ d ∷ []) =
     cond (sameBytes w dayWord) (datedBy View.Report a b c d) (cond (sameBytes w graphWord) (datedBy View.Graph a b c d) Command.Other)
 commandOf (w ∷ a ∷ b ∷ c ∷ d ∷ e ∷ []) =
-    cond (sameBytes w queryWord) (queryIn (readSigned a) (readSigned b)) (cond (sameBytes w graphWord && sameBytes e svgWord) (datedBy View.Picture a b c d) Command.Other)
+    cond (sameBytes w queryWord) (queryIn (readSigned a) (readSigned b))
+    (cond (sameBytes w graphWord && sameBytes e svgWord) (datedBy View.Picture a b c d) Command.Other)
 commandOf (w ∷ a ∷ b ∷ c ∷ d ∷ e ∷ f ∷ ws) = Command.Other
 
 -- A REFUSAL: its number, and a newline

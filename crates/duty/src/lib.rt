@@ -131,7 +131,8 @@ fn clipped(
     start: i64,
     end: i64,
 ) -> [u32; TABLE_LENGTH]
-    requires { ⌜ Met (now starts) (now ends) (now values) (rank start) (rank end) from to × Statuses (now values) from to × TableRoom (rank start) (rank end) (part (now starts) (now ends) (now values) from to) table ⌝ }
+    requires { ⌜ Met (now starts) (now ends) (now values) (rank start) (rank end) from to × Statuses (now values) from to
+        × TableRoom (rank start) (rank end) (part (now starts) (now ends) (now values) from to) table ⌝ }
     ensures { λ r. ⌜ Added (rank start) (rank end) (part (was starts) (was ends) (was values) from to) table r ⌝ }
 {
     let mut t = table;
@@ -156,7 +157,9 @@ fn whole(
     start: i64,
     end: i64,
 ) -> [u32; TABLE_LENGTH]
-    requires { ⌜ Met (now starts) (now ends) (now values) (rank start) (rank end) from to × Statuses (now values) from to × EachApart (now starts) (now ends) from to × Inside (now starts) (rank start) from to × TableRoom (rank start) (rank end) (part (now starts) (now ends) (now values) from to) table ⌝ }
+    requires { ⌜ Met (now starts) (now ends) (now values) (rank start) (rank end) from to × Statuses (now values) from to
+        × EachApart (now starts) (now ends) from to × Inside (now starts) (rank start) from to
+        × TableRoom (rank start) (rank end) (part (now starts) (now ends) (now values) from to) table ⌝ }
     ensures { λ r. ⌜ Added (rank start) (rank end) (part (was starts) (was ends) (was values) from to) table r ⌝ }
 {
     let mut t = table;
@@ -183,7 +186,8 @@ fn table_of(
     start: i64,
     end: i64,
 ) -> [u32; TABLE_LENGTH]
-    requires { ⌜ Met (now starts) (now ends) (now values) (rank start) (rank end) from to × Statuses (now values) from to × EachApart (now starts) (now ends) from to × TableRoom (rank start) (rank end) (part (now starts) (now ends) (now values) from to) noSeconds ⌝ }
+    requires { ⌜ Met (now starts) (now ends) (now values) (rank start) (rank end) from to × Statuses (now values) from to
+        × EachApart (now starts) (now ends) from to × TableRoom (rank start) (rank end) (part (now starts) (now ends) (now values) from to) noSeconds ⌝ }
     ensures { λ r. ⌜ Added (rank start) (rank end) (part (was starts) (was ends) (was values) from to) noSeconds r ⌝ }
 {
     let t = [0; TABLE_LENGTH];
@@ -234,7 +238,8 @@ fn walk(
     start: i64,
     end: i64,
 ) -> Walked
-    requires { ⌜ Sound halfOpen (stored count (now starts) (now ends) (now values)) × Reached halfOpen count (now ends) start from × (rank start < rank end) × (rank end - rank start < u32Limit) ⌝ }
+    requires { ⌜ Sound halfOpen (stored count (now starts) (now ends) (now values)) × Reached halfOpen count (now ends) start from
+        × (rank start < rank end) × (rank end - rank start < u32Limit) ⌝ }
     ensures { λ r. ⌜ r ≡ walkFinds (rank start) (rank end) (ranges halfOpen (atEntryWith count starts ends values)) ⌝ }
 {
     let to = first_past(RangeKind::HalfOpen, starts, from, count, end);

@@ -188,7 +188,8 @@ fn put_rows(
     at: usize,
 ) -> usize
     requires { ⌜ Quarters (stored count (now starts) (now ends) (now values)) start n × (at + rowCount * graphLineRoom ≤ length (now out)) ⌝ }
-    ensures { λ r. ⌜ AddsWithin (rowCount * graphLineRoom) (series (rowLine (ranges halfOpen (atEntryWith count starts ends values)) start n t) rowCount) (was out) at (becomes out) r ⌝ }
+    ensures { λ r. ⌜ AddsWithin (rowCount * graphLineRoom) (series
+        (rowLine (ranges halfOpen (atEntryWith count starts ends values)) start n t) rowCount) (was out) at (becomes out) r ⌝ }
 {
     let mut to = at;
     let mut row = 0;

@@ -148,7 +148,8 @@ pub fn gaps(
     out_starts: &mut [i64],
     out_ends: &mut [i64],
 ) -> Count
-    ensures { λ r. ⌜ Listed r (becomes «out_starts») (becomes «out_ends») (gaps (kindOf kind) (atEntry count starts ends values) start end (was «out_starts») (was «out_ends»)) ⌝ }
+    ensures { λ r. ⌜ Listed r (becomes «out_starts») (becomes «out_ends»)
+        (gaps (kindOf kind) (atEntry count starts ends values) start end (was «out_starts») (was «out_ends»)) ⌝ }
 {
     count_of(map_ops::find::gaps(
         kind,
@@ -283,7 +284,8 @@ pub fn gaps_unchecked(
     out_ends: &mut [i64],
 ) -> Count
     requires { ⌜ Sound (kindOf kind) (lent count starts ends values) ⌝ }
-    ensures { λ r. ⌜ Listed r (becomes «out_starts») (becomes «out_ends») (gapsSound (kindOf kind) (atEntry count starts ends values) start end (was «out_starts») (was «out_ends»)) ⌝ }
+    ensures { λ r. ⌜ Listed r (becomes «out_starts») (becomes «out_ends»)
+        (gapsSound (kindOf kind) (atEntry count starts ends values) start end (was «out_starts») (was «out_ends»)) ⌝ }
 {
     count_of(gaps::gaps(
         kind,

@@ -63,7 +63,8 @@ pub extern "C" fn range_map_query_unchecked(
     out_ends: &mut [i64],
 ) -> Count
     requires { ⌜ Sound halfOpen (held (now a)) × Sound halfOpen (held (now b)) ⌝ }
-    ensures { λ r. ⌜ RangeMapQueryUnchecked (was a) (was b) start end (was bytes) (was «out_starts») (becomes «out_starts») (was «out_ends») (becomes «out_ends») r ⌝ }
+    ensures { λ r. ⌜ RangeMapQueryUnchecked (was a) (was b) start end (was bytes) (was «out_starts») (becomes «out_starts») (was «out_ends»)
+        (becomes «out_ends») r ⌝ }
 {
     in_numbers(
         &a.count,

@@ -1,4 +1,5 @@
-// A day's report of a map, for C and Rust. Each exported function has a file of its own, so that each line of code stands once in its file and a wrong one can be tried.
+// A day's report of a map, for C and Rust. Each exported function has a file of its own, so that each line of code stands once in its file and a wrong one
+// can be tried.
 use map::RangeMap;
 use report::DayReport;
 ghost use Rattle.lent.specs.Moments.{was};

@@ -148,7 +148,8 @@ module _ (kind : Kind) where
   unfoldable pub gapsSound : Stored → ℤ → ℤ → List ℤ → List ℤ → Written
   gapsSound m s e starts ends =
       let q = spanOf kind s e 0 in
-      cond (empty q) (record { answer = Counted.Refused emptyRange; starts = starts; ends = ends }) (intoLists (gapsSound (q .lo) (q .hi) (ranges kind m)) starts ends)
+      cond (empty q) (record { answer = Counted.Refused emptyRange; starts = starts; ends = ends })
+      (intoLists (uncovered (q .lo) (q .hi) (ranges kind m)) starts ends)
 
   -- triples of start, end and value place by place, a prefix first
   unfoldable pub orderSound : Stored → Stored → Ordering

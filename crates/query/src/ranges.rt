@@ -41,7 +41,8 @@ fn by_table(
     out_ends: &mut [i64],
 ) -> Counted
     requires { ⌜ Sound halfOpen (columns «count_a» «starts_a» «ends_a» «values_a») × Sound halfOpen (columns «count_b» «starts_b» «ends_b» «values_b»)
-        × (rank start < rank end) × Bounded t (columns «count_a» «starts_a» «ends_a» «values_a») (columns «count_b» «starts_b» «ends_b» «values_b») start end ⌝ }
+        × (rank start < rank end) × Bounded t (columns «count_a» «starts_a» «ends_a» «values_a»)
+        (columns «count_b» «starts_b» «ends_b» «values_b») start end ⌝ }
     ensures { λ r. ⌜ WritesAll t (columns «count_a» («starts_a» .entry) («ends_a» .entry) («values_a» .entry))
         (columns «count_b» («starts_b» .entry) («ends_b» .entry) («values_b» .entry))
         start end (was «out_starts») (was «out_ends») (wrote r (becomes «out_starts») (becomes «out_ends»)) ⌝ }

@@ -153,7 +153,8 @@ pub fn gaps(
     out_starts: &mut [i64],
     out_ends: &mut [i64],
 ) -> Count
-    ensures { λ r. ⌜ Listed r (becomes «out_starts») (becomes «out_ends») (setGaps (kindOf kind) (atEntry count starts ends values) start end (was «out_starts») (was «out_ends»)) ⌝ }
+    ensures { λ r. ⌜ Listed r (becomes «out_starts») (becomes «out_ends»)
+        (setGaps (kindOf kind) (atEntry count starts ends values) start end (was «out_starts») (was «out_ends»)) ⌝ }
 {
     count_of(set_ops::found::gaps(
         kind,

@@ -27,7 +27,8 @@ fn extend_formed(
     new_ends: &[i64],
 ) -> Applied
     requires { ⌜ Sound (kindOf kind) (lent count starts ends values) ⌝ }
-    ensures { λ r. ⌜ extended r (atExit count starts ends values) ≡ bulkInsertSound (kindOf kind) (atEntry count starts ends values) 0 (pairs (was «new_starts») (was «new_ends»)) ⌝ }
+    ensures { λ r. ⌜ extended r (atExit count starts ends values)
+        ≡ bulkInsertSound (kindOf kind) (atEntry count starts ends values) 0 (pairs (was «new_starts») (was «new_ends»)) ⌝ }
 {
     let n = shorter(new_starts.len(), new_ends.len());
     let mut i = 0;
@@ -66,7 +67,8 @@ pub fn extend(
     new_starts: &[i64],
     new_ends: &[i64],
 ) -> Applied
-    ensures { λ r. ⌜ extended r (atExit count starts ends values) ≡ setBulkInsert (kindOf kind) (atEntry count starts ends values) (pairs (was «new_starts») (was «new_ends»)) ⌝ }
+    ensures { λ r. ⌜ extended r (atExit count starts ends values)
+        ≡ setBulkInsert (kindOf kind) (atEntry count starts ends values) (pairs (was «new_starts») (was «new_ends»)) ⌝ }
 {
     if !plain(values) {
         return Applied {

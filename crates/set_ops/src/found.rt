@@ -97,7 +97,8 @@ pub fn gaps(
     out_starts: &mut [i64],
     out_ends: &mut [i64],
 ) -> Counted
-    ensures { λ r. ⌜ wrote r (becomes «out_starts») (becomes «out_ends») ≡ setGaps (kindOf kind) (atEntry count starts ends values) start end (was «out_starts») (was «out_ends») ⌝ }
+    ensures { λ r. ⌜ wrote r (becomes «out_starts») (becomes «out_ends»)
+        ≡ setGaps (kindOf kind) (atEntry count starts ends values) start end (was «out_starts») (was «out_ends») ⌝ }
 {
     if !plain(values) {
         return Counted::Refused(NOT_FORMED);

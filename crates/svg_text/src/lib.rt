@@ -230,7 +230,8 @@ fn put_mark(
     out: &mut [u8],
     at: usize,
 ) -> usize
-    requires { ⌜ Quarter (stored count (now starts) (now ends) (now values)) start q × (row < rowCount) × (q < mostQuarters) × (at + markRoom ≤ length (now out)) ⌝ }
+    requires { ⌜ Quarter (stored count (now starts) (now ends) (now values)) start q × (row < rowCount) × (q < mostQuarters)
+        × (at + markRoom ≤ length (now out)) ⌝ }
     ensures { λ r. ⌜ AddsWithin markRoom (markSvg (ranges halfOpen (atEntryWith count starts ends values)) start row q) (was out) at (becomes out) r ⌝ }
 {
     if is_marked(count, starts, ends, values, start, row, q) {
@@ -252,7 +253,8 @@ fn put_marks(
     at: usize,
 ) -> usize
     requires { ⌜ Quarters (stored count (now starts) (now ends) (now values)) start n × (row < rowCount) × (at + marksRoom ≤ length (now out)) ⌝ }
-    ensures { λ r. ⌜ AddsWithin marksRoom (series (markSvg (ranges halfOpen (atEntryWith count starts ends values)) start row) n) (was out) at (becomes out) r ⌝ }
+    ensures { λ r. ⌜ AddsWithin marksRoom (series (markSvg (ranges halfOpen (atEntryWith count starts ends values)) start row) n) (was out) at
+        (becomes out) r ⌝ }
 {
     let mut to = at;
     let mut q = 0;
@@ -318,7 +320,8 @@ fn put_rows(
     at: usize,
 ) -> usize
     requires { ⌜ Quarters (stored count (now starts) (now ends) (now values)) start n × (at + rowCount * rowRoom ≤ length (now out)) ⌝ }
-    ensures { λ r. ⌜ AddsWithin (rowCount * rowRoom) (series (rowSvg (ranges halfOpen (atEntryWith count starts ends values)) start n t) rowCount) (was out) at (becomes out) r ⌝ }
+    ensures { λ r. ⌜ AddsWithin (rowCount * rowRoom) (series (rowSvg (ranges halfOpen (atEntryWith count starts ends values)) start n t) rowCount)
+        (was out) at (becomes out) r ⌝ }
 {
     let mut to = at;
     let mut row = 0;

@@ -37,7 +37,8 @@ fn extend_formed(
     new_values: &[Value],
 ) -> Applied
     requires { ⌜ Sound (kindOf kind) (lent count starts ends values) ⌝ }
-    ensures { λ r. ⌜ extended r (atExit count starts ends values) ≡ bulkInsertSound (kindOf kind) (atEntry count starts ends values) 0 (entries (was «new_starts») (was «new_ends») (was «new_values»)) ⌝ }
+    ensures { λ r. ⌜ extended r (atExit count starts ends values)
+        ≡ bulkInsertSound (kindOf kind) (atEntry count starts ends values) 0 (entries (was «new_starts») (was «new_ends») (was «new_values»)) ⌝ }
 {
     let n = shorter(shorter(new_starts.len(), new_ends.len()), new_values.len());
     let mut i = 0;
@@ -77,7 +78,8 @@ pub fn extend(
     new_ends: &[i64],
     new_values: &[Value],
 ) -> Applied
-    ensures { λ r. ⌜ extended r (atExit count starts ends values) ≡ bulkInsert (kindOf kind) (atEntry count starts ends values) (entries (was «new_starts») (was «new_ends») (was «new_values»)) ⌝ }
+    ensures { λ r. ⌜ extended r (atExit count starts ends values)
+        ≡ bulkInsert (kindOf kind) (atEntry count starts ends values) (entries (was «new_starts») (was «new_ends») (was «new_values»)) ⌝ }
 {
     if !well_formed(kind, *count, starts, ends, values) {
         return Applied {
