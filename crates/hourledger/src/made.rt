@@ -24,7 +24,12 @@ fn say(made: Made) {
     print(STDERR_FILENO, &out, n);
 }
 
-fn write_form(count: &usize, starts: &[i64; PLACES], ends: &[i64; PLACES], values: &[u8; PLACES]) {
+fn write_form<'a>(
+    count: &'a usize,
+    starts: &'a [i64; PLACES],
+    ends: &'a [i64; PLACES],
+    values: &'a [u8; PLACES],
+) {
     let mut out = [0u8; FORM];
     let written = byte_io::write::write(count, starts, ends, values, &mut out);
     if let Counted::Count(n) = written {
