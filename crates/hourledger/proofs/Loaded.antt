@@ -45,9 +45,9 @@ read-loaded old {m} bs bytes is e =
     }
 
 -- a form that is written has room
-pub written-within : (m : Stored) (out : List ℕ) {out₁ : List ℕ} {r : Counted} {n : ℕ} → output r out₁ ≡ form.writing rm01 m out → r ≡ Counted.Count n
+pub written-within : (m : Stored) (out : List ℕ) {out₁ : List ℕ} {r : Counted} {n : ℕ} → output r out₁ ≡ form.write rm01 m out → r ≡ Counted.Count n
     → n ≤ length out
-unfolding form.writing intoOutput
+unfolding form.write intoOutput
 written-within m out {out₁} {r} {n} is e =
     go (formed halfOpen m) (ltb (length out) (length (formOf rm01 m))) refl (sym (ap (λ (o : Output). o .answer) is) ∙ e)
   where

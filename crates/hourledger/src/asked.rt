@@ -74,15 +74,15 @@ fn show(n: usize, starts: &[i64; RESULTS], ends: &[i64; RESULTS])
     print(STDOUT_FILENO, &out, k);
 }
 
-fn of_query(
-    count_a: &usize,
-    starts_a: &[i64; PLACES],
-    ends_a: &[i64; PLACES],
-    values_a: &[Value; PLACES],
-    count_b: &usize,
-    starts_b: &[i64; PLACES],
-    ends_b: &[i64; PLACES],
-    values_b: &[Value; PLACES],
+fn of_query<'a, 'b>(
+    count_a: &'a usize,
+    starts_a: &'a [i64; PLACES],
+    ends_a: &'a [i64; PLACES],
+    values_a: &'a [Value; PLACES],
+    count_b: &'b usize,
+    starts_b: &'b [i64; PLACES],
+    ends_b: &'b [i64; PLACES],
+    values_b: &'b [Value; PLACES],
     start: i64,
     end: i64,
     query: &[u8],
@@ -110,15 +110,15 @@ fn of_query(
     }
 }
 
-fn of_maps(
-    count_a: &usize,
-    starts_a: &[i64; PLACES],
-    ends_a: &[i64; PLACES],
-    values_a: &[Value; PLACES],
-    count_b: &usize,
-    starts_b: &[i64; PLACES],
-    ends_b: &[i64; PLACES],
-    values_b: &[Value; PLACES],
+fn of_maps<'a, 'b>(
+    count_a: &'a usize,
+    starts_a: &'a [i64; PLACES],
+    ends_a: &'a [i64; PLACES],
+    values_a: &'a [Value; PLACES],
+    count_b: &'b usize,
+    starts_b: &'b [i64; PLACES],
+    ends_b: &'b [i64; PLACES],
+    values_b: &'b [Value; PLACES],
     start: i64,
     end: i64,
 ) {
@@ -140,11 +140,11 @@ fn of_maps(
 }
 
 // The second file, once the first is there.
-fn of_first(
-    count_a: &usize,
-    starts_a: &[i64; PLACES],
-    ends_a: &[i64; PLACES],
-    values_a: &[Value; PLACES],
+fn of_first<'a>(
+    count_a: &'a usize,
+    starts_a: &'a [i64; PLACES],
+    ends_a: &'a [i64; PLACES],
+    values_a: &'a [Value; PLACES],
     start: i64,
     end: i64,
 ) {

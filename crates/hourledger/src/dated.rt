@@ -79,12 +79,12 @@ fn show(
     }
 }
 
-fn of_map(
+fn of_map<'a>(
     view: View,
-    count: &usize,
-    starts: &[i64; PLACES],
-    ends: &[i64; PLACES],
-    values: &[Value; PLACES],
+    count: &'a usize,
+    starts: &'a [i64; PLACES],
+    ends: &'a [i64; PLACES],
+    values: &'a [Value; PLACES],
     zone: u8,
     year: u16,
     month: u8,

@@ -24,11 +24,11 @@ fn say(made: Made) {
     print(STDERR_FILENO, &out, n);
 }
 
-fn write_form(
-    count: &usize,
-    starts: &[i64; PLACES],
-    ends: &[i64; PLACES],
-    values: &[Value; PLACES],
+fn write_form<'a>(
+    count: &'a usize,
+    starts: &'a [i64; PLACES],
+    ends: &'a [i64; PLACES],
+    values: &'a [Value; PLACES],
 ) {
     let mut out = [0u8; LONGEST];
     let written = byte_io::write::write(count, starts, ends, values, &mut out);

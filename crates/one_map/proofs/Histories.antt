@@ -162,7 +162,7 @@ module _ {kind : Kind} (law : Lawful kind) where
 
   -- so lookup answers 0 with that value
   pub last-value-told : (xs : List (Event kind)) (k : ℤ) {v : ℕ} → lastValue xs (clear kind) k none ≡ some v
-      → let r = Numbers.rangeOf (lookup kind (afterEvents xs (clear kind)) k) in (r .answer ≡ 0) × (r .value ≡ v)
+      → let r = Numbers.foundInC (lookup kind (afterEvents xs (clear kind)) k) in (r .answer ≡ 0) × (r .value ≡ v)
   last-value-told xs k e = some-found (lookup kind (afterEvents xs (clear kind)) k) (last-value-held xs k ∙ e)
 
   -- or 5 where there is none

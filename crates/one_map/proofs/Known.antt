@@ -32,7 +32,7 @@ use Rattle.byte_form.proofs.Entries.{filled-take}
 use Rattle.one_map.specs.Events.{Proper, valueOf, valueAt}
 
 -- a lookup that tells a value answers 0, with that value
-pub some-found : (a : Found) {v : ℕ} → valueOf a ≡ some v → (Numbers.rangeOf a .answer ≡ 0) × (Numbers.rangeOf a .value ≡ v)
+pub some-found : (a : Found) {v : ℕ} → valueOf a ≡ some v → (Numbers.foundInC a .answer ≡ 0) × (Numbers.foundInC a .value ≡ v)
 some-found (Found.Range s e u) h = (refl, cc)
 some-found (Found.Refused n) h = absurd (never h)
 

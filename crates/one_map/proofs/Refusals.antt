@@ -51,8 +51,8 @@ count-zero (Counted.Count c) n = absurd (n refl)
 count-zero (Counted.Refused r) n = refl
 
 -- a range and its value
-pub range-zero : (a : Found) → (Numbers.rangeOf a .answer ≡ 0 → ⊥)
-    → (Numbers.rangeOf a .start ≡ pos 0) × (Numbers.rangeOf a .end ≡ pos 0) × (Numbers.rangeOf a .value ≡ 0)
+pub range-zero : (a : Found) → (Numbers.foundInC a .answer ≡ 0 → ⊥)
+    → (Numbers.foundInC a .start ≡ pos 0) × (Numbers.foundInC a .end ≡ pos 0) × (Numbers.foundInC a .value ≡ 0)
 range-zero (Found.Range s e v) n = absurd (n refl)
 range-zero (Found.Refused r) n = (refl, refl, refl)
 
@@ -281,7 +281,7 @@ toldNumber a = askedInC a .answer
 
 -- of a range found
 abbrev pub foundNumber : Found → ℕ
-foundNumber a = Numbers.rangeOf a .answer
+foundNumber a = Numbers.foundInC a .answer
 
 -- of a part of the places
 abbrev pub partNumber : Part → ℕ

@@ -25,7 +25,7 @@ november = insert halfOpen (insert halfOpen (clear halfOpen) (pos 1730606400) (p
 
 -- `unfolding all` opens every definition that a case computes with: of dates, of days, of spans, of maps, of duties
 unfoldable of-dates : Unit {0}
-unfolding leap yearLength monthLength Calendar.total yearsBefore monthsBefore dayNumber isDate nextDate weekday sundayWithin sundayFrom marchSunday novemberSunday
+unfolding leap yearLength monthLength Calendar.sumOfFirst yearsBefore monthsBefore dayNumber isDate nextDate weekday sundayWithin sundayFrom marchSunday novemberSunday
 of-dates = tt
 
 unfoldable of-days : Unit {0}

@@ -47,16 +47,16 @@ overlaps-says-no a b c d h = le-ltb (max a c) (min b d) (omega arith)
 -- an empty or reversed range
 module _ (kind : Kind) (s e : ℤ) (empty : kind .past e ≤ rank s) where
   -- the ledger refuses
-  pub contains-refused : (k : ℤ) → relations.containing kind s e k ≡ Empty
-  unfolding relations.containing
+  pub contains-refused : (k : ℤ) → relations.rangeContains kind s e k ≡ Empty
+  unfolding relations.rangeContains
   contains-refused k = rw (le-leb (kind .past e) (rank s) empty)
 
-  pub overlaps-refused : (s′ e′ : ℤ) → relations.overlapping kind s e s′ e′ ≡ Empty
-  unfolding relations.overlapping
+  pub overlaps-refused : (s′ e′ : ℤ) → relations.rangesOverlap kind s e s′ e′ ≡ Empty
+  unfolding relations.rangesOverlap
   overlaps-refused s′ e′ = rw (le-leb (kind .past e) (rank s) empty)
 
-  pub touches-refused : (s′ e′ : ℤ) → relations.touching kind s e s′ e′ ≡ Empty
-  unfolding relations.touching
+  pub touches-refused : (s′ e′ : ℤ) → relations.rangesTouch kind s e s′ e′ ≡ Empty
+  unfolding relations.rangesTouch
   touches-refused s′ e′ = rw (le-leb (kind .past e) (rank s) empty)
 
   module _ (rust : Functions) (transcribed : Transcribed kind rust) (m : Stored) (l : Lent kind m) where

@@ -83,8 +83,8 @@ module _ (kind : Kind) (rust : Functions) (transcribed : Transcribed kind rust) 
 
   -- TWO RANGES
   common-keys : (s e s′ e′ : ℤ) → SFits w64 s → SFits w64 e → SFits w64 s′ → SFits w64 e′
-      → relations.intersecting kind s e s′ e′ ≡ commonBy kind (range-intersect (spanOf kind s e 0) (spanOf kind s′ e′ 0))
-  unfolding relations.intersecting range-intersect
+      → relations.rangesIntersect kind s e s′ e′ ≡ commonBy kind (range-intersect (spanOf kind s e 0) (spanOf kind s′ e′ 0))
+  unfolding relations.rangesIntersect range-intersect
   common-keys s e s′ e′ f g f′ g′ = rw (← rank-greater s s′, ← law .least e e′)
       (cases (leb (kind .past (lesser e e′)) (rank (greater s s′)))
       (λ (z : Common). z ≡ commonBy kind (cond (leb (kind .past (lesser e e′)) (rank (greater s s′)))
@@ -93,13 +93,13 @@ module _ (kind : Kind) (rust : Functions) (transcribed : Transcribed kind rust) 
 
   pub relations-equal : (s e s′ e′ : ℤ) → SameRelations kind rust s e s′ e′
   relations-equal s e s′ e′ = record {
-    contains = λ k h. unfold relations.containing in rw (lt-leb (kind .past e) (rank s) h, same .contains-range (rank s) (kind .past e) (rank k) (ends-from e));
-    spansOverlap = λ h i. unfold relations.overlapping in rw (
+    contains = λ k h. unfold relations.rangeContains in rw (lt-leb (kind .past e) (rank s) h, same .contains-range (rank s) (kind .past e) (rank k) (ends-from e));
+    spansOverlap = λ h i. unfold relations.rangesOverlap in rw (
       lt-leb (kind .past e) (rank s) h,
       lt-leb (kind .past e′) (rank s′) i,
       same .overlaps-range (rank s) (kind .past e) (rank s′) (kind .past e′) h i,
     );
-    touches = λ h i. unfold relations.touching in rw (
+    touches = λ h i. unfold relations.rangesTouch in rw (
       lt-leb (kind .past e) (rank s) h,
       lt-leb (kind .past e′) (rank s′) i,
       same .touches-range (rank s) (kind .past e) (rank s′) (kind .past e′) h i (ends-by e) (ends-by e′),

@@ -57,13 +57,13 @@ applied kind m es = map single (take (bulkInsertSound kind m 0 es .told .applied
 module _ (kind : Kind) (rust : Functions) where
   -- MODULE 1: two ranges that are not empty or reversed, and intersect of any two, are related as the Rust says
   pub record SameRelations (s e s′ e′ : ℤ) : Type 0 where
-    pub contains : (k : ℤ) → rank s < kind .past e → relations.containing kind s e k ≡ related false (rust .range-contains (rank s) (kind .past e) (rank k))
+    pub contains : (k : ℤ) → rank s < kind .past e → relations.rangeContains kind s e k ≡ related false (rust .range-contains (rank s) (kind .past e) (rank k))
     pub overlaps : rank s < kind .past e → rank s′ < kind .past e′
-        → relations.overlapping kind s e s′ e′ ≡ related false (rust .range-overlaps (rank s) (kind .past e) (rank s′) (kind .past e′))
+        → relations.rangesOverlap kind s e s′ e′ ≡ related false (rust .range-overlaps (rank s) (kind .past e) (rank s′) (kind .past e′))
     pub touches : rank s < kind .past e → rank s′ < kind .past e′
-        → relations.touching kind s e s′ e′ ≡ relatedBy (rust .range-touches (rank s) (kind .past e) (rank s′) (kind .past e′))
+        → relations.rangesTouch kind s e s′ e′ ≡ relatedBy (rust .range-touches (rank s) (kind .past e) (rank s′) (kind .past e′))
     pub intersect : SFits w64 s → SFits w64 e → SFits w64 s′ → SFits w64 e′
-        → relations.intersecting kind s e s′ e′ ≡ commonBy kind (rust .range-intersect (spanOf kind s e 0) (spanOf kind s′ e′ 0))
+        → relations.rangesIntersect kind s e s′ e′ ≡ commonBy kind (rust .range-intersect (spanOf kind s e 0) (spanOf kind s′ e′ 0))
 
   -- after edits of which none is refused: the Rust, called in the same way from an empty map, holds btm, and the map that is left is the one
   -- that stores btm, place by place, unused places included

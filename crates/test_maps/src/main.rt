@@ -212,12 +212,34 @@ fn print_applied(r: Applied) {
     print_number(r.applied as u64);
 }
 
+// The fields of a local are lent at one lifetime: the borrow checker does not cover two at once.
+fn len_of<'a>(
+    kind: RangeKind,
+    count: &'a usize,
+    starts: &'a [i64; PLACES],
+    ends: &'a [i64; PLACES],
+    values: &'a [u8; PLACES],
+) -> Count {
+    map_abi::len(kind, count, starts, ends, values)
+}
+
+fn range_of<'a>(
+    kind: RangeKind,
+    count: &'a usize,
+    starts: &'a [i64; PLACES],
+    ends: &'a [i64; PLACES],
+    values: &'a [u8; PLACES],
+    place: usize,
+) -> Range {
+    map_abi::range_at(kind, count, starts, ends, values, place)
+}
+
 fn len(m: Map) -> Count {
-    map_abi::len(m.kind, &m.count, &m.starts, &m.ends, &m.values)
+    len_of(m.kind, &m.count, &m.starts, &m.ends, &m.values)
 }
 
 fn range_at(m: Map, place: usize) -> Range {
-    map_abi::range_at(m.kind, &m.count, &m.starts, &m.ends, &m.values, place)
+    range_of(m.kind, &m.count, &m.starts, &m.ends, &m.values, place)
 }
 
 // The comma before all places but the first.
@@ -486,12 +508,12 @@ fn print_question(kind: RangeKind, s: Step) {
 }
 
 // Overlaps is asked with overlapping, on a line of its own.
-fn answer_overlapping(
+fn answer_overlapping<'a>(
     kind: RangeKind,
-    count: &usize,
-    starts: &[i64; PLACES],
-    ends: &[i64; PLACES],
-    values: &[u8; PLACES],
+    count: &'a usize,
+    starts: &'a [i64; PLACES],
+    ends: &'a [i64; PLACES],
+    values: &'a [u8; PLACES],
     r: Ends,
 ) {
     print_stretch(map_abi::overlapping(kind, count, starts, ends, values, r.start, r.end));
@@ -500,12 +522,12 @@ fn answer_overlapping(
     print_yes(map_abi::overlaps(kind, count, starts, ends, values, r.start, r.end));
 }
 
-fn answer_gaps_into(
+fn answer_gaps_into<'a>(
     kind: RangeKind,
-    count: &usize,
-    starts: &[i64; PLACES],
-    ends: &[i64; PLACES],
-    values: &[u8; PLACES],
+    count: &'a usize,
+    starts: &'a [i64; PLACES],
+    ends: &'a [i64; PLACES],
+    values: &'a [u8; PLACES],
     r: Ends,
     out_starts: &mut [i64],
     out_ends: &mut [i64],
@@ -525,12 +547,12 @@ fn answer_gaps_into(
 }
 
 // The gaps into lists of so many places, which hold 0 before. Only one list is cut: the shorter decides.
-fn answer_gaps(
+fn answer_gaps<'a>(
     kind: RangeKind,
-    count: &usize,
-    starts: &[i64; PLACES],
-    ends: &[i64; PLACES],
-    values: &[u8; PLACES],
+    count: &'a usize,
+    starts: &'a [i64; PLACES],
+    ends: &'a [i64; PLACES],
+    values: &'a [u8; PLACES],
     r: Ends,
     many: usize,
 ) {
@@ -550,12 +572,12 @@ fn answer_gaps(
     }
 }
 
-fn answer(
+fn answer<'a>(
     kind: RangeKind,
-    count: &usize,
-    starts: &[i64; PLACES],
-    ends: &[i64; PLACES],
-    values: &[u8; PLACES],
+    count: &'a usize,
+    starts: &'a [i64; PLACES],
+    ends: &'a [i64; PLACES],
+    values: &'a [u8; PLACES],
     s: Step,
 ) {
     let what = s.what;
@@ -599,16 +621,16 @@ fn ask(m: Map, s: Step) {
     print(b'\n');
 }
 
-fn compare_by(
+fn compare_by<'a, 'b>(
     kind: RangeKind,
-    count: &usize,
-    starts: &[i64; PLACES],
-    ends: &[i64; PLACES],
-    values: &[u8; PLACES],
-    count2: &usize,
-    starts2: &[i64; PLACES],
-    ends2: &[i64; PLACES],
-    values2: &[u8; PLACES],
+    count: &'a usize,
+    starts: &'a [i64; PLACES],
+    ends: &'a [i64; PLACES],
+    values: &'a [u8; PLACES],
+    count2: &'b usize,
+    starts2: &'b [i64; PLACES],
+    ends2: &'b [i64; PLACES],
+    values2: &'b [u8; PLACES],
 ) {
     io::write_all(1, b"eq");
     print_yes(map_abi::eq(

@@ -204,15 +204,15 @@ fn print_yes(r: Told) {
     print_told(r.answer, r.yes);
 }
 
-fn list(
-    count_a: &usize,
-    starts_a: &[i64; PLACES],
-    ends_a: &[i64; PLACES],
-    values_a: &[u8; PLACES],
-    count_b: &usize,
-    starts_b: &[i64; PLACES],
-    ends_b: &[i64; PLACES],
-    values_b: &[u8; PLACES],
+fn list<'a, 'b>(
+    count_a: &'a usize,
+    starts_a: &'a [i64; PLACES],
+    ends_a: &'a [i64; PLACES],
+    values_a: &'a [u8; PLACES],
+    count_b: &'b usize,
+    starts_b: &'b [i64; PLACES],
+    ends_b: &'b [i64; PLACES],
+    values_b: &'b [u8; PLACES],
     start: i64,
     end: i64,
     bytes: &[u8],

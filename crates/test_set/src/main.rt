@@ -206,8 +206,20 @@ fn print_order(what: u8, r: Order) {
     }
 }
 
+// The fields of a local are lent at one lifetime: the borrow checker does not cover two at once.
+fn range_of<'a>(
+    kind: RangeKind,
+    count: &'a usize,
+    starts: &'a [i64; PLACES],
+    ends: &'a [i64; PLACES],
+    values: &'a [u8; PLACES],
+    place: usize,
+) -> Range {
+    set_abi::range_at(kind, count, starts, ends, values, place)
+}
+
 fn range_of_set(kind: RangeKind, m: Set, place: usize) -> Range {
-    set_abi::range_at(kind, &m.count, &m.starts, &m.ends, &m.values, place)
+    range_of(kind, &m.count, &m.starts, &m.ends, &m.values, place)
 }
 
 // The range at a place, if there is one.
@@ -238,12 +250,12 @@ fn print_edited(what: u8, kind: RangeKind, r: Edited) {
 // ---- one set
 
 // Is empty, len, first, last, the second range and the total.
-fn ask_whole(
+fn ask_whole<'a>(
     kind: RangeKind,
-    count: &usize,
-    starts: &[i64; PLACES],
-    ends: &[i64; PLACES],
-    values: &[u8; PLACES],
+    count: &'a usize,
+    starts: &'a [i64; PLACES],
+    ends: &'a [i64; PLACES],
+    values: &'a [u8; PLACES],
 ) {
     print_told(b'e', set_abi::is_empty(kind, count, starts, ends, values));
     print_count(b'n', set_abi::len(kind, count, starts, ends, values));
@@ -268,12 +280,12 @@ fn print_whole(kind: RangeKind, m: Set) {
 }
 
 // Get and contains.
-fn ask_at(
+fn ask_at<'a>(
     kind: RangeKind,
-    count: &usize,
-    starts: &[i64; PLACES],
-    ends: &[i64; PLACES],
-    values: &[u8; PLACES],
+    count: &'a usize,
+    starts: &'a [i64; PLACES],
+    ends: &'a [i64; PLACES],
+    values: &'a [u8; PLACES],
     key: i64,
 ) {
     print_found(
@@ -296,12 +308,12 @@ fn print_at(kind: RangeKind, m: Set, key: i64) {
 }
 
 // Overlapping, overlaps, and the gaps into three places, which hold 0 before.
-fn ask_over(
+fn ask_over<'a>(
     kind: RangeKind,
-    count: &usize,
-    starts: &[i64; PLACES],
-    ends: &[i64; PLACES],
-    values: &[u8; PLACES],
+    count: &'a usize,
+    starts: &'a [i64; PLACES],
+    ends: &'a [i64; PLACES],
+    values: &'a [u8; PLACES],
     start: i64,
     end: i64,
 ) {
@@ -358,16 +370,16 @@ fn print_over(kind: RangeKind, m: Set, r: Ends) {
 // ---- two sets
 
 // The intersection into three places, which hold 0 before.
-fn ask_intersection(
+fn ask_intersection<'a, 'b>(
     kind: RangeKind,
-    count: &usize,
-    starts: &[i64; PLACES],
-    ends: &[i64; PLACES],
-    values: &[u8; PLACES],
-    count2: &usize,
-    starts2: &[i64; PLACES],
-    ends2: &[i64; PLACES],
-    values2: &[u8; PLACES],
+    count: &'a usize,
+    starts: &'a [i64; PLACES],
+    ends: &'a [i64; PLACES],
+    values: &'a [u8; PLACES],
+    count2: &'b usize,
+    starts2: &'b [i64; PLACES],
+    ends2: &'b [i64; PLACES],
+    values2: &'b [u8; PLACES],
 ) {
     let mut out_starts = [0i64; 3];
     let mut out_ends = [0i64; 3];
@@ -392,16 +404,16 @@ fn ask_intersection(
 }
 
 // The union in the same way.
-fn ask_union(
+fn ask_union<'a, 'b>(
     kind: RangeKind,
-    count: &usize,
-    starts: &[i64; PLACES],
-    ends: &[i64; PLACES],
-    values: &[u8; PLACES],
-    count2: &usize,
-    starts2: &[i64; PLACES],
-    ends2: &[i64; PLACES],
-    values2: &[u8; PLACES],
+    count: &'a usize,
+    starts: &'a [i64; PLACES],
+    ends: &'a [i64; PLACES],
+    values: &'a [u8; PLACES],
+    count2: &'b usize,
+    starts2: &'b [i64; PLACES],
+    ends2: &'b [i64; PLACES],
+    values2: &'b [u8; PLACES],
 ) {
     let mut out_starts = [0i64; 3];
     let mut out_ends = [0i64; 3];
@@ -426,16 +438,16 @@ fn ask_union(
 }
 
 // Equality, order, intersection and union.
-fn ask_pair(
+fn ask_pair<'a, 'b>(
     kind: RangeKind,
-    count: &usize,
-    starts: &[i64; PLACES],
-    ends: &[i64; PLACES],
-    values: &[u8; PLACES],
-    count2: &usize,
-    starts2: &[i64; PLACES],
-    ends2: &[i64; PLACES],
-    values2: &[u8; PLACES],
+    count: &'a usize,
+    starts: &'a [i64; PLACES],
+    ends: &'a [i64; PLACES],
+    values: &'a [u8; PLACES],
+    count2: &'b usize,
+    starts2: &'b [i64; PLACES],
+    ends2: &'b [i64; PLACES],
+    values2: &'b [u8; PLACES],
 ) {
     print_told(
         b'q',
