@@ -16,7 +16,7 @@ use Rattle.key.specs.Rank.{rank, keyAt}
 use Rattle.key.specs.Range.{kindOf}
 use Rattle.key.specs.declared.RangeKind.{RangeKind}
 use Rattle.two_sets.specs.InnerKind.{wide}
-use Rattle.range_list.specs.InnerColumns.{listed, rest}
+use Rattle.range_list.specs.InnerColumns.{columnRows, rest}
 use Rattle.two_sets.specs.InnerSides.{Side}
 use Rattle.two_sets.proofs.Columns.{length-rows, spaced-rows, spaced-rest, rest-more, rest-none, rest-all}
 use Rattle.two_sets.specs.InnerLists.{Going}
@@ -55,7 +55,7 @@ module _ (kind : RangeKind) {sa ea sb eb : List ℤ} {na nb : ℕ} (a : Side (ki
   most =
       omega (
         arith,
-        length-common (listed (kindOf kind) sa ea na) (listed (kindOf kind) sb eb nb) (spaced-rows (kindOf kind) a) (spaced-rows (kindOf kind) b),
+        length-common (columnRows (kindOf kind) sa ea na) (columnRows (kindOf kind) sb eb nb) (spaced-rows (kindOf kind) a) (spaced-rows (kindOf kind) b),
         length-rows (kindOf kind) a,
         length-rows (kindOf kind) b,
       )

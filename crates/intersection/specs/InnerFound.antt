@@ -11,7 +11,7 @@ use Rattle.span.specs.Operations.{common}
 use Rattle.key.specs.Rank.{rank}
 use Rattle.key.specs.Range.{kindOf}
 use Rattle.key.specs.declared.RangeKind.{RangeKind}
-use Rattle.range_list.specs.InnerColumns.{listed, rest}
+use Rattle.range_list.specs.InnerColumns.{columnRows, rest}
 use Rattle.range_list.specs.InnerLists.{ListRoom}
 use Rattle.two_sets.specs.InnerKind.{wide}
 use Rattle.two_sets.specs.InnerSides.{Side}
@@ -20,7 +20,7 @@ use Rattle.two_sets.specs.declared.Position.{Position}
 
 -- what the two sets have in common
 abbrev pub shared : RangeKind → List ℤ → List ℤ → ℕ → List ℤ → List ℤ → ℕ → List Span
-shared kind sa ea na sb eb nb = common (listed (kindOf kind) sa ea na) (listed (kindOf kind) sb eb nb)
+shared kind sa ea na sb eb nb = common (columnRows (kindOf kind) sa ea na) (columnRows (kindOf kind) sb eb nb)
 
 -- what they have in common from place i of the first and place j of the second on
 abbrev pub sharedFrom : RangeKind → List ℤ → List ℤ → ℕ → ℕ → List ℤ → List ℤ → ℕ → ℕ → List Span

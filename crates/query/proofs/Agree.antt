@@ -24,7 +24,7 @@ use Rattle.outcomes.specs.declared.Counted.{Counted}
 use Rattle.outcomes.specs.declared.Counted.the-variants as Counted
 use Rattle.outcomes.specs.declared.Count.{Count}
 use Rattle.outcomes.proofs.Sets.{covers}
-use Rattle.range_list.specs.InnerColumns.{listed}
+use Rattle.range_list.specs.InnerColumns.{columnRows}
 use Rattle.query_text.specs.Grammar.{Query, Is}
 use Rattle.query_text.proofs.Unambiguous.{unambiguous}
 use Rattle.query.specs.Result.{isTrue, marked}
@@ -37,7 +37,7 @@ use Rattle.query.proofs.ByCases.{Asks, isIn, Answered, refusal, shown, 
 
 -- the ranges in the first n places of the two lists
 abbrev pub writtenRanges : ℕ → Written → List Span
-writtenRanges n w = listed halfOpen (w .starts) (w .ends) n
+writtenRanges n w = columnRows halfOpen (w .starts) (w .ends) n
 
 -- a refusal is no count, and yes or no is no refusal
 pub refused-counted : {A : Type 0} {m n : ℕ} → Counted.Refused m ≡ Counted.Count n → A

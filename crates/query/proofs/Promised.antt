@@ -7,7 +7,6 @@ use mathlib.Core.Bool.{Bool, true, false}
 use mathlib.Core.List.{List, []}
 use lib.ListN.{length}
 use lib.IntN.{ℤ}
-use Rattle.answers.specs.Answers.{done}
 use Rattle.span.specs.Span.{Span}
 use Rattle.span.proofs.Tests.{lt-cases}
 use Rattle.key.specs.Rank.{rank}
@@ -23,7 +22,7 @@ use Rattle.outcomes.specs.declared.Count.{Count}
 use Rattle.outcomes.specs.declared.Told.{Told}
 use Rattle.outcomes.proofs.Sets.{covers}
 use Rattle.outcomes.proofs.Unique.{list-one}
-use Rattle.range_list.specs.InnerColumns.{listed}
+use Rattle.range_list.specs.InnerColumns.{columnRows}
 use Rattle.query_text.specs.Grammar.{Query, Is}
 use Rattle.query_text.proofs.Alike.{Alike}
 use Rattle.query.specs.Answers.{resultOf, queryRanges, queryAt}
@@ -37,7 +36,7 @@ told-yes true = refl
 told-yes false = refl
 
 -- a number 0 that is no refusal's is a count
-counted : (c : Counted) {r : Count} → r ≡ countedInC c → r .answer ≡ 0 → (c ≡ Counted.Refused done → ⊥) → c ≡ Counted.Count (r .count)
+counted : (c : Counted) {r : Count} → r ≡ countedInC c → r .answer ≡ 0 → (c ≡ Counted.Refused 0 → ⊥) → c ≡ Counted.Count (r .count)
 counted (Counted.Count n) e z f = ap (λ (r : Count). Counted.Count (r .count)) (sym e)
 counted (Counted.Refused n) {r} e z f =
     let h : r .answer ≡ n = ap (λ (r : Count). r .answer) e in
@@ -91,20 +90,20 @@ module _ (a b : Stored) (s e : ℤ) (bytes : List ℕ) (k : ℤ) where
 module _ (a b : Stored) (s e : ℤ) (bytes : List ℕ) (os oe : List ℤ) where
   module _ {r : Count} {starts ends : List ℤ} (listed : Listed r starts ends (queryRanges a b s e bytes os oe)) where
     -- WHERE THE NUMBER IS 0, the first places of the lent lists, as many as the count, are the true instants of the window in maximal ranges
-    pub listed-means : r .answer ≡ 0 → IsResult a b s e bytes (listed halfOpen starts ends (r .count))
+    pub listed-means : r .answer ≡ 0 → IsResult a b s e bytes (columnRows halfOpen starts ends (r .count))
     listed-means z =
         let x = querying-answers a b s e bytes os oe s in
         rw (listed .starts-are, listed .ends-are) (answered-means x (r .count) (answered-done x (listed .number) z))
 
     -- and so the result of the query that the bytes are: its hours and windows are those of WrittenLaws
-    pub listed-tells : {q : Query} → Is bytes q → r .answer ≡ 0 → TellsResult a b s e bytes q (listed halfOpen starts ends (r .count))
+    pub listed-tells : {q : Query} → Is bytes q → r .answer ≡ 0 → TellsResult a b s e bytes q (columnRows halfOpen starts ends (r .count))
     listed-tells is z =
         let x = querying-answers a b s e bytes os oe s in
         rw (listed .starts-are, listed .ends-are) (tells-result x is (r .count) (answered-done x (listed .number) z))
 
     module _ {t : Told} (k : ℤ) (told : t ≡ askedInC (queryAt a b s e bytes k)) where
       -- THE TWO ENTRIES AGREE: the instant is told yes exactly where one of those ranges covers it
-      pub listed-agree : r .answer ≡ 0 → t ≡ record { answer = 0; yes = covers (listed halfOpen starts ends (r .count)) (rank k) }
+      pub listed-agree : r .answer ≡ 0 → t ≡ record { answer = 0; yes = covers (columnRows halfOpen starts ends (r .count)) (rank k) }
       listed-agree z =
           let x = querying-answers a b s e bytes os oe k in
           let y = answered-agree x (r .count) (answered-done x (listed .number) z) in

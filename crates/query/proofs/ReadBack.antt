@@ -15,7 +15,7 @@ use Rattle.outcomes.specs.Stored.{spans}
 use Rattle.outcomes.specs.Outcomes.{Written, intoLists}
 use Rattle.outcomes.specs.declared.Counted.the-variants as Counted
 use Rattle.range_list.specs.InnerLists.{startsOf, endsOf}
-use Rattle.range_list.specs.InnerColumns.{listed}
+use Rattle.range_list.specs.InnerColumns.{columnRows}
 
 module _ (kind : Kind) (law : Lawful kind) where
   rows-back : (b : ℕ) (xs : List Span) (rs re : List ℤ) → Ordered b xs → Plain xs → Upto (law .limit) xs
@@ -28,8 +28,8 @@ module _ (kind : Kind) (law : Lawful kind) where
       (ap (λ (l : ℕ). span (x .lo) (x .hi) l ∷ xs) (sym (p .0)))
 
   pub read-back : (xs : List Span) (os oe : List ℤ) → Ordered 0 xs → Plain xs → Upto (law .limit) xs
-      → (n : ℕ) → intoLists kind xs os oe .answer ≡ Counted.Count n → listed kind (intoLists kind xs os oe .starts) (intoLists kind xs os oe .ends) n ≡ xs
-  unfolding intoLists listed
+      → (n : ℕ) → intoLists kind xs os oe .answer ≡ Counted.Count n → columnRows kind (intoLists kind xs os oe .starts) (intoLists kind xs os oe .ends) n ≡ xs
+  unfolding intoLists columnRows
   read-back xs os oe o p u n = lt-cases (min (length os) (length oe)) (length xs)
       (λ (w : Written). w .answer ≡ Counted.Count n → take n (spans kind (w .starts) (w .ends) (replicate (length (w .starts)) 0)) ≡ xs)
       (λ h e. absurd (let z : _≡_ {A = ℕ} 0 1 = cc in omega arith))

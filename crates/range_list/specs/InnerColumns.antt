@@ -8,9 +8,9 @@ use Rattle.key.specs.Range.{Kind}
 use Rattle.outcomes.specs.Stored.{spans}
 
 -- those of the first n places
-unfoldable pub listed : Kind → List ℤ → List ℤ → ℕ → List Span
-listed kind ss es n = take n (spans kind ss es (replicate (length ss) 0))
+unfoldable pub columnRows : Kind → List ℤ → List ℤ → ℕ → List Span
+columnRows kind ss es n = take n (spans kind ss es (replicate (length ss) 0))
 
 -- of these the ones at the places from k on
 unfoldable pub rest : Kind → List ℤ → List ℤ → ℕ → ℕ → List Span
-rest kind ss es n k = drop k (listed kind ss es n)
+rest kind ss es n k = drop k (columnRows kind ss es n)

@@ -23,7 +23,7 @@ use Rattle.key.specs.Range.{kindOf}
 use Rattle.key.specs.declared.RangeKind.{RangeKind}
 use Rattle.key.specs.declared.RangeKind.the-variants as RangeKind
 use Rattle.two_sets.specs.InnerKind.{wide}
-use Rattle.range_list.specs.InnerColumns.{listed, rest}
+use Rattle.range_list.specs.InnerColumns.{columnRows, rest}
 use Rattle.two_sets.specs.InnerSides.{Side}
 use Rattle.two_sets.proofs.Kinded.{past-is}
 use Rattle.two_sets.proofs.Columns.{spaced-rows, spaced-rest, rest-more, rest-none, rest-all}
@@ -49,8 +49,8 @@ module _ (kind : Kind) (c : ℕ) (within : (e : ℤ) → kind .past e ≤ c) whe
   upto-spans (s ∷ ss) (e ∷ es) [] = tt
   upto-spans (s ∷ ss) (e ∷ es) (v ∷ vs) = (within e, upto-spans ss es vs)
 
-  upto-rows : (ss es : List ℤ) (n : ℕ) → Upto c (listed kind ss es n)
-  unfolding listed
+  upto-rows : (ss es : List ℤ) (n : ℕ) → Upto c (columnRows kind ss es n)
+  unfolding columnRows
   upto-rows ss es n = upto-take c n (spans kind ss es (replicate (length ss) 0)) (upto-spans ss es (replicate (length ss) 0))
 
 -- one range more
@@ -73,7 +73,7 @@ wide-one RangeKind.Inclusive = omega arith
 -- A HALF-OPEN SET never has too many
 pub open-fits : {ss es : List ℤ} {n : ℕ} (kind : RangeKind) → wide kind ≡ 0 → Side (kindOf kind) ss es n → columnsTotal kind ss es n < keys
 open-fits {ss} {es} {n} RangeKind.Inclusive e s = absurd (omega arith)
-open-fits {ss} {es} {n} RangeKind.HalfOpen e s = omega (arith, total-after 0 (keys - 1) (listed halfOpen ss es n) (spaced-ordered 0 (listed halfOpen ss es n) (spaced-rows halfOpen s)) (upto-rows halfOpen (keys - 1) (λ d. omega (arith, rank-below (ofZ w64 d))) ss es n))
+open-fits {ss} {es} {n} RangeKind.HalfOpen e s = omega (arith, total-after 0 (keys - 1) (columnRows halfOpen ss es n) (spaced-ordered 0 (columnRows halfOpen ss es n) (spaced-rows halfOpen s)) (upto-rows halfOpen (keys - 1) (λ d. omega (arith, rank-below (ofZ w64 d))) ss es n))
 
 module _ (kind : RangeKind) {ss es : List ℤ} {n : ℕ} (side : Side (kindOf kind) ss es n) where
   -- none is left

@@ -16,7 +16,7 @@ use Rattle.key.specs.declared.RangeKind.{RangeKind}
 use Rattle.outcomes.specs.Stored.{spans}
 use Rattle.outcomes.proofs.Sets.{plain-take}
 use Rattle.two_sets.specs.InnerKind.{wide}
-use Rattle.range_list.specs.InnerColumns.{listed, rest}
+use Rattle.range_list.specs.InnerColumns.{columnRows, rest}
 use Rattle.range_list.proofs.Columns as columns
 use Rattle.two_sets.specs.InnerSides.{Side}
 use Rattle.two_sets.proofs.Kinded.{past-is}
@@ -38,19 +38,19 @@ spaced-drop b (suc k) [] s = tt
 spaced-drop b (suc k) (x ∷ xs) s = spaced-from {b = suc (x .hi)} (drop k xs) (omega arith) (spaced-drop (suc (x .hi)) k xs (s .3))
 
 module _ (kind : Kind) {ss es : List ℤ} {n : ℕ} (side : Side kind ss es n) where
-  pub length-rows : length (listed kind ss es n) ≡ n
+  pub length-rows : length (columnRows kind ss es n) ≡ n
   length-rows = columns.length-rows kind ss es n (side .held) (side .ends-as)
 
   -- it is a set
-  pub spaced-rows : Spaced 0 (listed kind ss es n)
-  unfolding listed
-  spaced-rows = tidy-spaced 0 (listed kind ss es n) (side .tidy .ordered) (side .tidy .separate) (plain-take n _ (plain-bare kind ss es))
+  pub spaced-rows : Spaced 0 (columnRows kind ss es n)
+  unfolding columnRows
+  spaced-rows = tidy-spaced 0 (columnRows kind ss es n) (side .tidy .ordered) (side .tidy .separate) (plain-take n _ (plain-bare kind ss es))
 
   pub spaced-rest : (k : ℕ) → Spaced 0 (rest kind ss es n k)
   unfolding rest
-  spaced-rest k = spaced-drop 0 k (listed kind ss es n) spaced-rows
+  spaced-rest k = spaced-drop 0 k (columnRows kind ss es n) spaced-rows
 
-  pub rest-all : rest kind ss es n 0 ≡ listed kind ss es n
+  pub rest-all : rest kind ss es n 0 ≡ columnRows kind ss es n
   rest-all = columns.rest-all kind ss es n (side .held) (side .ends-as)
 
   pub rest-none : (k : ℕ) → n ≤ k → rest kind ss es n k ≡ []

@@ -11,7 +11,7 @@ use Rattle.key.specs.Range.{Kind}
 use Rattle.outcomes.specs.Stored.{Stored, ranges, noughts}
 use Rattle.outcomes.specs.Sets.{plain, SoundSet}
 use Rattle.outcomes.proofs.Formed.{good}
-use Rattle.range_list.specs.InnerColumns.{listed}
+use Rattle.range_list.specs.InnerColumns.{columnRows}
 use Rattle.two_sets.specs.InnerSides.{Side}
 
 -- the values of a set are known
@@ -22,8 +22,8 @@ noughts-are (v ∷ vs) e = let (a, b) = both (eqb v 0) (noughts vs) e in rw (eqb
 
 module _ (kind : Kind) {m : Stored} (set : SoundSet kind m) where
   -- so its ranges are those of its columns of starts and ends
-  pub rows-are : listed kind (m .starts) (m .ends) (m .count) ≡ ranges kind m
-  unfolding listed ranges plain
+  pub rows-are : columnRows kind (m .starts) (m .ends) (m .count) ≡ ranges kind m
+  unfolding columnRows ranges plain
   rows-are =
       let v : m .values ≡ replicate (length (m .starts)) 0 = noughts-are (m .values) (set .plain-too) ∙ ap (λ (n : ℕ). replicate n 0) (set .sound .values-as) in
       rw (← v)

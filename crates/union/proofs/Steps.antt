@@ -21,7 +21,7 @@ use Rattle.key.proofs.Answers.{never}
 use Rattle.key.specs.Range.{kindOf}
 use Rattle.key.specs.declared.RangeKind.{RangeKind}
 use Rattle.two_sets.specs.InnerKind.{wide}
-use Rattle.range_list.specs.InnerColumns.{listed, rest}
+use Rattle.range_list.specs.InnerColumns.{columnRows, rest}
 use Rattle.two_sets.specs.InnerSides.{Side}
 use Rattle.two_sets.proofs.Columns.{length-rows, spaced-rest, rest-more, rest-none, rest-all}
 use Rattle.two_sets.specs.InnerLists.{Counting, Going}
@@ -129,7 +129,7 @@ turned false xs ys = refl
 module _ (kind : RangeKind) {sa ea sb eb : List ℤ} {na nb : ℕ} (a : Side (kindOf kind) sa ea na) (b : Side (kindOf kind) sb eb nb) where
   -- at most as many as the sets have together
   pub most : length (either kind sa ea na sb eb nb) ≤ na + nb
-  most = omega (arith, length-united (listed (kindOf kind) sa ea na) (listed (kindOf kind) sb eb nb), length-rows (kindOf kind) a, length-rows (kindOf kind) b)
+  most = omega (arith, length-united (columnRows (kindOf kind) sa ea na) (columnRows (kindOf kind) sb eb nb), length-rows (kindOf kind) a, length-rows (kindOf kind) b)
 
   module _ {i j lo h : ℕ} (o : Opened kind lo h sa ea na i sb eb nb j) (r : Taken) (t : TakesNext sa ea na i sb eb nb j r) where
     by-left : (left : Bool) → r .left ≡ left →

@@ -10,14 +10,14 @@ use Rattle.span.specs.Operations.{absorb, united}
 use Rattle.key.specs.Rank.{rank}
 use Rattle.key.specs.Range.{kindOf}
 use Rattle.key.specs.declared.RangeKind.{RangeKind}
-use Rattle.range_list.specs.InnerColumns.{listed, rest}
+use Rattle.range_list.specs.InnerColumns.{columnRows, rest}
 use Rattle.two_sets.specs.InnerKind.{wide}
 use Rattle.two_sets.specs.declared.Position.{Position}
 use Rattle.union.specs.declared.walk.Taken.{Taken}
 
 -- the union of the two sets
 abbrev pub either : RangeKind → List ℤ → List ℤ → ℕ → List ℤ → List ℤ → ℕ → List Span
-either kind sa ea na sb eb nb = united (listed (kindOf kind) sa ea na) (listed (kindOf kind) sb eb nb)
+either kind sa ea na sb eb nb = united (columnRows (kindOf kind) sa ea na) (columnRows (kindOf kind) sb eb nb)
 
 -- what is still to be written where a range of the ranks from s to e is open: it, laid into the union from place i of the first set
 -- and place j of the second on

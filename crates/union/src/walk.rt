@@ -7,13 +7,11 @@ use two_sets::meets;
 use two_sets::pick;
 ghost use mathlib.Core.Path.{_≡_};
 ghost use Prim.Native.Nat.{_+_, _≤_, _<_};
-ghost use lib.Dec.{ltb};
 ghost use lib.ListN.{length};
 ghost use Rattle.lent.specs.Moments.{was, becomes};
 ghost use Rattle.key.specs.Rank.{rank};
 ghost use Rattle.key.specs.Range.{kindOf};
 ghost use Rattle.range_list.specs.InnerLists.{ListRoom};
-ghost use Rattle.two_sets.specs.InnerKind.{wide};
 ghost use Rattle.two_sets.specs.InnerSides.{Side};
 ghost use Rattle.two_sets.specs.InnerLists.{Ended};
 ghost use Rattle.union.specs.InnerFound.{openAt, OpenedAt, TakesNext, First};
@@ -63,13 +61,6 @@ fn next(
         end: pick(left, ends_a[i], ends_b[j]),
         left,
     }
-}
-
-// Whether a range up to `end` overlaps one that starts at `start`, no sooner than it. Only then do the two become one: ranges that touch stay apart.
-fn overlaps(kind: RangeKind, end: i64, start: i64) -> bool
-    ensures { λ r. ⌜ r ≡ ltb (rank start) (wide kind + rank end) ⌝ }
-{
-    meets(kind, start, end)
 }
 
 // Where the walk is once the first range is taken: that is the open one.
@@ -123,7 +114,8 @@ pub fn counted_from(
     let mut hi = from.end;
     while i + j < total {
         let t = next(starts_a, ends_a, count_a, i, starts_b, ends_b, count_b, j);
-        let joins = overlaps(kind, hi, t.start);
+        // Only ranges that overlap become one: those that touch stay apart.
+        let joins = meets(kind, t.start, hi);
         i += t.left as usize;
         j += !t.left as usize;
         n += !joins as usize;
@@ -165,7 +157,7 @@ pub fn write_from(
     while i + j < total {
         put(out_starts, out_ends, at, lo, hi);
         let t = next(starts_a, ends_a, count_a, i, starts_b, ends_b, count_b, j);
-        let same = overlaps(kind, hi, t.start);
+        let same = meets(kind, t.start, hi);
         i += t.left as usize;
         j += !t.left as usize;
         at += !same as usize;

@@ -43,8 +43,8 @@ add-loop c = omega arith
 next-requires : tie.Need-next-requires Inv-loop μ-loop
 next-requires c κs = omega arith
 
-overlaps-requires : tie.Need-overlaps-requires Inv-loop μ-loop
-overlaps-requires c κs = tt
+meets-requires : tie.Need-meets-requires Inv-loop μ-loop
+meets-requires c κs = tt
 
 -- the sum of the places, after the step
 record Inside (c : tie.After-next Inv-loop μ-loop) : Type 0 where
@@ -72,7 +72,7 @@ cast-n : tie.Need-cast-n Inv-loop μ-loop
 cast-n c = tt
 
 add-n : tie.Need-add-n Inv-loop μ-loop
-add-n c = let h = inside (c .before .before .before .before) in omega (arith, one-goes (c .before .before .overlaps .result), h .within, h .fits, h .few)
+add-n c = let h = inside (c .before .before .before .before) in omega (arith, one-goes (c .before .before .meets .result), h .within, h .fits, h .few)
 
 pick-requires : tie.Need-pick-requires Inv-loop μ-loop
 pick-requires c κs = tt
@@ -90,15 +90,15 @@ loop-again c =
     let l = turn x .loop in
     let s = entry (turn x) in
     let t = x .next .ensures in
-    let p = simp rank-back at (m .overlaps .ensures) in
+    let p = simp rank-back at (m .meets .ensures) in
     let q = simp rank-back at (c .before .before .pick .ensures) in
     let g = greater-bits (l .hi) (x .next .result .end) (c .max .ensures) in
     let h = inside x in
-    let few : l .n + boolByte (not (m .overlaps .result)) ≤ (l .i + boolByte (x .next .result .left)) + (l .j + boolByte (not (x .next .result .left))) =
-    omega (arith, one-goes (m .overlaps .result), h .places, h .few) in (
+    let few : l .n + boolByte (not (m .meets .result)) ≤ (l .i + boolByte (x .next .result .left)) + (l .j + boolByte (not (x .next .result .left))) =
+    omega (arith, one-goes (m .meets .result), h .places, h .few) in (
       few,
-      still-open (s .args .kind) (s .pre .0) (s .pre .1) (l .inv .1) (x .next .result) t (m .overlaps .result) p q g,
-      counting-on (s .args .kind) (s .pre .0) (s .pre .1) (l .inv .1) (x .next .result) t (m .overlaps .result) p q g (l .inv .2),
+      still-open (s .args .kind) (s .pre .0) (s .pre .1) (l .inv .1) (x .next .result) t (m .meets .result) p q g,
+      counting-on (s .args .kind) (s .pre .0) (s .pre .1) (l .inv .1) (x .next .result) t (m .meets .result) p q g (l .inv .2),
     )
 
 add-result : tie.Need-add-result Inv-loop μ-loop
@@ -120,7 +120,7 @@ counted-from-spec =
     loop-holds
     add-loop
     next-requires
-    overlaps-requires
+    meets-requires
     cast-i
     add-i
     cast-j

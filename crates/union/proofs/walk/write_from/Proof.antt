@@ -69,8 +69,8 @@ next-requires c κs =
     let l = t .before .loop in
     (s .pre .0 .held, s .pre .0 .ends-as, s .pre .1 .held, s .pre .1 .ends-as, l .inv .0 .in-a, l .inv .0 .in-b, inside t .within)
 
-overlaps-requires : tie.Need-overlaps-requires Inv-loop μ-loop
-overlaps-requires c κs = tt
+meets-requires : tie.Need-meets-requires Inv-loop μ-loop
+meets-requires c κs = tt
 
 cast-i : tie.Need-cast-i Inv-loop μ-loop
 cast-i c = tt
@@ -103,7 +103,7 @@ add-at c =
     let x = m .before .before in
     let l = turn x .before .loop in
     let h = inside (turn x) in
-    let f : l .at + boolByte (not (m .overlaps .result)) < 2 ^ 64 = omega (arith, one-goes (m .overlaps .result), h .at-fits) in
+    let f : l .at + boolByte (not (m .meets .result)) < 2 ^ 64 = omega (arith, one-goes (m .meets .result), h .at-fits) in
     record { fits = f }
 
 pick-requires : tie.Need-pick-requires Inv-loop μ-loop
@@ -130,11 +130,11 @@ loop-again c =
     let s = entry (turn x .before) in
     let w = x .before .before .before .put .ensures in
     let t = x .next .ensures in
-    let p = simp rank-back at (m .overlaps .ensures) in
+    let p = simp rank-back at (m .meets .ensures) in
     let q = simp rank-back at (c .before .before .pick .ensures) in
     let g = greater-bits (l .hi) (x .next .result .end) (c .max .ensures) in (
-      still-open (s .args .kind) (s .pre .0) (s .pre .1) (l .inv .0) (x .next .result) t (m .overlaps .result) p q g,
-      going-on (s .args .kind) (s .pre .0) (s .pre .1) (l .inv .0) (x .next .result) t (m .overlaps .result) p q g (l .inv .1)
+      still-open (s .args .kind) (s .pre .0) (s .pre .1) (l .inv .0) (x .next .result) t (m .meets .result) p q g,
+      going-on (s .args .kind) (s .pre .0) (s .pre .1) (l .inv .0) (x .next .result) t (m .meets .result) p q g (l .inv .1)
           (put-start (l .out-starts) (l .at) (l .lo) (w .0)) (put-end (s .args .kind) (l .out-ends) (l .at) (l .hi) (w .1)),
     )
 
@@ -179,7 +179,7 @@ write-from-spec =
     add-loop
     put-requires
     next-requires
-    overlaps-requires
+    meets-requires
     cast-i
     add-i
     cast-j
