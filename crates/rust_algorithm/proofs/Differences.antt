@@ -27,12 +27,13 @@ use Rattle.outcomes.specs.Outcomes.{Entry, inserts, changes}
 use Rattle.outcomes.specs.Sets.{notWritten}
 use Rattle.outcomes.specs.declared.Asked.the-variants as Asked
 use Rattle.outcomes.specs.declared.Part.the-variants as Part
+use Rattle.outcomes.proofs.Bulk.{single}
 use Rattle.rust_algorithm.specs.Btree.{filtered}
 use Rattle.rust_algorithm.specs.Map.{ranges-overlap}
 use Rattle.rust_algorithm.specs.Answers.{Functions, editedBy}
-use Rattle.rust_algorithm.specs.Equal.{Lent, single}
+use Rattle.rust_algorithm.specs.Equal.{Lent, entrySpans}
 use Rattle.rust_algorithm.proofs.Same.{Kept, Transcribed}
-use Rattle.rust_algorithm.proofs.Equal.{kept, well, ends-by, edit-equal, edited-is, left}
+use Rattle.rust_algorithm.proofs.Equal.{kept, well, ends-by, edit-equal, edited-is, left, extend-changes}
 
 -- OF EVERY INPUT
 -- contains and overlaps of ranges: where one is empty or reversed, the Rust says no
@@ -134,11 +135,11 @@ module _ (kind : Kind) (rust : Functions) (transcribed : Transcribed kind rust) 
       go true e = omega arith
       go false e = omega arith
 
-  pub extend-panics : (m : Stored) (n : ℕ) (es : List Entry) → Lent kind m → inserts kind m n es .told .answer ≡ 1
+  history-panics : (m : Stored) (n : ℕ) (es : List Entry) → Lent kind m → inserts kind m n es .told .answer ≡ 1
       → rust .history (changes kind (map single es)) (ranges kind m) ≡ none
   unfolding inserts changes
-  extend-panics m n [] l e = absurd (omega arith)
-  extend-panics m n (x ∷ xs) l e =
+  history-panics m n [] l e = absurd (omega arith)
+  history-panics m n (x ∷ xs) l e =
       let w = well kind rust transcribed m l in
       let one = editing kind places m (x .start) (x .end) (some (x .value)) in
       let call = rust .edit (rank (x .start)) (kind .past (x .end)) (some (x .value)) (ranges kind m) in
@@ -159,9 +160,13 @@ module _ (kind : Kind) (rust : Functions) (transcribed : Transcribed kind rust) 
             let holds = rw (edited-well w) at (f .holds) in
             let rest : inserts kind (one .left) (suc n) xs .told .answer ≡ 1 = rw (eq-eqb (one .answer) 0 z) at e in
             let lent : Lent kind (one .left) = rw (edited-well w) at (f .lent) in
-            rw (calls, ← holds) (extend-panics (one .left) (suc n) xs lent rest)
+            rw (calls, ← holds) (history-panics (one .left) (suc n) xs lent rest)
       ])
     where
       edited-well : wellFormed kind places m ≡ true
           → edited kind m (x .start) (x .end) (some (x .value)) ≡ editing kind places m (x .start) (x .end) (some (x .value))
       edited-well w = edited-is kind rust transcribed m (x .start) (x .end) (some (x .value)) w
+
+  pub extend-panics : (m : Stored) (es : List Entry) → Lent kind m → inserts kind m 0 es .told .answer ≡ 1
+      → rust .extend (entrySpans kind es) (ranges kind m) ≡ none
+  extend-panics m es l e = extend-changes kind rust transcribed es (ranges kind m) ∙ history-panics m 0 es l e

@@ -5,13 +5,13 @@ use native.Mathlib.Decide.{decLt}
 use mathlib.Core.Path.{_≡_, refl, ap}
 use mathlib.Core.List.{List, [], _∷_, _++_}
 use mathlib.Core.Bool.{cond}
-use mathlib.Core.Option.{some}
+use mathlib.Core.Option.{some, Option, none}
 use lib.Dec.{ltb}
 use lib.ListN.{length}
 use borrow.Author.Tests.{lt-ltb, le-ltb, le-leb, lt-leb, eq-eqb, ne-eqb}
 use Rattle.span.specs.Span.{Span, span, Ordered, Upto, keep}
 use Rattle.span.proofs.Holding.{ordered-from, ordered-right}
-use Rattle.rust_algorithm.specs.Btree.{filtered, next, from-to, between, deleted, entered}
+use Rattle.rust_algorithm.specs.Btree.{and-then, filtered, next, from-to, between, deleted, entered}
 use Rattle.rust_algorithm.specs.Map.{cut-out}
 
 -- all of the list starts before c
@@ -106,3 +106,8 @@ module _ (x : Span) (s e : ℕ) (xs : List Span) (full : x .lo < x .hi) (real : 
       let new = span (x .lo) s (x .label) in
       rw (deleted-here ls x xs b, lt-ltb (x .lo) s h, entered-here ls new xs b (ordered-from xs full rest), ← snoc ls new xs)
       (put-right (ls ++ new ∷ []) (below-snoc ls new (omega arith) (below-more ls from b)))
+
+-- what comes after what may panic is the same where it is the same of each answer
+pub after-both : {A B : Type 0} (a : Option A) (f g : A → Option B) → ((x : A) → f x ≡ g x) → and-then a f ≡ and-then a g
+after-both none f g e = refl
+after-both (some x) f g e = e x

@@ -7,13 +7,13 @@ use mathlib.Core.Bool.{Bool, true, false, cond}
 use mathlib.Core.List.{List, [], _∷_, _++_, map}
 use mathlib.Core.Option.{Option, some, none}
 use lib.Dec.{leb, eqb}
-use lib.ListN.{length, replicate}
+use lib.ListN.{length, replicate, take}
 use lib.IntN.{ℤ}
 use mir.Syntax.{w64}
 use mir.Val.{SFits}
 use borrow.Author.Tests.{lt-ltb, le-ltb, le-leb, lt-leb, eqb-true, eqb-false, eq-eqb}
-use Rattle.span.specs.Span.{Span, span, inside, at, Ordered, Upto, given, Real, history}
-use Rattle.span.specs.Operations.{Plain, overlaps, holds, order, gaps, common, united}
+use Rattle.span.specs.Span.{Span, span, inside, at, Ordered, Upto, given, Real, history, Edit, put}
+use Rattle.span.specs.Operations.{Plain, puts, overlaps, holds, order, gaps, common, united}
 use Rattle.span.proofs.Tests.{cases}
 use Rattle.span.proofs.Laws.{nothing, tidy-given, at-given}
 use Rattle.span.proofs.Sets.{plain-at, at-zero}
@@ -33,13 +33,14 @@ use Rattle.outcomes.specs.declared.Counted.the-variants as Counted
 use Rattle.outcomes.proofs.Formed.{formed, shape, length-ranges, getD-ranges, sound-held}
 use Rattle.outcomes.proofs.Storing.{upto-ranges, sound-storing, length-storing}
 use Rattle.outcomes.proofs.Edits.{done, edit-ranges, edit-sound, edit-length, ranges-cleared}
-use Rattle.outcomes.proofs.Bulk.{bulk-singles}
+use Rattle.outcomes.proofs.Bulk.{single, bulk-singles}
 use Rattle.outcomes.proofs.Sets.{plain-ranges}
 use Rattle.rust_algorithm.specs.Btree.{next-back, nth}
 use Rattle.rust_algorithm.specs.InclusiveMap.{add-one-checked, sub-one-checked, add-one-wrapping, sub-one-wrapping}
 use Rattle.rust_algorithm.specs.Operations.{range-intersect}
 use Rattle.rust_algorithm.specs.Answers.{Functions, halfOpenRust, inclusiveRust, commonBy, foundBy, rustEdited, rustRun}
-use Rattle.rust_algorithm.specs.Equal.{Lent, Gives, Writes, SameRelations, SameHistory, SameAnswers, SameOrder, SameOfSets, OfSet, applied, EqualToTheRust}
+use Rattle.rust_algorithm.specs.Equal.{Lent, Gives, Writes, SameRelations, SameHistory, SameAnswers, SameOrder, SameOfSets, OfSet, entrySpans, applied}
+use Rattle.rust_algorithm.specs.Equal.{EqualToTheRust}
 use Rattle.rust_algorithm.proofs.InclusiveHistory.{By, checked, wrapping}
 use Rattle.rust_algorithm.proofs.Places.{nth-here, nth-past, nth-zero, nth-last, nth-first, part-gives}
 use Rattle.rust_algorithm.proofs.Same.{Kept, KeptSet, Same, Transcribed, half-open-map, inclusive-map}
@@ -262,12 +263,23 @@ module _ (kind : Kind) (rust : Functions) (transcribed : Transcribed kind rust) 
       record { sound = h .lent .sound; plain-too = ap plain is ∙ plain-storing kind places (ranges kind (run kind (cleared kind) cs .left)) p }
 
   -- BULK INSERT: as many single inserts as were applied
+  puts-changes : (es : List Entry) → puts (entrySpans kind es) ≡ changes kind (map single es)
+  unfolding puts changes
+  puts-changes [] = refl
+  puts-changes (x ∷ xs) = ap (put (rank (x .start)) (kind .past (x .end)) (x .value) ∷_) (puts-changes xs)
+
+  -- extend by entries is a history of single inserts
+  pub extend-changes : (es : List Entry) (xs : List Span) → rust .extend (entrySpans kind es) xs ≡ rust .history (changes kind (map single es)) xs
+  extend-changes es xs = same .extend-same (entrySpans kind es) xs ∙ ap (λ (fs : List Edit). rust .history fs xs) (puts-changes es)
+
   pub extend-equal : (m : Stored) (es : List Entry) → Lent kind m
-      → rust .history (changes kind (applied kind m es)) (ranges kind m) ≡ some (ranges kind (inserts kind m 0 es .left))
+      → rust .extend (applied kind m es) (ranges kind m) ≡ some (ranges kind (inserts kind m 0 es .left))
   extend-equal m es l =
-      let cs = applied kind m es in
-      let is : run kind m cs ≡ leaving 0 (inserts kind m 0 es .left) = bulk-singles kind law m es (l .sound) (l .full-size) in
-      rust-holds m cs l (ran m cs l (ap (λ (o : Edited). o .answer) is)) ∙ ap (λ (o : Edited). some (ranges kind (o .left))) is
+      let fs = take (inserts kind m 0 es .told .applied) es in
+      let is : run kind m (map single fs) ≡ leaving 0 (inserts kind m 0 es .left) = bulk-singles kind law m es (l .sound) (l .full-size) in
+      extend-changes fs (ranges kind m)
+      ∙ rust-holds m (map single fs) l (ran m (map single fs) l (ap (λ (o : Edited). o .answer) is))
+      ∙ ap (λ (o : Edited). some (ranges kind (o .left))) is
 
   -- QUESTIONS of a map
   module _ (m : Stored) (l : Lent kind m) where

@@ -6,10 +6,12 @@ use mathlib.Core.List.{List, [], _∷_}
 use mathlib.Core.Option.{Option, some, none}
 use borrow.Author.Tests.{lt-ltb}
 use Rattle.span.specs.Span.{Span, Upto, Tidy, Edit, given, history, Real}
+use Rattle.span.specs.Operations.{puts}
 use Rattle.span.proofs.Laws.{tidy-given}
 use Rattle.outcomes.proofs.Edits.{upto-given}
-use Rattle.rust_algorithm.specs.InclusiveMap.{Steps, inclusive-edit, inclusive-history}
+use Rattle.rust_algorithm.specs.InclusiveMap.{Steps, inclusive-insert, inclusive-edit, inclusive-history, inclusive-extend}
 use Rattle.rust_algorithm.specs.InclusiveMap.{add-one-checked, sub-one-checked, add-one-wrapping, sub-one-wrapping}
+use Rattle.rust_algorithm.proofs.Entries.{after-both}
 use Rattle.rust_algorithm.proofs.InclusiveEdits.{inclusive-insert-is, inclusive-remove-is}
 
 -- no edit ends past c
@@ -37,6 +39,14 @@ module _ (add-one sub-one : ℕ → Option ℕ) (greatest : ℕ) (steps : Steps 
       let t′ = tidy-given (e .lo) (e .hi) (e .new) m (r .0) (t .ordered) in
       let u′ = upto-given (suc greatest) (e .lo) (e .hi) (e .new) m (r .0) (b .0) (t .ordered) u in
       rw (inclusive-edit-is (e .lo) (e .hi) (e .new) m (r .0) (b .0) t u) (inclusive-history-is es _ (r .1) (b .1) t′ u′)
+
+  -- EXTEND is a sequence of inserts
+  pub inclusive-extend-history : (xs m : List Span) → inclusive-extend add-one sub-one xs m ≡ inclusive-history add-one sub-one (puts xs) m
+  unfolding inclusive-extend inclusive-history inclusive-edit puts
+  inclusive-extend-history [] m = refl
+  inclusive-extend-history (x ∷ xs) m =
+      after-both (inclusive-insert add-one sub-one (x .lo) (x .hi - 1) (x .label) m) (inclusive-extend add-one sub-one xs)
+      (inclusive-history add-one sub-one (puts xs)) (inclusive-extend-history xs)
 
 -- I64: the greatest key has the rank 2 ^ 64 - 1. In a build that checks, add_one panics there: so where a theorem says that nothing panics, it was not called
 -- there

@@ -47,12 +47,12 @@ abbrev pub OfSet : List Change → Type 0
 OfSet [] = Unit {0}
 OfSet (c ∷ cs) = ((v : ℕ) → c .new ≡ some v → v ≡ 0) × OfSet cs
 
--- an entry of a bulk insert as an edit, and the edits of as many entries as it says that it applied
-abbrev pub single : Entry → Change
-single x = record { start = x .start; end = x .end; new = some (x .value) }
+-- the entries of a bulk insert as ranges with values, and as many of them as it says that it applied
+abbrev pub entrySpans : Kind → List Entry → List Span
+entrySpans kind es = map (λ (x : Entry). rangeOf kind (x .start) (x .end) (x .value)) es
 
-abbrev pub applied : Kind → Stored → List Entry → List Change
-applied kind m es = map single (take (inserts kind m 0 es .told .applied) es)
+abbrev pub applied : Kind → Stored → List Entry → List Span
+applied kind m es = entrySpans kind (take (inserts kind m 0 es .told .applied) es)
 
 module _ (kind : Kind) (rust : Functions) where
   -- MODULE 1: two ranges that are not empty or reversed, and intersect of any two, are related as the Rust says
@@ -114,4 +114,4 @@ module _ (kind : Kind) (rust : Functions) where
     pub sets : (a b : Stored) → SoundSet kind a → SoundSet kind b → Lent kind a → Lent kind b → SameOfSets a b
     -- BULK INSERT applies as many entries as it says, and leaves what extend leaves after those
     pub extend : (m : Stored) (es : List Entry) → Lent kind m
-        → rust .history (changes kind (applied kind m es)) (ranges kind m) ≡ some (ranges kind (inserts kind m 0 es .left))
+        → rust .extend (applied kind m es) (ranges kind m) ≡ some (ranges kind (inserts kind m 0 es .left))

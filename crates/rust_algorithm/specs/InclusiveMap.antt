@@ -110,10 +110,15 @@ module _ (add-one sub-one : ℕ → Option ℕ) where
   inclusive-edit lo hi none m = inclusive-remove lo (hi - 1) m
   inclusive-edit lo hi (some v) m = inclusive-insert lo (hi - 1) v m
 
-  -- a sequence of calls; extend (722-726), from_iter (710-714) and from (941-947) are such sequences, of inserts alone
+  -- a sequence of calls
   unfoldable pub inclusive-history : List Edit → List Span → Option (List Span)
   inclusive-history [] m = some m
   inclusive-history (e ∷ es) m = and-then (inclusive-edit (e .lo) (e .hi) (e .new) m) (inclusive-history es)
+
+  -- 722-726: extend. from_iter (710-714) and from (941-947) are extend of an empty map
+  unfoldable pub inclusive-extend : List Span → List Span → Option (List Span)
+  inclusive-extend [] m = some m
+  inclusive-extend (x ∷ xs) m = and-then (inclusive-insert (x .lo) (final x) (x .label) m) (inclusive-extend xs)
 
 -- what the theorems ask of them: where a key is below the greatest, the next one; where it is not the first, the one before
 pub record Steps (add-one sub-one : ℕ → Option ℕ) (greatest : ℕ) : Type 0 where

@@ -93,10 +93,15 @@ unfoldable pub map-edit : ℕ → ℕ → Option ℕ → List Span → Option (L
 map-edit lo hi none m = map-remove lo hi m
 map-edit lo hi (some v) m = map-insert lo hi v m
 
--- a sequence of calls; extend (627-631), from_iter (615-619) and from (823-829) are such sequences, of inserts alone
+-- a sequence of calls
 unfoldable pub map-history : List Edit → List Span → Option (List Span)
 map-history [] m = some m
 map-history (e ∷ es) m = and-then (map-edit (e .lo) (e .hi) (e .new) m) (map-history es)
+
+-- 627-631: extend. from_iter (615-619) and from (823-829) are extend of an empty map
+unfoldable pub map-extend : List Span → List Span → Option (List Span)
+map-extend [] m = some m
+map-extend (x ∷ xs) m = and-then (map-insert (x .lo) (x .hi) (x .label) m) (map-extend xs)
 
 -- 163-176: get_key_value, the last that starts by the key, if it contains the key (Range::contains is `inside`)
 unfoldable pub map-get-key-value : ℕ → List Span → Option Span

@@ -33,6 +33,14 @@ orderCode Ordering·gt = 2
 unfoldable pub equalCode : Bool → Ordering → ℕ
 equalCode b o = cond b 4 0 + orderCode o
 
+-- whether two ranges touch, 0 for a panic; and 4 more where they overlap
+abbrev pub touchCode : Option Bool → ℕ
+touchCode none = 0
+touchCode (some b) = cond b 2 1
+
+unfoldable pub relationCode : Option Bool → Bool → ℕ
+relationCode t b = touchCode t + cond b 4 0
+
 -- numbers below a base as one number
 unfoldable pub packed : ℕ → List ℕ → ℕ
 packed base [] = 0
@@ -73,6 +81,22 @@ sets o = (setsOf o 0 0 ++ setsOf o 0 1) ++ (setsOf o 1 0 ++ setsOf o 1 1)
 
 -- the Rust's functions, the ranks that are asked, and the ranks just past an end
 module _ (rust : Functions) (o : ℕ) (starts ends : List ℕ) where
+  -- of a range: contains of each key, overlaps and touches, and intersect, with each other range, valid or not
+  unfoldable pub rangeRow : ℕ → ℕ → List ℕ
+  rangeRow s e =
+      packed 2 (map (λ k. cond (rust .range-contains s e k) 1 0) starts)
+      ∷ packed 8 (ofPairs starts ends (λ c d. relationCode (rust .range-touches s e c d) (rust .range-overlaps s e c d)))
+      ∷ packed (2 ^ 28) (ofPairs starts ends (λ c d. one o (rust .range-intersect (span s e 0) (span c d 0))))
+      ∷ []
+
+  unfoldable pub rangesFrom : ℕ → List ℕ → List ℕ
+  rangesFrom s [] = []
+  rangesFrom s (e ∷ es) = rangeRow s e ++ rangesFrom s es
+
+  unfoldable pub rangeRows : List ℕ → List ℕ
+  rangeRows [] = []
+  rangeRows (s ∷ ss) = rangesFrom s ends ++ rangeRows ss
+
   -- of a map: what it holds; remove, insert of 1, insert of 2, overlapping and gaps with each two keys, valid or not; get of each key
   unfoldable pub row : List Span → List ℕ
   row m =
@@ -100,7 +124,7 @@ module _ (rust : Functions) (o : ℕ) (starts ends : List ℕ) where
 
   -- all answers
   unfoldable pub table : List ℕ
-  table = rows (states o) ++ pairs (sets o) (sets o)
+  table = rangeRows starts ++ (rows (states o) ++ pairs (sets o) (sets o))
 
 -- a half-open range ends at one of four keys, an inclusive one one past one of three
 unfoldable pub halfOpenTable : ℕ → List ℕ
