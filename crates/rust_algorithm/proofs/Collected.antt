@@ -16,7 +16,7 @@ use Rattle.span.proofs.Union.{ordered-united, united-joined}
 use Rattle.span.proofs.Local.{upto-at}
 use Rattle.span.proofs.Walks.{Spaced, spaced-ordered, spaced-plain}
 use Rattle.rust_algorithm.specs.Map.{map-extend}
-use Rattle.rust_algorithm.specs.InclusiveMap.{Steps, inclusive-extend}
+use Rattle.rust_algorithm.specs.InclusiveMap.{StepFns, inclusive-extend}
 use Rattle.rust_algorithm.specs.Operations.{set-or, set-and}
 use Rattle.rust_algorithm.specs.Operations.{inclusive-set-or, inclusive-set-and}
 use Rattle.rust_algorithm.proofs.History.{history-is, extend-history}
@@ -99,7 +99,7 @@ upto-common c a b o q u =
       | no p ↦ absurd (never (sym (at-upto c b k u (omega arith)) ∙ when-some (at a k) (at b k) v (sym (f .holds k) ∙ e)))
     ])
 
-module _ (add-one sub-one : ℕ → Option ℕ) (greatest : ℕ) (steps : Steps add-one sub-one greatest) where
+module _ (add-one sub-one : ℕ → Option ℕ) (greatest : ℕ) (steps : StepFns add-one sub-one greatest) where
   pub inclusive-extend-is : (m : List Span) → Ordered 0 m → Upto (suc greatest) m → inclusive-extend add-one sub-one m [] ≡ some (joined m)
   inclusive-extend-is m o u =
       inclusive-extend-history add-one sub-one greatest steps m []

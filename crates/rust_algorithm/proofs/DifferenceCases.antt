@@ -14,7 +14,8 @@ use Rattle.key.specs.Rank.{place, bitRank, keyAt}
 use Rattle.key.specs.Range.{halfOpen}
 use Rattle.outcomes.specs.Stored.{places, spans, ranges, filled, storing}
 use Rattle.outcomes.specs.Outcomes.{Entry, editing, inserts, cleared}
-use Rattle.rust_algorithm.specs.Btree.{filtered, filtered-by, taken-while, reversed, taken, up-to, from-to, between, starting, starting-by, deleted}
+use Rattle.rust_algorithm.specs.Btree.{filtered, filtered-by, taken-while, reversed, taken, up-to, from-to, strictly-between, starting, starting-by}
+use Rattle.rust_algorithm.specs.Btree.{deleted}
 use Rattle.rust_algorithm.specs.Btree.{entered}
 use Rattle.rust_algorithm.specs.Map.{ranges-overlap, ranges-touch, cut-out, adjust, candidate, insert-loop, map-insert}
 use Rattle.rust_algorithm.specs.Map.{remove-candidate, remove-loop, map-remove, map-extend}
@@ -26,7 +27,7 @@ use Rattle.rust_algorithm.specs.Operations.{range-merge, union-loop, uni
 use Rattle.rust_algorithm.proofs.Insert.{insert-is}
 
 unfoldable entries : Unit {0}
-unfolding inside filtered filtered-by taken-while reversed taken up-to from-to between starting starting-by deleted entered add-one-checked sub-one-checked
+unfolding inside filtered filtered-by taken-while reversed taken up-to from-to strictly-between starting starting-by deleted entered add-one-checked
 entries = tt
 
 unfoldable edits : Unit {0}

@@ -31,7 +31,7 @@ use Rattle.outcomes.proofs.Bulk.{single}
 use Rattle.rust_algorithm.specs.Btree.{filtered}
 use Rattle.rust_algorithm.specs.Map.{ranges-overlap}
 use Rattle.rust_algorithm.specs.Answers.{Functions, editedBy}
-use Rattle.rust_algorithm.specs.Equal.{Lent, entrySpans}
+use Rattle.rust_algorithm.specs.Equal.{LentMap, entrySpans}
 use Rattle.rust_algorithm.proofs.Same.{Kept, Transcribed}
 use Rattle.rust_algorithm.proofs.Equal.{kept, well, ends-by, edit-equal, edited-is, left, extend-changes}
 
@@ -59,7 +59,7 @@ module _ (kind : Kind) (s e : ℤ) (empty : kind .past e ≤ rank s) where
   unfolding relations.touching
   touches-refused s′ e′ = rw (le-leb (kind .past e) (rank s) empty)
 
-  module _ (rust : Functions) (transcribed : Transcribed kind rust) (m : Stored) (l : Lent kind m) where
+  module _ (rust : Functions) (transcribed : Transcribed kind rust) (m : Stored) (l : LentMap kind m) where
     is-well : wellFormed kind places m ≡ true
     is-well = well kind rust transcribed m l
 
@@ -110,7 +110,7 @@ module _ (kind : Kind) (s e : ℤ) (empty : kind .past e ≤ rank s) where
     )
 
 -- no empty range, but no room
-module _ (kind : Kind) (rust : Functions) (transcribed : Transcribed kind rust) (m : Stored) (l : Lent kind m) where
+module _ (kind : Kind) (rust : Functions) (transcribed : Transcribed kind rust) (m : Stored) (l : LentMap kind m) where
   -- one range more than there are places: the Rust has no limit
   pub no-limit : (s e : ℤ) (new : Option ℕ) → rank s < kind .past e → places < length (given (rank s) (kind .past e) new (ranges kind m))
       → (edited kind m s e new ≡ leaving 2 m) × (rust .edit (rank s) (kind .past e) new (ranges kind m) ≡ some
@@ -135,7 +135,7 @@ module _ (kind : Kind) (rust : Functions) (transcribed : Transcribed kind rust) 
       go true e = omega arith
       go false e = omega arith
 
-  history-panics : (m : Stored) (n : ℕ) (es : List Entry) → Lent kind m → inserts kind m n es .told .answer ≡ 1
+  history-panics : (m : Stored) (n : ℕ) (es : List Entry) → LentMap kind m → inserts kind m n es .told .answer ≡ 1
       → rust .history (changes kind (map single es)) (ranges kind m) ≡ none
   unfolding inserts changes
   history-panics m n [] l e = absurd (omega arith)
@@ -159,7 +159,7 @@ module _ (kind : Kind) (rust : Functions) (transcribed : Transcribed kind rust) 
             = transcribed .same .edit-same (rank (x .start)) (kind .past (x .end)) (some (x .value)) (ranges kind m) (f .real) by k in
             let holds = rw (edited-well w) at (f .holds) in
             let rest : inserts kind (one .left) (suc n) xs .told .answer ≡ 1 = rw (eq-eqb (one .answer) 0 z) at e in
-            let lent : Lent kind (one .left) = rw (edited-well w) at (f .lent) in
+            let lent : LentMap kind (one .left) = rw (edited-well w) at (f .lent) in
             rw (calls, ← holds) (history-panics (one .left) (suc n) xs lent rest)
       ])
     where
@@ -167,6 +167,6 @@ module _ (kind : Kind) (rust : Functions) (transcribed : Transcribed kind rust) 
           → edited kind m (x .start) (x .end) (some (x .value)) ≡ editing kind places m (x .start) (x .end) (some (x .value))
       edited-well w = edited-is kind rust transcribed m (x .start) (x .end) (some (x .value)) w
 
-  pub extend-panics : (m : Stored) (es : List Entry) → Lent kind m → inserts kind m 0 es .told .answer ≡ 1
+  pub extend-panics : (m : Stored) (es : List Entry) → LentMap kind m → inserts kind m 0 es .told .answer ≡ 1
       → rust .extend (entrySpans kind es) (ranges kind m) ≡ none
   extend-panics m es l e = extend-changes kind rust transcribed es (ranges kind m) ∙ history-panics m 0 es l e

@@ -39,8 +39,8 @@ use Rattle.rust_algorithm.specs.Btree.{next-back, nth}
 use Rattle.rust_algorithm.specs.InclusiveMap.{add-one-checked, sub-one-checked, add-one-wrapping, sub-one-wrapping}
 use Rattle.rust_algorithm.specs.Operations.{range-intersect}
 use Rattle.rust_algorithm.specs.Answers.{Functions, halfOpenRust, inclusiveRust, commonBy, foundBy, rustEdited, rustRun}
-use Rattle.rust_algorithm.specs.Equal.{Lent, Gives, Writes, SameRelations, SameHistory, SameAnswers, SameOrder, SameOfSets, OfSet, entrySpans, applied}
-use Rattle.rust_algorithm.specs.Equal.{EqualToTheRust}
+use Rattle.rust_algorithm.specs.Equal.{LentMap, PartGiven, ListGiven, SameRelations, SameHistory, SameAnswers, SameOrder, SameOfSets, OfSet, entrySpans}
+use Rattle.rust_algorithm.specs.Equal.{applied, EqualToTheRust}
 use Rattle.rust_algorithm.proofs.InclusiveHistory.{By, checked, wrapping}
 use Rattle.rust_algorithm.proofs.Places.{nth-here, nth-past, nth-zero, nth-last, nth-first, part-gives}
 use Rattle.rust_algorithm.proofs.Same.{Kept, KeptSet, Same, Transcribed, half-open-map, inclusive-map}
@@ -133,7 +133,7 @@ module _ (kind : Kind) (rust : Functions) (transcribed : Transcribed kind rust) 
     pub real : rank s < kind .past e
     pub stores : o .left ≡ storing kind places (ranges kind (o .left))
     pub holds : ranges kind (o .left) ≡ given (rank s) (kind .past e) new (ranges kind m)
-    pub lent : Lent kind (o .left)
+    pub lent : LentMap kind (o .left)
 
   pub left : (m : Stored) (s e : ℤ) (new : Option ℕ) → wellFormed kind places m ≡ true → edited kind m s e new .answer ≡ 0
       → Left m s e new (edited kind m s e new)
@@ -149,11 +149,11 @@ module _ (kind : Kind) (rust : Functions) (transcribed : Transcribed kind rust) 
         lent = record { sound = edit-sound kind law places m t s e new d; full-size = edit-length kind law places m t s e new d };
       })
 
-  pub well : (m : Stored) → Lent kind m → wellFormed kind places m ≡ true
+  pub well : (m : Stored) → LentMap kind m → wellFormed kind places m ≡ true
   well m l = subst (λ (n : ℕ). wellFormed kind n m ≡ true) (l .full-size) (l .sound .well)
 
   -- EDITS in order
-  pub run-equal : (m : Stored) (cs : List Change) → Lent kind m → run kind m cs ≡ rustRun kind rust m cs
+  pub run-equal : (m : Stored) (cs : List Change) → LentMap kind m → run kind m cs ≡ rustRun kind rust m cs
   unfolding run rustRun
   run-equal m [] l = refl
   run-equal m (c ∷ cs) l =
@@ -187,9 +187,9 @@ module _ (kind : Kind) (rust : Functions) (transcribed : Transcribed kind rust) 
     real : Real (changes kind cs)
     holds : ranges kind (o .left) ≡ history (changes kind cs) (ranges kind m)
     stores : m ≡ storing kind places (ranges kind m) → o .left ≡ storing kind places (ranges kind (o .left))
-    lent : Lent kind (o .left)
+    lent : LentMap kind (o .left)
 
-  ran : (m : Stored) (cs : List Change) → Lent kind m → run kind m cs .answer ≡ 0 → Ran m cs (run kind m cs)
+  ran : (m : Stored) (cs : List Change) → LentMap kind m → run kind m cs .answer ≡ 0 → Ran m cs (run kind m cs)
   unfolding run changes history
   ran m [] l z = record { real = tt; holds = refl; stores = λ e. e; lent = l }
   ran m (c ∷ cs) l z =
@@ -205,12 +205,12 @@ module _ (kind : Kind) (rust : Functions) (transcribed : Transcribed kind rust) 
       })
 
   -- what the Rust holds after the same calls
-  rust-holds : (m : Stored) (cs : List Change) → Lent kind m → Ran m cs (run kind m cs)
+  rust-holds : (m : Stored) (cs : List Change) → LentMap kind m → Ran m cs (run kind m cs)
       → rust .history (changes kind cs) (ranges kind m) ≡ some (ranges kind (run kind m cs .left))
   rust-holds m cs l r = same .history-same (changes kind cs) (ranges kind m) (r .real) (by-changes cs) (kept m (well m l)) ∙ ap some (sym (r .holds))
 
   -- a new map is one as it is lent
-  lent-cleared : Lent kind (cleared kind)
+  lent-cleared : LentMap kind (cleared kind)
   unfolding cleared
   lent-cleared = record {
     sound = sound-storing kind law places [] (nothing .tidy) tt (omega arith);
@@ -243,7 +243,7 @@ module _ (kind : Kind) (rust : Functions) (transcribed : Transcribed kind rust) 
           go true e = z v e
           go false e = at-zero m k v p e
 
-  plain-ran : (m : Stored) (cs : List Change) → Lent kind m → OfSet cs → Plain (ranges kind m) → run kind m cs .answer ≡ 0
+  plain-ran : (m : Stored) (cs : List Change) → LentMap kind m → OfSet cs → Plain (ranges kind m) → run kind m cs .answer ≡ 0
       → Plain (ranges kind (run kind m cs .left))
   unfolding run
   plain-ran m [] l s p z = p
@@ -272,7 +272,7 @@ module _ (kind : Kind) (rust : Functions) (transcribed : Transcribed kind rust) 
   pub extend-changes : (es : List Entry) (xs : List Span) → rust .extend (entrySpans kind es) xs ≡ rust .history (changes kind (map single es)) xs
   extend-changes es xs = same .extend-same (entrySpans kind es) xs ∙ ap (λ (fs : List Edit). rust .history fs xs) (puts-changes es)
 
-  pub extend-equal : (m : Stored) (es : List Entry) → Lent kind m
+  pub extend-equal : (m : Stored) (es : List Entry) → LentMap kind m
       → rust .extend (applied kind m es) (ranges kind m) ≡ some (ranges kind (inserts kind m 0 es .left))
   extend-equal m es l =
       let fs = take (inserts kind m 0 es .told .applied) es in
@@ -282,7 +282,7 @@ module _ (kind : Kind) (rust : Functions) (transcribed : Transcribed kind rust) 
       ∙ ap (λ (o : Edited). some (ranges kind (o .left))) is
 
   -- QUESTIONS of a map
-  module _ (m : Stored) (l : Lent kind m) where
+  module _ (m : Stored) (l : LentMap kind m) where
     abbrev xs : List Span
     xs = ranges kind m
 
@@ -332,12 +332,12 @@ module _ (kind : Kind) (rust : Functions) (transcribed : Transcribed kind rust) 
       unfolding meeting met
       overlaps-equal = rw (well m l, lt-leb (kind .past e) (rank s) real, same .overlaps-same (rank s) (kind .past e) xs (ends-from e) is-kept)
 
-      overlapping-equal : Gives xs (overlapping kind m s e) (rust .overlapping (rank s) (kind .past e) xs)
+      overlapping-equal : PartGiven xs (overlapping kind m s e) (rust .overlapping (rank s) (kind .past e) xs)
       unfolding overlapping metPart
       overlapping-equal = rw (well m l, lt-leb (kind .past e) (rank s) real, same .overlapping-same (rank s) (kind .past e) xs (ends-from e) is-kept)
           (part-gives (rank s) (kind .past e) 0 xs real (is-kept .tidy .ordered))
 
-      gaps-equal : (starts ends : List ℤ) → Writes kind (rust .gaps (rank s) (kind .past e) xs) starts ends (gapsIn kind m s e starts ends)
+      gaps-equal : (starts ends : List ℤ) → ListGiven kind (rust .gaps (rank s) (kind .past e) xs) starts ends (gapsIn kind m s e starts ends)
       unfolding gapsIn uncovered
       gaps-equal starts ends = record {
         list = gaps (rank s) (kind .past e) xs;
@@ -368,7 +368,7 @@ module _ (kind : Kind) (rust : Functions) (transcribed : Transcribed kind rust) 
     }
 
   -- of two maps
-  pub order-equal : (a b : Stored) → Lent kind a → Lent kind b → SameOrder kind rust a b
+  pub order-equal : (a b : Stored) → LentMap kind a → LentMap kind b → SameOrder kind rust a b
   order-equal a b l w = record {
     eq = unfold equality in unfold compared in
         rw (well a l, well b w, same .eq-same (ranges kind a) (ranges kind b) (is-kept a l) (is-kept b w));
@@ -377,7 +377,7 @@ module _ (kind : Kind) (rust : Functions) (transcribed : Transcribed kind rust) 
   }
 
   -- of two sets
-  kept-set : (m : Stored) → SoundSet kind m → Lent kind m → KeptSet keys (ranges kind m)
+  kept-set : (m : Stored) → SoundSet kind m → LentMap kind m → KeptSet keys (ranges kind m)
   kept-set m s l =
       let k = is-kept m l in
       record {
@@ -387,7 +387,7 @@ module _ (kind : Kind) (rust : Functions) (transcribed : Transcribed kind rust) 
         spaced = tidy-spaced 0 (ranges kind m) (k .tidy .ordered) (k .tidy .separate) (plain-ranges kind m (s .plain-too));
       }
 
-  pub sets-equal : (a b : Stored) → SoundSet kind a → SoundSet kind b → Lent kind a → Lent kind b → SameOfSets kind rust a b
+  pub sets-equal : (a b : Stored) → SoundSet kind a → SoundSet kind b → LentMap kind a → LentMap kind b → SameOfSets kind rust a b
   sets-equal a b s t l w = record {
     union = λ starts ends. record {
       list = united (ranges kind a) (ranges kind b);

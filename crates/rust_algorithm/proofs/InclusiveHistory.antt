@@ -9,7 +9,7 @@ use Rattle.span.specs.Span.{Span, Upto, Tidy, Edit, given, history, Real}
 use Rattle.span.specs.Operations.{puts}
 use Rattle.span.proofs.Laws.{tidy-given}
 use Rattle.outcomes.proofs.Edits.{upto-given}
-use Rattle.rust_algorithm.specs.InclusiveMap.{Steps, inclusive-insert, inclusive-edit, inclusive-history, inclusive-extend}
+use Rattle.rust_algorithm.specs.InclusiveMap.{StepFns, inclusive-insert, inclusive-edit, inclusive-history, inclusive-extend}
 use Rattle.rust_algorithm.specs.InclusiveMap.{add-one-checked, sub-one-checked, add-one-wrapping, sub-one-wrapping}
 use Rattle.rust_algorithm.proofs.Entries.{after-both}
 use Rattle.rust_algorithm.proofs.InclusiveEdits.{inclusive-insert-is, inclusive-remove-is}
@@ -19,7 +19,7 @@ abbrev pub By : ℕ → List Edit → Type 0
 By c [] = Unit {0}
 By c (e ∷ es) = (e .hi ≤ c) × By c es
 
-module _ (add-one sub-one : ℕ → Option ℕ) (greatest : ℕ) (steps : Steps add-one sub-one greatest) where
+module _ (add-one sub-one : ℕ → Option ℕ) (greatest : ℕ) (steps : StepFns add-one sub-one greatest) where
   pub inclusive-edit-is : (lo hi : ℕ) (new : Option ℕ) (m : List Span) → lo < hi → hi ≤ suc greatest → Tidy 0 m → Upto (suc greatest) m
       → inclusive-edit add-one sub-one lo hi new m ≡ some (given lo hi new m)
   unfolding inclusive-edit
@@ -50,10 +50,10 @@ module _ (add-one sub-one : ℕ → Option ℕ) (greatest : ℕ) (steps : Steps 
 
 -- I64: the greatest key has the rank 2 ^ 64 - 1. In a build that checks, add_one panics there: so where a theorem says that nothing panics, it was not called
 -- there
-pub checked : Steps add-one-checked sub-one-checked (2 ^ 64 - 1)
+pub checked : StepFns add-one-checked sub-one-checked (2 ^ 64 - 1)
 unfolding add-one-checked sub-one-checked
 checked = record { adds = λ z h. rw (lt-ltb z (2 ^ 64 - 1) h); subs = λ z h. rw (lt-ltb 0 z h) }
 
-pub wrapping : Steps add-one-wrapping sub-one-wrapping (2 ^ 64 - 1)
+pub wrapping : StepFns add-one-wrapping sub-one-wrapping (2 ^ 64 - 1)
 unfolding add-one-wrapping sub-one-wrapping
 wrapping = record { adds = λ z h. rw (lt-ltb z (2 ^ 64 - 1) h); subs = λ z h. rw (lt-ltb 0 z h) }

@@ -17,7 +17,7 @@ use Rattle.relations.specs.Relations.{touches}
 use Rattle.outcomes.specs.Outcomes.{isEqual}
 use Rattle.rust_algorithm.specs.Btree.{and-then, filtered, next}
 use Rattle.rust_algorithm.specs.Map.{ranges-overlap, ranges-touch, map-edit, map-history}
-use Rattle.rust_algorithm.specs.InclusiveMap.{Steps, inclusive-range-contains, inclusive-edit, inclusive-history}
+use Rattle.rust_algorithm.specs.InclusiveMap.{StepFns, inclusive-range-contains, inclusive-edit, inclusive-history}
 use Rattle.rust_algorithm.specs.Operations.{range-intersect}
 use Rattle.rust_algorithm.specs.Answers.{Functions, halfOpenRust, inclusiveRust}
 use Rattle.rust_algorithm.proofs.Insert.{insert-panics}
@@ -124,7 +124,7 @@ half-open-same limit = record {
 }
 
 -- RangeInclusiveMap and RangeInclusiveSet, where the limit is one past the greatest key
-module _ (add-one sub-one : ℕ → Option ℕ) (greatest : ℕ) (steps : Steps add-one sub-one greatest) where
+module _ (add-one sub-one : ℕ → Option ℕ) (greatest : ℕ) (steps : StepFns add-one sub-one greatest) where
   inclusive-edit-panics : (lo hi : ℕ) (new : Option ℕ) (m : List Span) → 0 < hi → hi ≤ lo → inclusive-edit add-one sub-one lo hi new m ≡ none
   unfolding inclusive-edit
   inclusive-edit-panics lo hi none m h i = inclusive-remove-panics add-one sub-one greatest steps lo (hi - 1) m (omega arith)
@@ -181,6 +181,6 @@ ends-later : (e : ℤ) → 1 ≤ inclusive .past e
 ends-later e = omega arith
 
 -- for any steps that are right below the greatest key
-pub inclusive-map : (add-one sub-one : ℕ → Option ℕ) → Steps add-one sub-one (2 ^ 64 - 1) → Transcribed inclusive (inclusiveRust add-one sub-one)
+pub inclusive-map : (add-one sub-one : ℕ → Option ℕ) → StepFns add-one sub-one (2 ^ 64 - 1) → Transcribed inclusive (inclusiveRust add-one sub-one)
 inclusive-map add-one sub-one steps =
     record { law = inclusive-too; least = 1; ends-from = ends-later; same = inclusive-same add-one sub-one (2 ^ 64 - 1) steps }

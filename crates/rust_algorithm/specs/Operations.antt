@@ -10,7 +10,7 @@ use lib.ListN.{length}
 use Rattle.span.specs.Span.{Span, span, inside}
 use Rattle.rust_algorithm.specs.Btree.{and-then, if-let}
 use Rattle.rust_algorithm.specs.Map.{given-first, map-extend}
-use Rattle.rust_algorithm.specs.InclusiveMap.{final, closed, inclusive-range-contains, inclusive-extend}
+use Rattle.rust_algorithm.specs.InclusiveMap.{final, closed-range, inclusive-range-contains, inclusive-extend}
 
 -- 40-52: merge, the range that it leaves, and none where it answers false
 unfoldable pub range-merge : Span → Span → Option Span
@@ -19,7 +19,7 @@ range-merge x y = cond (inside (x .lo) (x .hi) (y .lo)) (some (cond (ltb (x .hi)
 -- 54-66: the same of inclusive ranges
 unfoldable pub inclusive-merge : Span → Span → Option Span
 inclusive-merge x y = cond (inclusive-range-contains (x .lo) (final x) (y .lo))
-    (some (cond (ltb (final x) (final y)) (closed (x .lo) (final y) (x .label)) x))
+    (some (cond (ltb (final x) (final y)) (closed-range (x .lo) (final y) (x .label)) x))
     none
 
 -- 74-85: intersect
@@ -34,7 +34,7 @@ unfoldable pub inclusive-intersect : Span → Span → Option Span
 inclusive-intersect x y =
     let start = max (x .lo) (y .lo) in
     let end = min (final x) (final y) in
-    cond (ltb end start) none (some (closed start end (x .label)))
+    cond (ltb end start) none (some (closed-range start end (x .label)))
 
 -- what an iterator over two lists answers, and what is left of them after it
 pub record PairStep : Type 0 where

@@ -1,6 +1,6 @@
 -- `unfolding all` opens every definition of the transcription, and what is asked of it.
 use Rattle.span.specs.Span.{inside, joins, push, joined}
-use Rattle.rust_algorithm.specs.Btree.{filtered, filtered-by, taken-while, reversed, taken, up-to, from-to, between, starting, starting-by, deleted, entered}
+use Rattle.rust_algorithm.specs.Btree.{filtered, filtered-by, taken-while, reversed, taken, up-to, from-to, strictly-between, starting, starting-by, deleted, entered}
 use Rattle.rust_algorithm.specs.Map.{ranges-overlap, ranges-touch, cut-out, adjust, candidate, insert-loop, map-insert}
 use Rattle.rust_algorithm.specs.Map.{remove-candidate, remove-loop, map-remove, map-edit, map-extend, map-get-key-value, ending-past, map-overlapping}
 use Rattle.rust_algorithm.specs.Map.{tail-gap, next-gap, collect-gaps, map-gaps, map-eq, number-cmp, map-cmp}
@@ -12,11 +12,11 @@ use Rattle.rust_algorithm.specs.InclusiveMap.{inclusive-tail-gap, inclusive-nex
 use Rattle.rust_algorithm.specs.Operations.{range-merge, inclusive-merge, range-intersect, inclusive-intersect, union-loop, union-next, collect-union}
 use Rattle.rust_algorithm.specs.Operations.{intersection-next, collect-intersection, set-union, set-intersection, set-or, set-and}
 use Rattle.rust_algorithm.specs.Operations.{inclusive-set-union, inclusive-set-intersection, inclusive-set-or, inclusive-set-and}
-use Rattle.test_transcription.specs.Asked.{code, equalCode, relationCode, packed, ofPairs, cell, state, ofTwo, states, plainly, setsOf, sets}
-use Rattle.test_transcription.specs.Asked.{row, rows, pair, pairs, rangeRow, rangesFrom, rangeRows, table, halfOpenTable, inclusiveTable}
+use Rattle.test_transcription.specs.Asked.{code, equalCode, relationCode, packed, ofPairs, keyWith, smallMap, ofTwo, smallMaps, plainly, setsOf, sets}
+use Rattle.test_transcription.specs.Asked.{mapRow, mapRows, setPair, setPairs, rangeRow, rangesFrom, rangeRows, table, halfOpenTable, inclusiveTable}
 
 unfoldable entries : Unit {0}
-unfolding inside joins push joined filtered filtered-by taken-while reversed taken up-to from-to between starting starting-by deleted entered
+unfolding inside joins push joined filtered filtered-by taken-while reversed taken up-to from-to strictly-between starting starting-by deleted entered
 entries = tt
 
 unfoldable maps : Unit {0}
@@ -56,9 +56,9 @@ unfolding iterators set-union set-intersection set-or set-and inclusive-set-unio
 operations = tt
 
 unfoldable codes : Unit {0}
-unfolding operations code equalCode relationCode packed ofPairs cell state ofTwo states plainly setsOf sets
+unfolding operations code equalCode relationCode packed ofPairs keyWith smallMap ofTwo smallMaps plainly setsOf sets
 codes = tt
 
 unfoldable pub all : Unit {0}
-unfolding codes row rows pair pairs rangeRow rangesFrom rangeRows table halfOpenTable inclusiveTable
+unfolding codes mapRow mapRows setPair setPairs rangeRow rangesFrom rangeRows table halfOpenTable inclusiveTable
 all = tt
