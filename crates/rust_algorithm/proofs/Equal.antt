@@ -381,8 +381,7 @@ module _ (kind : Kind) (rust : Functions) (transcribed : Transcribed kind rust) 
   kept-set m s l =
       let k = is-kept m l in
       record {
-        tidy =
-            k .tidy;
+        tidy = k .tidy;
         upto = k .upto;
         spaced = tidy-spaced 0 (ranges kind m) (k .tidy .ordered) (k .tidy .separate) (plain-ranges kind m (s .plain-too));
       }

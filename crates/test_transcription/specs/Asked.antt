@@ -1,5 +1,5 @@
--- Every map over three neighbouring keys, with the values 1 and 2, and every edit and question of it with keys there; every two sets over them.
--- The answers are told as numbers. `o` is the rank of the first of the keys, so that the same is asked at both ends of i64.
+-- Every map over three neighbouring keys, with the values 1 and 2, and every edit and question of it with keys there; every two sets over them, and
+-- every two ranges. The answers are told as numbers. `o` is the rank of the first of the keys, so that the same is asked at both ends of i64.
 -- rust/src/transcription.rs asks rangemap the same, and prints the table that the transcription is held to.
 use Prim.Native.Nat.{ℕ, zero, suc, _+_, _-_, _*_, _^_, Ordering, Ordering·lt, Ordering·eq, Ordering·gt}
 use mathlib.Core.Bool.{Bool, cond}
