@@ -1,5 +1,7 @@
 //! What rangemap answers on small maps and sets, printed as the table that crates/test_transcription holds the transcription of its algorithms to.
 //! What is asked, in which order, and how an answer is told as a number stands in that crate's specs/Asked.antt.
+use crate::inside::std_ext::{RangeExt, RangeInclusiveExt};
+use crate::inside::{intersect, intersect_inclusive};
 use rangemap::{RangeInclusiveMap, RangeInclusiveSet, RangeMap, RangeSet};
 use std::cmp::Ordering;
 use std::panic::{catch_unwind, set_hook, take_hook, AssertUnwindSafe};
@@ -66,6 +68,9 @@ trait Kind {
     /// How many keys ranges start at, and where ranges end.
     const STARTS: u64;
     const ENDS: [u64; 2];
+    fn contains(o: i64, s: u64, e: u64, k: u64) -> bool;
+    /// Whether two ranges touch, whether they overlap, and what they have in common.
+    fn related(o: i64, a: (u64, u64), b: (u64, u64)) -> (bool, bool, Vec<Entry>);
     fn new_map() -> Self::Map;
     fn edit(map: &mut Self::Map, o: i64, s: u64, e: u64, value: Option<u8>);
     fn entries(map: &Self::Map, o: i64) -> Vec<Entry>;
@@ -98,6 +103,16 @@ impl Kind for HalfOpen {
     type Set = RangeSet<i64>;
     const STARTS: u64 = 4;
     const ENDS: [u64; 2] = [0, 3];
+
+    fn contains(o: i64, s: u64, e: u64, k: u64) -> bool {
+        (key(o, s)..key(o, e)).contains(&key(o, k))
+    }
+
+    fn related(o: i64, a: (u64, u64), b: (u64, u64)) -> (bool, bool, Vec<Entry>) {
+        let (a, b) = (key(o, a.0)..key(o, a.1), key(o, b.0)..key(o, b.1));
+        let common = intersect(&a, &b).map(|r| half_open(o, &r, 0));
+        (a.touches(&b), a.overlaps(&b), common.into_iter().collect())
+    }
 
     fn new_map() -> Self::Map {
         RangeMap::new()
@@ -172,6 +187,20 @@ impl Kind for Inclusive {
     const STARTS: u64 = 3;
     const ENDS: [u64; 2] = [1, 3];
 
+    fn contains(o: i64, s: u64, e: u64, k: u64) -> bool {
+        up_to(o, s, e).contains(&key(o, k))
+    }
+
+    fn related(o: i64, a: (u64, u64), b: (u64, u64)) -> (bool, bool, Vec<Entry>) {
+        let (a, b) = (up_to(o, a.0, a.1), up_to(o, b.0, b.1));
+        let common = intersect_inclusive(&a, &b).map(|r| inclusive(o, &r, 0));
+        (
+            a.touches::<i64>(&b),
+            a.overlaps(&b),
+            common.into_iter().collect(),
+        )
+    }
+
     fn new_map() -> Self::Map {
         RangeInclusiveMap::new()
     }
@@ -244,23 +273,47 @@ fn states<K: Kind>(o: i64, values: u8) -> Vec<K::Map> {
     all
 }
 
-/// The answers about each two keys as one number.
-fn of_pairs<K: Kind>(answer: impl Fn(u64, u64) -> u64) -> Number {
-    let ends = || K::ENDS[0]..=K::ENDS[1];
-    let answers: Vec<u64> = (0..K::STARTS)
-        .flat_map(|s| ends().map(move |e| (s, e)))
-        .map(|(s, e)| answer(s, e))
+/// Each range that is asked about: where it starts, and where it ends.
+fn ranges<K: Kind>() -> impl Iterator<Item = (u64, u64)> {
+    (0..K::STARTS).flat_map(|s| (K::ENDS[0]..=K::ENDS[1]).map(move |e| (s, e)))
+}
+
+/// The answers about each range as one number.
+fn of_ranges<K: Kind>(base: u64, answer: impl Fn(u64, u64) -> u64) -> Number {
+    let answers: Vec<u64> = ranges::<K>().map(|(s, e)| answer(s, e)).collect();
+    packed(base, &answers)
+}
+
+/// Whether two ranges touch, and 4 more where they overlap.
+fn relation_code(touches: bool, overlaps: bool) -> u64 {
+    (if touches { 2 } else { 1 }) + (if overlaps { 4 } else { 0 })
+}
+
+/// The answers about a range alone.
+fn range_row<K: Kind>(o: i64, s: u64, e: u64) -> [Number; 3] {
+    let contains: Vec<u64> = (0..K::STARTS)
+        .map(|k| K::contains(o, s, e, k).into())
         .collect();
-    packed(1 << 28, &answers)
+    let related = |c, d| K::related(o, (s, e), (c, d));
+    [
+        packed(2, &contains),
+        of_ranges::<K>(8, |c, d| {
+            let (touches, overlaps, _) = related(c, d);
+            relation_code(touches, overlaps)
+        }),
+        of_ranges::<K>(1 << 28, |c, d| code(&related(c, d).2)),
+    ]
 }
 
 /// All answers of a kind at a key.
 fn table<K: Kind>(o: i64) -> Vec<Number> {
     let maps = states::<K>(o, 2);
-    let mut answers = Vec::new();
+    let mut answers: Vec<Number> = ranges::<K>()
+        .flat_map(|(s, e)| range_row::<K>(o, s, e))
+        .collect();
     for map in &maps {
         let edited = |value: Option<u8>| {
-            of_pairs::<K>(|s, e| {
+            of_ranges::<K>(1 << 28, |s, e| {
                 told(|| {
                     let mut map = map.clone();
                     K::edit(&mut map, o, s, e, value);
@@ -270,8 +323,12 @@ fn table<K: Kind>(o: i64) -> Vec<Number> {
         };
         answers.push(packed(1 << 28, &[code(&K::entries(map, o))]));
         answers.extend([None, Some(1), Some(2)].map(edited));
-        answers.push(of_pairs::<K>(|s, e| code(&K::overlapping(map, o, s, e))));
-        answers.push(of_pairs::<K>(|s, e| told(|| K::gaps(map, o, s, e))));
+        answers.push(of_ranges::<K>(1 << 28, |s, e| {
+            code(&K::overlapping(map, o, s, e))
+        }));
+        answers.push(of_ranges::<K>(1 << 28, |s, e| {
+            told(|| K::gaps(map, o, s, e))
+        }));
         let gets: Vec<u64> = (0..K::STARTS).map(|k| code(&K::get(map, o, k))).collect();
         answers.push(packed(1 << 28, &gets));
         let orders: Vec<u64> = maps

@@ -3,13 +3,13 @@ use mathlib.Core.Path.{_≡_, refl}
 use mathlib.Core.List.{[], _∷_}
 use mathlib.Core.Option.{some, none}
 use Rattle.span.specs.Span.{span, inside}
-use Rattle.rust_algorithm.specs.Btree.{filtered, reversed, taken, up-to, from-to, between, deleted, entered}
+use Rattle.rust_algorithm.specs.Btree.{filtered, reversed, taken, up-to, from-to, strictly-between, deleted, entered}
 use Rattle.rust_algorithm.specs.Map.{ranges-overlap, ranges-touch, cut-out, adjust, candidate, insert-loop, map-insert, remove-candidate, remove-loop}
 use Rattle.rust_algorithm.specs.Map.{map-remove}
 use Rattle.rust_algorithm.specs.Map.{map-get-key-value, map-get, ending-past, tail-gap, next-gap, collect-gaps, map-gaps}
 
 unfoldable entries : Unit {0}
-unfolding inside filtered reversed taken up-to from-to between deleted entered
+unfolding inside filtered reversed taken up-to from-to strictly-between deleted entered
 entries = tt
 
 unfoldable edits : Unit {0}

@@ -15,12 +15,12 @@ use Rattle.span.proofs.Sets.{over-means, rebuilt, common-means}
 use Rattle.span.proofs.Union.{ordered-united, united-joined}
 use Rattle.span.proofs.Local.{upto-at}
 use Rattle.span.proofs.Walks.{Spaced, spaced-ordered, spaced-plain}
-use Rattle.rust_algorithm.specs.Map.{map-history}
-use Rattle.rust_algorithm.specs.InclusiveMap.{StepBounds, inclusive-history}
+use Rattle.rust_algorithm.specs.Map.{map-extend}
+use Rattle.rust_algorithm.specs.InclusiveMap.{StepFns, inclusive-extend}
 use Rattle.rust_algorithm.specs.Operations.{set-or, set-and}
 use Rattle.rust_algorithm.specs.Operations.{inclusive-set-or, inclusive-set-and}
-use Rattle.rust_algorithm.proofs.History.{history-is}
-use Rattle.rust_algorithm.proofs.InclusiveHistory.{By, inclusive-history-is}
+use Rattle.rust_algorithm.proofs.History.{history-is, extend-history}
+use Rattle.rust_algorithm.proofs.InclusiveHistory.{By, inclusive-history-is, inclusive-extend-history}
 use Rattle.rust_algorithm.proofs.Union.{union-is, inclusive-union-is}
 use Rattle.rust_algorithm.proofs.Intersection.{intersection-is, inclusive-intersection-is}
 
@@ -42,8 +42,8 @@ history-over : (m : List Span) → history (puts m) [] ≡ laidOver m []
 unfolding laidOver
 history-over m = refl
 
-pub extend-is : (m : List Span) → Ordered 0 m → map-history (puts m) [] ≡ some (joined m)
-extend-is m o = history-is (puts m) [] (real-puts 0 m o) (nothing .tidy) ∙ ap some (history-over m ∙ over-nothing m o)
+pub extend-is : (m : List Span) → Ordered 0 m → map-extend m [] ≡ some (joined m)
+extend-is m o = extend-history m [] ∙ history-is (puts m) [] (real-puts 0 m o) (nothing .tidy) ∙ ap some (history-over m ∙ over-nothing m o)
 
 -- two sets: the ranges of each ascend, do not touch, and have the label 0
 module _ (a b : List Span) (s : Spaced 0 a) (t : Spaced 0 b) (tidy-b : Tidy 0 b) where
@@ -99,10 +99,11 @@ upto-common c a b o q u =
       | no p ↦ absurd (never (sym (at-upto c b k u (omega arith)) ∙ when-some (at a k) (at b k) v (sym (f .holds k) ∙ e)))
     ])
 
-module _ (add-one sub-one : ℕ → Option ℕ) (greatest : ℕ) (steps : StepBounds add-one sub-one greatest) where
-  pub inclusive-extend-is : (m : List Span) → Ordered 0 m → Upto (suc greatest) m → inclusive-history add-one sub-one (puts m) [] ≡ some (joined m)
+module _ (add-one sub-one : ℕ → Option ℕ) (greatest : ℕ) (steps : StepFns add-one sub-one greatest) where
+  pub inclusive-extend-is : (m : List Span) → Ordered 0 m → Upto (suc greatest) m → inclusive-extend add-one sub-one m [] ≡ some (joined m)
   inclusive-extend-is m o u =
-      inclusive-history-is add-one sub-one greatest steps (puts m) [] (real-puts 0 m o) (puts-by (suc greatest) m u) (nothing .tidy) tt
+      inclusive-extend-history add-one sub-one greatest steps m []
+      ∙ inclusive-history-is add-one sub-one greatest steps (puts m) [] (real-puts 0 m o) (puts-by (suc greatest) m u) (nothing .tidy) tt
       ∙ ap some (history-over m ∙ over-nothing m o)
 
   module _ (a b : List Span) (s : Spaced 0 a) (t : Spaced 0 b) (tidy-b : Tidy 0 b) (u : Upto (suc greatest) a) (v : Upto (suc greatest) b) where

@@ -7,18 +7,18 @@ use mathlib.Core.Option.{some, none}
 use lib.ListN.{length}
 use native.Mathlib.Omega.{arith}
 use lib.IntN.{ℤ, pos}
-use Rattle.span.specs.Span.{span, inside, joins, tidy, keep, before, after, push, joined, given, inserted, put}
-use Rattle.span.specs.Operations.{puts}
+use Rattle.span.specs.Span.{span, inside, joins, tidy, keep, before, after, push, joined, given, inserted}
 use Rattle.span.proofs.Tests.{tidy-yes}
 use Rattle.span.proofs.Cases.{comb}
 use Rattle.key.specs.Rank.{aboveLeast, bitRank, keyAt}
 use Rattle.key.specs.Range.{halfOpen}
 use Rattle.outcomes.specs.Stored.{places, spans, ranges, filled, storing}
 use Rattle.outcomes.specs.Outcomes.{Entry, editSound, bulkInsertSound, clear}
-use Rattle.rust_algorithm.specs.Btree.{filtered, filtered-by, taken-while, reversed, taken, up-to, from-to, between, starting, starting-by, deleted}
+use Rattle.rust_algorithm.specs.Btree.{filtered, filtered-by, taken-while, reversed, taken, up-to, from-to, strictly-between, starting, starting-by}
+use Rattle.rust_algorithm.specs.Btree.{deleted}
 use Rattle.rust_algorithm.specs.Btree.{entered}
 use Rattle.rust_algorithm.specs.Map.{ranges-overlap, ranges-touch, cut-out, adjust, candidate, insert-loop, map-insert}
-use Rattle.rust_algorithm.specs.Map.{remove-candidate, remove-loop, map-remove, map-edit, map-history}
+use Rattle.rust_algorithm.specs.Map.{remove-candidate, remove-loop, map-remove, map-extend}
 use Rattle.rust_algorithm.specs.Map.{ending-past, map-overlapping, map-overlaps, tail-gap, next-gap, collect-gaps, map-gaps}
 use Rattle.rust_algorithm.specs.InclusiveMap.{inclusive-ranges-touch, ending-from}
 use Rattle.rust_algorithm.specs.InclusiveMap.{inclusive-overlapping, inclusive-overlaps, inclusive-gaps, inclusive-collect-gaps, inclusive-next-gap}
@@ -27,11 +27,11 @@ use Rattle.rust_algorithm.specs.Operations.{range-merge, union-loop, uni
 use Rattle.rust_algorithm.proofs.Insert.{insert-is}
 
 unfoldable entries : Unit {0}
-unfolding inside filtered filtered-by taken-while reversed taken up-to from-to between starting starting-by deleted entered add-one-checked sub-one-checked
+unfolding inside filtered filtered-by taken-while reversed taken up-to from-to strictly-between starting starting-by deleted entered add-one-checked
 entries = tt
 
 unfoldable edits : Unit {0}
-unfolding entries ranges-overlap ranges-touch cut-out adjust candidate insert-loop map-insert remove-candidate remove-loop map-remove map-edit map-history
+unfolding entries ranges-overlap ranges-touch cut-out adjust candidate insert-loop map-insert remove-candidate remove-loop map-remove map-extend
 edits = tt
 
 unfoldable queries : Unit {0}
@@ -43,7 +43,7 @@ unfolding queries inclusive-ranges-touch inclusive-gaps inclusive-collect-gaps i
 inclusives = tt
 
 unfoldable all : Unit {0}
-unfolding inclusives puts range-merge union-loop union-next collect-union set-union set-or
+unfolding inclusives range-merge union-loop union-next collect-union set-union set-or
 all = tt
 
 -- touches, of an empty or reversed range: yes. 0..0 and 0..0; 1..1 and 0..1; 1..=0 and 0..=0
@@ -121,11 +121,11 @@ unfolding all
 inclusive-insert-panics = refl
 
 -- bulk insert with a third entry 4..4: extend panics, and the first two alone are kept; the ledger answers 1, two applied
-extend-panics : map-history (put 0 1 1 ∷ put 2 3 1 ∷ put 4 4 1 ∷ []) [] ≡ none
+extend-panics : map-extend (span 0 1 1 ∷ span 2 3 1 ∷ span 4 4 1 ∷ []) [] ≡ none
 unfolding all
 extend-panics = refl
 
-extend-two : map-history (put 0 1 1 ∷ put 2 3 1 ∷ []) [] ≡ some (span 0 1 1 ∷ span 2 3 1 ∷ [])
+extend-two : map-extend (span 0 1 1 ∷ span 2 3 1 ∷ []) [] ≡ some (span 0 1 1 ∷ span 2 3 1 ∷ [])
 unfolding all
 extend-two = refl
 

@@ -28,12 +28,13 @@ use Rattle.outcomes.specs.Outcomes.{Entry, bulkInsertSound, spanEdits}
 use Rattle.outcomes.specs.Sets.{notWritten}
 use Rattle.outcomes.specs.declared.Asked.the-variants as Asked
 use Rattle.outcomes.specs.declared.Part.the-variants as Part
+use Rattle.outcomes.proofs.Bulk.{single}
 use Rattle.rust_algorithm.specs.Btree.{filtered}
 use Rattle.rust_algorithm.specs.Map.{ranges-overlap}
 use Rattle.rust_algorithm.specs.Answers.{Functions, editedBy}
-use Rattle.rust_algorithm.specs.Equal.{Lent, single}
+use Rattle.rust_algorithm.specs.Equal.{LentMap, entrySpans}
 use Rattle.rust_algorithm.proofs.Same.{Kept, Transcribed}
-use Rattle.rust_algorithm.proofs.Equal.{kept, well, ends-by, edit-equal, edited-is, left}
+use Rattle.rust_algorithm.proofs.Equal.{kept, well, ends-by, edit-equal, edited-is, left, extend-changes}
 
 -- OF EVERY INPUT
 -- contains and overlaps of ranges: where one is empty or reversed, the Rust says no
@@ -59,7 +60,7 @@ module _ (kind : Kind) (s e : ℤ) (empty : kind .past e ≤ rank s) where
   unfolding relations.rangesTouch
   touches-refused s′ e′ = rw (le-leb (kind .past e) (rank s) empty)
 
-  module _ (rust : Functions) (transcribed : Transcribed kind rust) (m : Stored) (l : Lent kind m) where
+  module _ (rust : Functions) (transcribed : Transcribed kind rust) (m : Stored) (l : LentMap kind m) where
     is-well : wellFormed kind places m ≡ true
     is-well = well kind rust transcribed m l
 
@@ -110,7 +111,7 @@ module _ (kind : Kind) (s e : ℤ) (empty : kind .past e ≤ rank s) where
     )
 
 -- no empty range, but no room
-module _ (kind : Kind) (rust : Functions) (transcribed : Transcribed kind rust) (m : Stored) (l : Lent kind m) where
+module _ (kind : Kind) (rust : Functions) (transcribed : Transcribed kind rust) (m : Stored) (l : LentMap kind m) where
   -- one range more than there are places: the Rust has no limit
   pub no-limit : (s e : ℤ) (new : Option ℕ) → rank s < kind .past e → places < length (given (rank s) (kind .past e) new (ranges kind m))
       → (edit kind m s e new ≡ leaving tooMany m) × (rust .edit (rank s) (kind .past e) new (ranges kind m) ≡ some
@@ -135,11 +136,11 @@ module _ (kind : Kind) (rust : Functions) (transcribed : Transcribed kind rust) 
       go true e = omega arith
       go false e = omega arith
 
-  pub extend-panics : (m : Stored) (n : ℕ) (es : List Entry) → Lent kind m → bulkInsertSound kind m n es .told .answer ≡ 1
+  history-panics : (m : Stored) (n : ℕ) (es : List Entry) → LentMap kind m → bulkInsertSound kind m n es .told .answer ≡ 1
       → rust .history (spanEdits kind (map single es)) (ranges kind m) ≡ none
   unfolding bulkInsertSound spanEdits
-  extend-panics m n [] l e = absurd (omega arith)
-  extend-panics m n (x ∷ xs) l e =
+  history-panics m n [] l e = absurd (omega arith)
+  history-panics m n (x ∷ xs) l e =
       let w = well kind rust transcribed m l in
       let one = editSound kind places m (x .start) (x .end) (some (x .value)) in
       let call = rust .edit (rank (x .start)) (kind .past (x .end)) (some (x .value)) (ranges kind m) in
@@ -159,10 +160,14 @@ module _ (kind : Kind) (rust : Functions) (transcribed : Transcribed kind rust) 
             = transcribed .same .edit-same (rank (x .start)) (kind .past (x .end)) (some (x .value)) (ranges kind m) (f .real) by k in
             let holds = rw (edited-well w) at (f .holds) in
             let rest : bulkInsertSound kind (one .left) (suc n) xs .told .answer ≡ 1 = rw (eq-eqb (one .answer) 0 z) at e in
-            let lent : Lent kind (one .left) = rw (edited-well w) at (f .lent) in
-            rw (calls, ← holds) (extend-panics (one .left) (suc n) xs lent rest)
+            let lent : LentMap kind (one .left) = rw (edited-well w) at (f .lent) in
+            rw (calls, ← holds) (history-panics (one .left) (suc n) xs lent rest)
       ])
     where
       edited-well : wellFormed kind places m ≡ true
           → edit kind m (x .start) (x .end) (some (x .value)) ≡ editSound kind places m (x .start) (x .end) (some (x .value))
       edited-well w = edited-is kind rust transcribed m (x .start) (x .end) (some (x .value)) w
+
+  pub extend-panics : (m : Stored) (es : List Entry) → LentMap kind m → bulkInsertSound kind m 0 es .told .answer ≡ 1
+      → rust .extend (entrySpans kind es) (ranges kind m) ≡ none
+  extend-panics m es l e = extend-changes kind rust transcribed es (ranges kind m) ∙ history-panics m 0 es l e

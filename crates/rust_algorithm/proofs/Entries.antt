@@ -5,13 +5,13 @@ use native.Mathlib.Decide.{decLt}
 use mathlib.Core.Path.{_≡_, refl, ap}
 use mathlib.Core.List.{List, [], _∷_, _++_}
 use mathlib.Core.Bool.{cond}
-use mathlib.Core.Option.{some}
+use mathlib.Core.Option.{some, Option, none}
 use lib.Dec.{ltb}
 use lib.ListN.{length}
 use borrow.Author.Tests.{lt-ltb, le-ltb, le-leb, lt-leb, eq-eqb, ne-eqb}
 use Rattle.span.specs.Span.{Span, span, Ordered, Upto, keep}
 use Rattle.span.proofs.Holding.{ordered-from, ordered-right}
-use Rattle.rust_algorithm.specs.Btree.{filtered, next, from-to, between, deleted, entered}
+use Rattle.rust_algorithm.specs.Btree.{and-then, filtered, next, from-to, strictly-between, deleted, entered}
 use Rattle.rust_algorithm.specs.Map.{cut-out}
 
 -- all of the list starts before c
@@ -59,18 +59,18 @@ unfolding from-to filtered
 query-here a b x xs h i = rw (le-leb a (x .lo) h, le-leb (x .lo) b i)
 
 -- range((Excluded(a), Excluded(b))).next()
-pub between-skip : (a b : ℕ) (ls rest : List Span) → Below (suc a) ls → between a b (ls ++ rest) ≡ between a b rest
-unfolding between filtered
+pub between-skip : (a b : ℕ) (ls rest : List Span) → Below (suc a) ls → strictly-between a b (ls ++ rest) ≡ strictly-between a b rest
+unfolding strictly-between filtered
 between-skip a b [] rest h = refl
 between-skip a b (x ∷ xs) rest h = rw (le-ltb a (x .lo) (omega arith)) (between-skip a b xs rest (h .1))
 
-pub between-none : (a b c : ℕ) (rest : List Span) → a < b → b ≤ c → Ordered c rest → between a b rest ≡ []
-unfolding between filtered
+pub between-none : (a b c : ℕ) (rest : List Span) → a < b → b ≤ c → Ordered c rest → strictly-between a b rest ≡ []
+unfolding strictly-between filtered
 between-none a b c [] h i o = refl
 between-none a b c (x ∷ xs) h i o = rw (lt-ltb a (x .lo) (omega arith), le-ltb (x .lo) b (omega arith)) (between-none a b (x .hi) xs h (omega arith) (o .2))
 
-pub between-here : (a b : ℕ) (x : Span) (xs : List Span) → a < x .lo → x .lo < b → next (between a b (x ∷ xs)) ≡ some x
-unfolding between filtered
+pub between-here : (a b : ℕ) (x : Span) (xs : List Span) → a < x .lo → x .lo < b → next (strictly-between a b (x ∷ xs)) ≡ some x
+unfolding strictly-between filtered
 between-here a b x xs h i = rw (lt-ltb a (x .lo) h, lt-ltb (x .lo) b i)
 
 -- BTreeMap::remove, BTreeMap::insert
@@ -106,3 +106,8 @@ module _ (x : Span) (s e : ℕ) (xs : List Span) (full : x .lo < x .hi) (real : 
       let new = span (x .lo) s (x .label) in
       rw (deleted-here ls x xs b, lt-ltb (x .lo) s h, entered-here ls new xs b (ordered-from xs full rest), ← snoc ls new xs)
       (put-right (ls ++ new ∷ []) (below-snoc ls new (omega arith) (below-more ls from b)))
+
+-- what comes after what may panic is the same where it is the same of each answer
+pub after-both : {A B : Type 0} (a : Option A) (f g : A → Option B) → ((x : A) → f x ≡ g x) → and-then a f ≡ and-then a g
+after-both none f g e = refl
+after-both (some x) f g e = e x

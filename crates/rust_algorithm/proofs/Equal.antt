@@ -7,14 +7,14 @@ use mathlib.Core.Bool.{Bool, true, false, cond}
 use mathlib.Core.List.{List, [], _∷_, _++_, map}
 use mathlib.Core.Option.{Option, some, none}
 use lib.Dec.{leb, eqb}
-use lib.ListN.{length, replicate}
+use lib.ListN.{length, replicate, take}
 use lib.IntN.{ℤ}
 use mir.Syntax.{w64}
 use mir.Val.{SFits}
 use borrow.Author.Tests.{lt-ltb, le-ltb, le-leb, lt-leb, eqb-true, eqb-false, eq-eqb}
 use Rattle.answers.specs.Answers.{done}
-use Rattle.span.specs.Span.{Span, span, inside, at, Ordered, Upto, given, Real, history}
-use Rattle.span.specs.Operations.{Plain, spansOverlap, holds, spanOrder, uncovered, common, united}
+use Rattle.span.specs.Span.{Span, span, inside, at, Ordered, Upto, given, Real, history, Edit, put}
+use Rattle.span.specs.Operations.{Plain, puts, spansOverlap, holds, spanOrder, uncovered, common, united}
 use Rattle.span.proofs.Tests.{cases}
 use Rattle.span.proofs.Laws.{nothing, tidy-given, at-given}
 use Rattle.span.proofs.Sets.{plain-at, at-zero}
@@ -34,13 +34,14 @@ use Rattle.outcomes.specs.declared.Counted.the-variants as Counted
 use Rattle.outcomes.proofs.Formed.{formed, shape, length-ranges, getD-ranges, sound-held}
 use Rattle.outcomes.proofs.Storing.{upto-ranges, sound-storing, length-storing}
 use Rattle.outcomes.proofs.Edits.{edit-accepted, edit-ranges, edit-sound, edit-length, ranges-cleared}
-use Rattle.outcomes.proofs.Bulk.{bulk-singles}
+use Rattle.outcomes.proofs.Bulk.{single, bulk-singles}
 use Rattle.outcomes.proofs.Sets.{plain-ranges}
 use Rattle.rust_algorithm.specs.Btree.{next-back, nth}
 use Rattle.rust_algorithm.specs.InclusiveMap.{add-one-checked, sub-one-checked, add-one-wrapping, sub-one-wrapping}
 use Rattle.rust_algorithm.specs.Operations.{range-intersect}
 use Rattle.rust_algorithm.specs.Answers.{Functions, halfOpenRust, inclusiveRust, commonBy, rustFound, rustEdited, rustRun}
-use Rattle.rust_algorithm.specs.Equal.{Lent, Gives, WritesAlike, SameRelations, SameHistory, SameAnswers, SameOrder, SameOfSets, OfSet, applied, EqualToTheRust}
+use Rattle.rust_algorithm.specs.Equal.{LentMap, PartGiven, ListGiven, SameRelations, SameHistory, SameAnswers, SameOrder, SameOfSets, OfSet, entrySpans}
+use Rattle.rust_algorithm.specs.Equal.{applied, EqualToTheRust}
 use Rattle.rust_algorithm.proofs.InclusiveHistory.{By, checked, wrapping}
 use Rattle.rust_algorithm.proofs.Places.{nth-here, nth-past, nth-zero, nth-last, nth-first, part-gives}
 use Rattle.rust_algorithm.proofs.Same.{Kept, KeptSet, Same, Transcribed, half-open-map, inclusive-map}
@@ -94,7 +95,7 @@ module _ (kind : Kind) (rust : Functions) (transcribed : Transcribed kind rust) 
   pub relations-equal : (s e s′ e′ : ℤ) → SameRelations kind rust s e s′ e′
   relations-equal s e s′ e′ = record {
     contains = λ k h. unfold relations.rangeContains in rw (lt-leb (kind .past e) (rank s) h, same .contains-range (rank s) (kind .past e) (rank k) (ends-from e));
-    spansOverlap = λ h i. unfold relations.rangesOverlap in rw (
+    overlaps = λ h i. unfold relations.rangesOverlap in rw (
       lt-leb (kind .past e) (rank s) h,
       lt-leb (kind .past e′) (rank s′) i,
       same .overlaps-range (rank s) (kind .past e) (rank s′) (kind .past e′) h i,
@@ -133,7 +134,7 @@ module _ (kind : Kind) (rust : Functions) (transcribed : Transcribed kind rust) 
     pub real : rank s < kind .past e
     pub stores : o .left ≡ storing kind places (ranges kind (o .left))
     pub holds : ranges kind (o .left) ≡ given (rank s) (kind .past e) new (ranges kind m)
-    pub lent : Lent kind (o .left)
+    pub lent : LentMap kind (o .left)
 
   pub left : (m : Stored) (s e : ℤ) (new : Option ℕ) → wellFormed kind places m ≡ true → edit kind m s e new .answer ≡ 0
       → Left m s e new (edit kind m s e new)
@@ -149,11 +150,11 @@ module _ (kind : Kind) (rust : Functions) (transcribed : Transcribed kind rust) 
         lent = record { sound = edit-sound kind law places m t s e new d; full-size = edit-length kind law places m t s e new d };
       })
 
-  pub well : (m : Stored) → Lent kind m → wellFormed kind places m ≡ true
+  pub well : (m : Stored) → LentMap kind m → wellFormed kind places m ≡ true
   well m l = subst (λ (n : ℕ). wellFormed kind n m ≡ true) (l .full-size) (l .sound .well)
 
   -- EDITS in order
-  pub run-equal : (m : Stored) (cs : List Change) → Lent kind m → edits kind m cs ≡ rustRun kind rust m cs
+  pub run-equal : (m : Stored) (cs : List Change) → LentMap kind m → edits kind m cs ≡ rustRun kind rust m cs
   unfolding edits rustRun
   run-equal m [] l = refl
   run-equal m (c ∷ cs) l =
@@ -187,9 +188,9 @@ module _ (kind : Kind) (rust : Functions) (transcribed : Transcribed kind rust) 
     real : Real (spanEdits kind cs)
     holds : ranges kind (o .left) ≡ history (spanEdits kind cs) (ranges kind m)
     stores : m ≡ storing kind places (ranges kind m) → o .left ≡ storing kind places (ranges kind (o .left))
-    lent : Lent kind (o .left)
+    lent : LentMap kind (o .left)
 
-  ran : (m : Stored) (cs : List Change) → Lent kind m → edits kind m cs .answer ≡ 0 → Ran m cs (edits kind m cs)
+  ran : (m : Stored) (cs : List Change) → LentMap kind m → edits kind m cs .answer ≡ 0 → Ran m cs (edits kind m cs)
   unfolding edits spanEdits history
   ran m [] l z = record { real = tt; holds = refl; stores = λ e. e; lent = l }
   ran m (c ∷ cs) l z =
@@ -205,12 +206,12 @@ module _ (kind : Kind) (rust : Functions) (transcribed : Transcribed kind rust) 
       })
 
   -- what the Rust holds after the same calls
-  rust-holds : (m : Stored) (cs : List Change) → Lent kind m → Ran m cs (edits kind m cs)
+  rust-holds : (m : Stored) (cs : List Change) → LentMap kind m → Ran m cs (edits kind m cs)
       → rust .history (spanEdits kind cs) (ranges kind m) ≡ some (ranges kind (edits kind m cs .left))
   rust-holds m cs l r = same .history-same (spanEdits kind cs) (ranges kind m) (r .real) (by-changes cs) (kept m (well m l)) ∙ ap some (sym (r .holds))
 
   -- a new map is one as it is lent
-  lent-cleared : Lent kind (clear kind)
+  lent-cleared : LentMap kind (clear kind)
   unfolding clear
   lent-cleared = record {
     sound = sound-storing kind law places [] (nothing .tidy) tt (omega arith);
@@ -243,7 +244,7 @@ module _ (kind : Kind) (rust : Functions) (transcribed : Transcribed kind rust) 
           go true e = z v e
           go false e = at-zero m k v p e
 
-  plain-ran : (m : Stored) (cs : List Change) → Lent kind m → OfSet cs → Plain (ranges kind m) → edits kind m cs .answer ≡ 0
+  plain-ran : (m : Stored) (cs : List Change) → LentMap kind m → OfSet cs → Plain (ranges kind m) → edits kind m cs .answer ≡ 0
       → Plain (ranges kind (edits kind m cs .left))
   unfolding edits
   plain-ran m [] l s p z = p
@@ -263,15 +264,26 @@ module _ (kind : Kind) (rust : Functions) (transcribed : Transcribed kind rust) 
       record { sound = h .lent .sound; plain-too = ap plain is ∙ plain-storing kind places (ranges kind (edits kind (clear kind) cs .left)) p }
 
   -- BULK INSERT: as many single inserts as were applied
-  pub extend-equal : (m : Stored) (es : List Entry) → Lent kind m
-      → rust .history (spanEdits kind (applied kind m es)) (ranges kind m) ≡ some (ranges kind (bulkInsertSound kind m 0 es .left))
+  puts-changes : (es : List Entry) → puts (entrySpans kind es) ≡ spanEdits kind (map single es)
+  unfolding puts spanEdits
+  puts-changes [] = refl
+  puts-changes (x ∷ xs) = ap (put (rank (x .start)) (kind .past (x .end)) (x .value) ∷_) (puts-changes xs)
+
+  -- extend by entries is a history of single inserts
+  pub extend-changes : (es : List Entry) (xs : List Span) → rust .extend (entrySpans kind es) xs ≡ rust .history (spanEdits kind (map single es)) xs
+  extend-changes es xs = same .extend-same (entrySpans kind es) xs ∙ ap (λ (fs : List Edit). rust .history fs xs) (puts-changes es)
+
+  pub extend-equal : (m : Stored) (es : List Entry) → LentMap kind m
+      → rust .extend (applied kind m es) (ranges kind m) ≡ some (ranges kind (bulkInsertSound kind m 0 es .left))
   extend-equal m es l =
-      let cs = applied kind m es in
-      let is : edits kind m cs ≡ leaving done (bulkInsertSound kind m 0 es .left) = bulk-singles kind law m es (l .sound) (l .full-size) in
-      rust-holds m cs l (ran m cs l (ap (λ (o : Edited). o .answer) is)) ∙ ap (λ (o : Edited). some (ranges kind (o .left))) is
+      let fs = take (bulkInsertSound kind m 0 es .told .applied) es in
+      let is : edits kind m (map single fs) ≡ leaving done (bulkInsertSound kind m 0 es .left) = bulk-singles kind law m es (l .sound) (l .full-size) in
+      extend-changes fs (ranges kind m)
+      ∙ rust-holds m (map single fs) l (ran m (map single fs) l (ap (λ (o : Edited). o .answer) is))
+      ∙ ap (λ (o : Edited). some (ranges kind (o .left))) is
 
   -- QUESTIONS of a map
-  module _ (m : Stored) (l : Lent kind m) where
+  module _ (m : Stored) (l : LentMap kind m) where
     abbrev xs : List Span
     xs = ranges kind m
 
@@ -321,12 +333,12 @@ module _ (kind : Kind) (rust : Functions) (transcribed : Transcribed kind rust) 
       unfolding overlaps overlapsSound
       overlaps-equal = rw (well m l, lt-leb (kind .past e) (rank s) real, same .overlaps-same (rank s) (kind .past e) xs (ends-from e) is-kept)
 
-      overlapping-equal : Gives xs (overlapping kind m s e) (rust .overlapping (rank s) (kind .past e) xs)
+      overlapping-equal : PartGiven xs (overlapping kind m s e) (rust .overlapping (rank s) (kind .past e) xs)
       unfolding overlapping overlappingSound
       overlapping-equal = rw (well m l, lt-leb (kind .past e) (rank s) real, same .overlapping-same (rank s) (kind .past e) xs (ends-from e) is-kept)
           (part-gives (rank s) (kind .past e) 0 xs real (is-kept .tidy .ordered))
 
-      gaps-equal : (starts ends : List ℤ) → WritesAlike kind (rust .gaps (rank s) (kind .past e) xs) starts ends (gaps kind m s e starts ends)
+      gaps-equal : (starts ends : List ℤ) → ListGiven kind (rust .gaps (rank s) (kind .past e) xs) starts ends (gaps kind m s e starts ends)
       unfolding gaps gapsSound
       gaps-equal starts ends = record {
         list = uncovered (rank s) (kind .past e) xs;
@@ -357,7 +369,7 @@ module _ (kind : Kind) (rust : Functions) (transcribed : Transcribed kind rust) 
     }
 
   -- of two maps
-  pub order-equal : (a b : Stored) → Lent kind a → Lent kind b → SameOrder kind rust a b
+  pub order-equal : (a b : Stored) → LentMap kind a → LentMap kind b → SameOrder kind rust a b
   order-equal a b l w = record {
     eq = unfold equal in unfold orderSound in
         rw (well a l, well b w, same .eq-same (ranges kind a) (ranges kind b) (is-kept a l) (is-kept b w));
@@ -366,17 +378,16 @@ module _ (kind : Kind) (rust : Functions) (transcribed : Transcribed kind rust) 
   }
 
   -- of two sets
-  kept-set : (m : Stored) → SoundSet kind m → Lent kind m → KeptSet keys (ranges kind m)
+  kept-set : (m : Stored) → SoundSet kind m → LentMap kind m → KeptSet keys (ranges kind m)
   kept-set m s l =
       let k = is-kept m l in
       record {
-        tidy =
-            k .tidy;
+        tidy = k .tidy;
         upto = k .upto;
         spaced = tidy-spaced 0 (ranges kind m) (k .tidy .ordered) (k .tidy .separate) (plain-ranges kind m (s .plain-too));
       }
 
-  pub sets-equal : (a b : Stored) → SoundSet kind a → SoundSet kind b → Lent kind a → Lent kind b → SameOfSets kind rust a b
+  pub sets-equal : (a b : Stored) → SoundSet kind a → SoundSet kind b → LentMap kind a → LentMap kind b → SameOfSets kind rust a b
   sets-equal a b s t l w = record {
     union = λ starts ends. record {
       list = united (ranges kind a) (ranges kind b);
@@ -390,10 +401,10 @@ module _ (kind : Kind) (rust : Functions) (transcribed : Transcribed kind rust) 
     };
   }
 
-  pub equal : EqualToTheRust kind rust
-  equal = record {
+  pub equal-to-the-rust : EqualToTheRust kind rust
+  equal-to-the-rust = record {
     relations = relations-equal;
-    edits = run-equal;
+    every-edit = run-equal;
     histories = history-equal;
     set-histories = sets-stay;
     questions = questions-equal;
@@ -404,12 +415,12 @@ module _ (kind : Kind) (rust : Functions) (transcribed : Transcribed kind rust) 
 
 -- RangeMap and RangeSet
 pub half-open-equal : EqualToTheRust halfOpen halfOpenRust
-half-open-equal = equal halfOpen halfOpenRust half-open-map
+half-open-equal = equal-to-the-rust halfOpen halfOpenRust half-open-map
 
 -- RangeInclusiveMap and RangeInclusiveSet, with i64's steps in a build that checks, where a call of add_one at the greatest key would be a panic
 pub inclusive-equal-checked : EqualToTheRust inclusive (inclusiveRust add-one-checked sub-one-checked)
-inclusive-equal-checked = equal inclusive (inclusiveRust add-one-checked sub-one-checked) (inclusive-map add-one-checked sub-one-checked checked)
+inclusive-equal-checked = equal-to-the-rust inclusive (inclusiveRust add-one-checked sub-one-checked) (inclusive-map add-one-checked sub-one-checked checked)
 
 -- and in one that does not
 pub inclusive-equal-wrapping : EqualToTheRust inclusive (inclusiveRust add-one-wrapping sub-one-wrapping)
-inclusive-equal-wrapping = equal inclusive (inclusiveRust add-one-wrapping sub-one-wrapping) (inclusive-map add-one-wrapping sub-one-wrapping wrapping)
+inclusive-equal-wrapping = equal-to-the-rust inclusive (inclusiveRust add-one-wrapping sub-one-wrapping) (inclusive-map add-one-wrapping sub-one-wrapping wrapping)

@@ -12,9 +12,9 @@ use borrow.Author.Tests.{lt-ltb, le-ltb, le-leb, lt-leb, eq-eqb, ne-eqb}
 use Rattle.span.specs.Span.{Span, span, Ordered, Upto, Tidy, keep, inserted, removed}
 use Rattle.span.proofs.Tests.{cases}
 use Rattle.rust_algorithm.specs.Btree.{and-then, if-let, filtered, filtered-by, reversed, taken, next}
-use Rattle.rust_algorithm.specs.Btree.{up-to, between, starting, starting-by, deleted, entered}
+use Rattle.rust_algorithm.specs.Btree.{up-to, strictly-between, starting, starting-by, deleted, entered}
 use Rattle.rust_algorithm.specs.Map.{ranges-overlap, ranges-touch, State, state, last-candidate, cut-out, adjust, candidate, remove-candidate}
-use Rattle.rust_algorithm.specs.InclusiveMap.{StepBounds, inclusive-ranges-overlap, inclusive-ranges-touch, left-back, right-back}
+use Rattle.rust_algorithm.specs.InclusiveMap.{StepFns, inclusive-ranges-overlap, inclusive-ranges-touch, left-back, right-back}
 use Rattle.rust_algorithm.specs.InclusiveMap.{inclusive-cut-out, inclusive-adjust, inclusive-candidate, inclusive-insert-loop, inclusive-finish}
 use Rattle.rust_algorithm.specs.InclusiveMap.{inclusive-insert-body, inclusive-insert}
 use Rattle.rust_algorithm.specs.InclusiveMap.{inclusive-remove-candidate, inclusive-remove-loop, inclusive-remove-body, inclusive-remove}
@@ -87,8 +87,8 @@ pub overlap-same : (a b c d : ℕ) → a < b → c < d → inclusive-ranges-over
 unfolding inclusive-ranges-overlap ranges-overlap
 overlap-same a b c d h i = leb-ltb (max a c) (min (b - 1) (d - 1)) (min b d) (omega arith)
 
-starting-by-same : (lo hi : ℕ) (m : List Span) → 0 < hi → starting-by lo (hi - 1) m ≡ between lo hi m
-unfolding starting-by between
+starting-by-same : (lo hi : ℕ) (m : List Span) → 0 < hi → starting-by lo (hi - 1) m ≡ strictly-between lo hi m
+unfolding starting-by strictly-between
 starting-by-same lo hi m h = ap (λ (p : Span → Bool). filtered p m) (fun-ext (λ x. rw (leb-ltb (x .lo) (hi - 1) hi (omega arith))))
 
 -- range((Included(s), Unbounded)).next()
@@ -109,7 +109,7 @@ starting-here s x xs h = rw (le-leb s (x .lo) h)
 narrow : State → State
 narrow t = state (t .btm) (t .start) (t .end - 1)
 
-module _ (add-one sub-one : ℕ → Option ℕ) (greatest : ℕ) (steps : StepBounds add-one sub-one greatest) where
+module _ (add-one sub-one : ℕ → Option ℕ) (greatest : ℕ) (steps : StepFns add-one sub-one greatest) where
   add-back : (e : ℕ) → 0 < e → e ≤ greatest → add-one (e - 1) ≡ some e
   add-back e h i = let z : suc (e - 1) ≡ e = omega arith in steps .adds (e - 1) (omega arith) ∙ ap some z
 

@@ -15,7 +15,7 @@ use Rattle.span.proofs.Tests.{lt-cases}
 use Rattle.span.proofs.Holding.{ordered-from}
 use Rattle.rust_algorithm.specs.Btree.{filtered}
 use Rattle.rust_algorithm.specs.Map.{ending-past, GapStep, gap-step, given-first}
-use Rattle.rust_algorithm.specs.InclusiveMap.{StepBounds, ending-from}
+use Rattle.rust_algorithm.specs.InclusiveMap.{StepFns, ending-from}
 use Rattle.rust_algorithm.specs.InclusiveMap.{inclusive-tail-gap, inclusive-next-gap, inclusive-collect-gaps, inclusive-gaps}
 use Rattle.rust_algorithm.proofs.Gaps.{free, free-is, free-empty, ordered-past, past-past}
 use Rattle.rust_algorithm.proofs.InclusiveEdits.{Sound, sound, filtered-same, leb-ltb}
@@ -36,7 +36,7 @@ module _ (top : ℕ) where
   upto-past s [] u = tt
   upto-past s (x ∷ xs) u = let ih = upto-past s xs (u .1) in lt-cases s (x .hi) (Upto top) (λ p. (u .0, ih)) (λ p. ih)
 
-module _ (add-one sub-one : ℕ → Option ℕ) (greatest : ℕ) (steps : StepBounds add-one sub-one greatest) where
+module _ (add-one sub-one : ℕ → Option ℕ) (greatest : ℕ) (steps : StepFns add-one sub-one greatest) where
   abbrev Near : ℕ → List Span → Type 0
   Near f [] = Unit {0}
   Near f (x ∷ xs) = f ≤ greatest

@@ -81,8 +81,7 @@ module _ (top : ℕ) (go : ℕ → List Span → ℕ → Option (List Span)) (ls
         | yes q ↦ again n e (x .hi) (x ∷ xs) xs (loop .same n (x .hi) x xs (o .0) (omega arith) (o .1) (u .0) l (omega arith))
             (adopted (x .hi) x xs (o .0) (omega arith) (o .1) l (omega arith))
             (ends-here n (x .hi) (x .hi) xs (omega arith) (omega arith) q (o .2) (u .1) (record {
-              ordered =
-                  (omega arith, omega arith, o .2);
+              ordered = (omega arith, omega arith, o .2);
               separate = (apart-alike x (span s (x .hi) v) xs refl l (p .0), p .1);
             }))
         | no q ↦ again n e e (x ∷ xs) xs (loop .same n e x xs (o .0) (omega arith) (o .1) (u .0) l (omega arith))

@@ -15,7 +15,7 @@ use Rattle.span.proofs.Tests.{cases}
 use Rattle.outcomes.specs.Outcomes.{firstPlace, howMany, partOf}
 use Rattle.outcomes.specs.declared.Part.{Part}
 use Rattle.rust_algorithm.specs.Btree.{filtered, reversed, next, next-back, nth}
-use Rattle.rust_algorithm.specs.Equal.{Gives}
+use Rattle.rust_algorithm.specs.Equal.{PartGiven}
 
 pub nth-here : (i : ℕ) (xs : List Span) (d : Span) → i < length xs → nth i xs ≡ some (getD xs i d)
 unfolding nth
@@ -107,9 +107,9 @@ module _ (lo hi : ℕ) where
     | no p ↦ rw (meets-before x (omega arith)) (part-is (x .hi) xs (o .2))
   ]
 
-  pub part-gives : (b : ℕ) (xs : List Span) → lo < hi → Ordered b xs → Gives xs (partOf meets xs) (filtered meets xs)
+  pub part-gives : (b : ℕ) (xs : List Span) → lo < hi → Ordered b xs → PartGiven xs (partOf meets xs) (filtered meets xs)
   unfolding partOf
-  part-gives b xs h o = cases (eqb (howMany meets xs) 0) (λ (p : Part). Gives xs p (filtered meets xs))
+  part-gives b xs h o = cases (eqb (howMany meets xs) 0) (λ (p : Part). PartGiven xs p (filtered meets xs))
       (λ z. record { place = 0; count = 0; told = refl; same = none-there (eqb-true (howMany meets xs) 0 z) })
       (λ z. record { place = firstPlace meets xs; count = howMany meets xs; told = refl; same = part-is b xs o })
     where

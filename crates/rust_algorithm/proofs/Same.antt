@@ -8,7 +8,7 @@ use mathlib.Core.Option.{Option, some, none}
 use lib.IntN.{ℤ}
 use borrow.Author.Tests.{lt-ltb, le-ltb, le-leb, lt-leb}
 use Rattle.span.specs.Span.{Span, span, inside, Upto, Tidy, Edit, given, history, Real}
-use Rattle.span.specs.Operations.{laidOver, common, united, spansOverlap, any, holds, uncovered, spanOrder}
+use Rattle.span.specs.Operations.{puts, laidOver, common, united, spansOverlap, any, holds, uncovered, spanOrder}
 use Rattle.span.proofs.Walks.{Spaced}
 use Rattle.key.specs.Rank.{keys}
 use Rattle.key.specs.Range.{Kind, halfOpen, inclusive}
@@ -17,15 +17,15 @@ use Rattle.relations.specs.Relations.{spansTouch}
 use Rattle.outcomes.specs.Outcomes.{isEqual}
 use Rattle.rust_algorithm.specs.Btree.{and-then, filtered, next}
 use Rattle.rust_algorithm.specs.Map.{ranges-overlap, ranges-touch, map-edit, map-history}
-use Rattle.rust_algorithm.specs.InclusiveMap.{StepBounds, inclusive-range-contains, inclusive-edit, inclusive-history}
+use Rattle.rust_algorithm.specs.InclusiveMap.{StepFns, inclusive-range-contains, inclusive-edit, inclusive-history}
 use Rattle.rust_algorithm.specs.Operations.{range-intersect}
 use Rattle.rust_algorithm.specs.Answers.{Functions, halfOpenRust, inclusiveRust}
 use Rattle.rust_algorithm.proofs.Insert.{insert-panics}
 use Rattle.rust_algorithm.proofs.Remove.{remove-panics}
-use Rattle.rust_algorithm.proofs.History.{edit-is, history-is}
+use Rattle.rust_algorithm.proofs.History.{edit-is, history-is, extend-history}
 use Rattle.rust_algorithm.proofs.Gaps.{gaps-is, gaps-empty}
 use Rattle.rust_algorithm.proofs.InclusiveEdits.{sound, leb-ltb, overlap-same, touch-same, inclusive-insert-panics, inclusive-remove-panics}
-use Rattle.rust_algorithm.proofs.InclusiveHistory.{By, inclusive-edit-is, inclusive-history-is}
+use Rattle.rust_algorithm.proofs.InclusiveHistory.{By, inclusive-edit-is, inclusive-history-is, inclusive-extend-history}
 use Rattle.rust_algorithm.proofs.InclusiveGaps.{inclusive-gaps-is, inclusive-gaps-empty}
 use Rattle.rust_algorithm.proofs.Queries.{get-key-value-is, contains-is, overlapping-is, overlaps-is, cmp-is, eq-is}
 use Rattle.rust_algorithm.proofs.Queries.{inclusive-get-key-value-is, inclusive-contains-is, inclusive-overlapping-is, inclusive-overlaps-is}
@@ -56,6 +56,7 @@ pub record Same (rust : Functions) (first limit : ℕ) : Type 0 where
   pub history-first : (x : Edit) (es : List Edit) (m : List Span)
       → rust .history (x ∷ es) m ≡ and-then (rust .edit (x .lo) (x .hi) (x .new) m) (rust .history es)
   pub history-same : (es : List Edit) (m : List Span) → Real es → By limit es → Kept limit m → rust .history es m ≡ some (history es m)
+  pub extend-same : (xs m : List Span) → rust .extend xs m ≡ rust .history (puts xs) m
   pub get-same : (k : ℕ) (m : List Span) → Kept limit m → rust .get-key-value k m ≡ next (filtered (holds k) m)
   pub contains-same : (k : ℕ) (m : List Span) → Kept limit m → rust .contains-key k m ≡ any (holds k) m
   -- these two also where the query is empty or reversed
@@ -107,6 +108,7 @@ half-open-same limit = record {
   edit-panics = λ lo hi new m h i. map-edit-panics lo hi new m i;
   history-first = λ x es m. unfold map-history in refl;
   history-same = λ es m r b k. history-is es m r (k .tidy);
+  extend-same = extend-history;
   get-same = λ k m w. get-key-value-is k m (w .tidy .ordered);
   contains-same = λ k m w. contains-is k m (w .tidy .ordered);
   overlapping-same = λ lo hi m h k. overlapping-is lo hi m (k .tidy .ordered);
@@ -122,7 +124,7 @@ half-open-same limit = record {
 }
 
 -- RangeInclusiveMap and RangeInclusiveSet, where the limit is one past the greatest key
-module _ (add-one sub-one : ℕ → Option ℕ) (greatest : ℕ) (steps : StepBounds add-one sub-one greatest) where
+module _ (add-one sub-one : ℕ → Option ℕ) (greatest : ℕ) (steps : StepFns add-one sub-one greatest) where
   inclusive-edit-panics : (lo hi : ℕ) (new : Option ℕ) (m : List Span) → 0 < hi → hi ≤ lo → inclusive-edit add-one sub-one lo hi new m ≡ none
   unfolding inclusive-edit
   inclusive-edit-panics lo hi none m h i = inclusive-remove-panics add-one sub-one greatest steps lo (hi - 1) m (omega arith)
@@ -142,6 +144,7 @@ module _ (add-one sub-one : ℕ → Option ℕ) (greatest : ℕ) (steps : StepBo
     edit-panics = inclusive-edit-panics;
     history-first = λ x es m. unfold inclusive-history in refl;
     history-same = λ es m r b k. inclusive-history-is add-one sub-one greatest steps es m r b (k .tidy) (k .upto);
+    extend-same = inclusive-extend-history add-one sub-one greatest steps;
     get-same = λ k m w. inclusive-get-key-value-is k (suc greatest) m (w .tidy .ordered) (w .upto) ∙ get-key-value-is k m (w .tidy .ordered);
     contains-same = λ k m w. inclusive-contains-is k (suc greatest) m (w .tidy .ordered) (w .upto);
     overlapping-same = λ lo hi m h k. let whole : suc (hi - 1) ≡ hi = omega arith in
@@ -178,6 +181,6 @@ ends-later : (e : ℤ) → 1 ≤ inclusive .past e
 ends-later e = omega arith
 
 -- for any steps that are right below the greatest key
-pub inclusive-map : (add-one sub-one : ℕ → Option ℕ) → StepBounds add-one sub-one (2 ^ 64 - 1) → Transcribed inclusive (inclusiveRust add-one sub-one)
+pub inclusive-map : (add-one sub-one : ℕ → Option ℕ) → StepFns add-one sub-one (2 ^ 64 - 1) → Transcribed inclusive (inclusiveRust add-one sub-one)
 inclusive-map add-one sub-one steps =
     record { law = inclusive-too; least = 1; ends-from = ends-later; same = inclusive-same add-one sub-one (2 ^ 64 - 1) steps }

@@ -3,10 +3,10 @@ use Prim.Native.Nat.{ℕ, _-_, Ordering}
 use mathlib.Core.Bool.{Bool, false, cond}
 use mathlib.Core.List.{List, [], _∷_}
 use mathlib.Core.Option.{Option, some, none}
-use lib.Dec.{eqb, ltb}
+use lib.Dec.{eqb, ltb, leb}
 use lib.ListN.{length}
 use lib.IntN.{ℤ}
-use Rattle.answers.specs.Answers.{done, emptyRange, tooMany, noneThere}
+use Rattle.answers.specs.Answers.{done, emptyRange, tooMany}
 use Rattle.span.specs.Span.{Span, inside, Edit}
 use Rattle.key.specs.Rank.{rank, keyAt}
 use Rattle.key.specs.Range.{Kind}
@@ -19,8 +19,9 @@ use Rattle.outcomes.specs.Stored.{places, Stored, ranges, storing}
 use Rattle.outcomes.specs.Outcomes.{Edited, leaving, Change}
 use Rattle.outcomes.specs.declared.Found.{Found}
 use Rattle.outcomes.specs.declared.Found.the-variants as Found
-use Rattle.rust_algorithm.specs.Map.{map-edit, map-history, map-get-key-value, map-contains-key, map-overlapping, map-overlaps, map-gaps, map-eq, map-cmp}
-use Rattle.rust_algorithm.specs.InclusiveMap.{inclusive-edit, inclusive-history, inclusive-get-key-value, inclusive-contains-key}
+use Rattle.rust_algorithm.specs.Map.{map-edit, map-history, map-extend, map-get-key-value, map-contains-key, map-overlapping, map-overlaps, map-gaps}
+use Rattle.rust_algorithm.specs.Map.{map-eq, map-cmp}
+use Rattle.rust_algorithm.specs.InclusiveMap.{inclusive-edit, inclusive-history, inclusive-extend, inclusive-get-key-value, inclusive-contains-key}
 use Rattle.rust_algorithm.specs.InclusiveMap.{inclusive-overlapping, inclusive-overlaps, inclusive-gaps, inclusive-eq, inclusive-cmp}
 use Rattle.rust_algorithm.specs.Map.{ranges-overlap, ranges-touch}
 use Rattle.rust_algorithm.specs.InclusiveMap.{inclusive-range-contains, inclusive-ranges-overlap, inclusive-ranges-touch}
@@ -36,6 +37,7 @@ pub record Functions : Type 0 where
   pub range-intersect : Span → Span → Option Span
   pub edit : ℕ → ℕ → Option ℕ → List Span → Option (List Span)
   pub history : List Edit → List Span → Option (List Span)
+  pub extend : List Span → List Span → Option (List Span)
   pub get-key-value : ℕ → List Span → Option Span
   pub contains-key : ℕ → List Span → Bool
   pub overlapping : ℕ → ℕ → List Span → List Span
@@ -57,6 +59,7 @@ halfOpenRust = record {
   range-intersect = range-intersect;
   edit = map-edit;
   history = map-history;
+  extend = map-extend;
   get-key-value = map-get-key-value;
   contains-key = map-contains-key;
   overlapping = map-overlapping;
@@ -79,6 +82,7 @@ inclusiveRust add-one sub-one = record {
   range-intersect = inclusive-intersect;
   edit = inclusive-edit add-one sub-one;
   history = inclusive-history add-one sub-one;
+  extend = inclusive-extend add-one sub-one;
   get-key-value = inclusive-get-key-value;
   contains-key = inclusive-contains-key;
   overlapping = λ lo hi m. inclusive-overlapping lo (hi - 1) m;
@@ -104,7 +108,7 @@ commonBy kind (some x) = Between (keyAt (x .lo)) (kind .ending (x .hi))
 
 -- an entry as an answer: 5 where there is none
 abbrev pub rustFound : Kind → Option Span → Found
-rustFound kind none = Found.Refused noneThere
+rustFound kind none = Found.Nothing
 rustFound kind (some x) = Found.Range (keyAt (x .lo)) (kind .ending (x .hi)) (x .label)
 
 -- an edit: 1 where the Rust panics, 2 where it leaves more ranges than a map has places, and else the map that holds what it leaves

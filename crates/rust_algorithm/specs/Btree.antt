@@ -72,8 +72,8 @@ unfoldable pub from-to : ℕ → ℕ → List Span → List Span
 from-to s e m = filtered (λ x. leb s (x .lo) && leb (x .lo) e) m
 
 -- BTreeMap::range((Excluded(s), Excluded(e))), where s < e
-unfoldable pub between : ℕ → ℕ → List Span → List Span
-between s e m = filtered (λ x. ltb s (x .lo) && ltb (x .lo) e) m
+unfoldable pub strictly-between : ℕ → ℕ → List Span → List Span
+strictly-between s e m = filtered (λ x. ltb s (x .lo) && ltb (x .lo) e) m
 
 -- BTreeMap::range((Included(s), Unbounded))
 unfoldable pub starting : ℕ → List Span → List Span

@@ -25,19 +25,19 @@ use Rattle.rust_algorithm.specs.Map.{map-first, map-last, map-len, map-i
 use Rattle.rust_algorithm.specs.Answers.{Functions, relatedBy, commonBy, rustFound, rustRun}
 
 -- a map as it is lent: sound, and of as many places as maps have
-pub record Lent (kind : Kind) (m : Stored) : Type 0 where
+pub record LentMap (kind : Kind) (m : Stored) : Type 0 where
   pub sound : Sound kind m
   pub full-size : length (m .starts) ≡ places
 
 -- a part of a map's places: those are the entries that the Rust gives
-pub record Gives (xs : List Span) (part : Part) (given : List Span) : Type 0 where
+pub record PartGiven (xs : List Span) (part : Part) (given : List Span) : Type 0 where
   pub place : ℕ
   pub count : ℕ
   pub told : part ≡ Part.Places place count
   pub same : take count (drop place xs) ≡ given
 
 -- a list that is written: the Rust's iterator ends, and what it gave is written into the lent lists
-pub record WritesAlike (kind : Kind) (given : Option (List Span)) (starts ends : List ℤ) (w : Written) : Type 0 where
+pub record ListGiven (kind : Kind) (given : Option (List Span)) (starts ends : List ℤ) (w : Written) : Type 0 where
   pub list : List Span
   pub gave : given ≡ some list
   pub same : w ≡ intoLists kind list starts ends
@@ -47,12 +47,12 @@ abbrev pub OfSet : List Change → Type 0
 OfSet [] = Unit {0}
 OfSet (c ∷ cs) = ((v : ℕ) → c .new ≡ some v → v ≡ 0) × OfSet cs
 
--- an entry of a bulk insert as an edit, and the edits of as many entries as it says that it applied
-abbrev pub single : Entry → Change
-single x = record { start = x .start; end = x .end; new = some (x .value) }
+-- the entries of a bulk insert as ranges with values, and as many of them as it says that it applied
+abbrev pub entrySpans : Kind → List Entry → List Span
+entrySpans kind es = map (λ (x : Entry). spanOf kind (x .start) (x .end) (x .value)) es
 
-abbrev pub applied : Kind → Stored → List Entry → List Change
-applied kind m es = map single (take (bulkInsertSound kind m 0 es .told .applied) es)
+abbrev pub applied : Kind → Stored → List Entry → List Span
+applied kind m es = entrySpans kind (take (bulkInsertSound kind m 0 es .told .applied) es)
 
 module _ (kind : Kind) (rust : Functions) where
   -- MODULE 1: two ranges that are not empty or reversed, and intersect of any two, are related as the Rust says
@@ -71,7 +71,7 @@ module _ (kind : Kind) (rust : Functions) where
     pub btm : List Span
     pub holds : rust .history (spanEdits kind cs) [] ≡ some btm
     pub stores : edits kind (clear kind) cs .left ≡ storing kind places btm
-    pub lent : Lent kind (edits kind (clear kind) cs .left)
+    pub lent : LentMap kind (edits kind (clear kind) cs .left)
 
   -- each question of a map is answered as the Rust answers it of the ranges that the map holds
   pub record SameAnswers (m : Stored) : Type 0 where
@@ -84,9 +84,9 @@ module _ (kind : Kind) (rust : Functions) where
     pub contains-key : (k : ℤ) → contains kind m k ≡ yesNo (rust .contains-key (rank k) (ranges kind m))
     pub overlaps : (s e : ℤ) → rank s < kind .past e → overlaps kind m s e ≡ yesNo (rust .overlaps (rank s) (kind .past e) (ranges kind m))
     pub overlapping : (s e : ℤ) → rank s < kind .past e
-        → Gives (ranges kind m) (overlapping kind m s e) (rust .overlapping (rank s) (kind .past e) (ranges kind m))
+        → PartGiven (ranges kind m) (overlapping kind m s e) (rust .overlapping (rank s) (kind .past e) (ranges kind m))
     pub gaps : (s e : ℤ) → rank s < kind .past e → (starts ends : List ℤ)
-        → WritesAlike kind (rust .gaps (rank s) (kind .past e) (ranges kind m)) starts ends (gaps kind m s e starts ends)
+        → ListGiven kind (rust .gaps (rank s) (kind .past e) (ranges kind m)) starts ends (gaps kind m s e starts ends)
 
   -- and of two maps
   pub record SameOrder (a b : Stored) : Type 0 where
@@ -95,23 +95,23 @@ module _ (kind : Kind) (rust : Functions) where
 
   -- and of two sets
   pub record SameOfSets (a b : Stored) : Type 0 where
-    pub union : (starts ends : List ℤ) → WritesAlike kind (rust .union (ranges kind a) (ranges kind b)) starts ends (union kind a b starts ends)
+    pub union : (starts ends : List ℤ) → ListGiven kind (rust .union (ranges kind a) (ranges kind b)) starts ends (union kind a b starts ends)
     pub intersection : (starts ends : List ℤ)
-        → WritesAlike kind (rust .intersection (ranges kind a) (ranges kind b)) starts ends (intersection kind a b starts ends)
+        → ListGiven kind (rust .intersection (ranges kind a) (ranges kind b)) starts ends (intersection kind a b starts ends)
 
   pub record EqualToTheRust : Type 0 where
     -- EVERY TWO RANGES
     pub relations : (s e s′ e′ : ℤ) → SameRelations s e s′ e′
     -- EVERY EDIT, refused or not: 1 where the Rust panics, 2 where it would hold more ranges than there are places, and else what it leaves
-    pub edits : (m : Stored) (cs : List Change) → Lent kind m → edits kind m cs ≡ rustRun kind rust m cs
+    pub every-edit : (m : Stored) (cs : List Change) → LentMap kind m → edits kind m cs ≡ rustRun kind rust m cs
     -- EVERY HISTORY of edits of which none is refused
     pub histories : (cs : List Change) → edits kind (clear kind) cs .answer ≡ 0 → SameHistory cs
     -- of a set too: edits that give 0 or none leave a set, so that each function of a set answers as the map's does
     pub set-histories : (cs : List Change) → OfSet cs → edits kind (clear kind) cs .answer ≡ 0 → SoundSet kind (edits kind (clear kind) cs .left)
     -- EVERY QUESTION
-    pub questions : (m : Stored) → Lent kind m → SameAnswers m
-    pub order : (a b : Stored) → Lent kind a → Lent kind b → SameOrder a b
-    pub sets : (a b : Stored) → SoundSet kind a → SoundSet kind b → Lent kind a → Lent kind b → SameOfSets a b
+    pub questions : (m : Stored) → LentMap kind m → SameAnswers m
+    pub order : (a b : Stored) → LentMap kind a → LentMap kind b → SameOrder a b
+    pub sets : (a b : Stored) → SoundSet kind a → SoundSet kind b → LentMap kind a → LentMap kind b → SameOfSets a b
     -- BULK INSERT applies as many entries as it says, and leaves what extend leaves after those
-    pub extend : (m : Stored) (es : List Entry) → Lent kind m
-        → rust .history (spanEdits kind (applied kind m es)) (ranges kind m) ≡ some (ranges kind (bulkInsertSound kind m 0 es .left))
+    pub extend : (m : Stored) (es : List Entry) → LentMap kind m
+        → rust .extend (applied kind m es) (ranges kind m) ≡ some (ranges kind (bulkInsertSound kind m 0 es .left))

@@ -18,8 +18,8 @@ abbrev pub final : Span → ℕ
 final x = x .hi - 1
 
 -- the range s..=e with the value v
-abbrev pub closedSpan : ℕ → ℕ → ℕ → Span
-closedSpan s e v = span s (suc e) v
+abbrev pub closed-range : ℕ → ℕ → ℕ → Span
+closed-range s e v = span s (suc e) v
 
 -- RangeInclusive::contains: is k in lo..=last
 unfoldable pub inclusive-range-contains : ℕ → ℕ → ℕ → Bool
@@ -36,11 +36,11 @@ module _ (add-one sub-one : ℕ → Option ℕ) where
 
   -- 489-498 and 526-534: add back what of the stored range x lies left of s
   unfoldable pub left-back : Span → ℕ → List Span → Option (List Span)
-  left-back x s m = cond (ltb (x .lo) s) (and-then (sub-one s) (λ e. some (entered (closedSpan (x .lo) e (x .label)) m))) (some m)
+  left-back x s m = cond (ltb (x .lo) s) (and-then (sub-one s) (λ e. some (entered (closed-range (x .lo) e (x .label)) m))) (some m)
 
   -- 499-508 and 535-543: add back what of it lies right of e
   unfoldable pub right-back : Span → ℕ → List Span → Option (List Span)
-  right-back x e m = cond (ltb e (final x)) (and-then (add-one e) (λ s. some (entered (closedSpan s (final x) (x .label)) m))) (some m)
+  right-back x e m = cond (ltb e (final x)) (and-then (add-one e) (λ s. some (entered (closed-range s (final x) (x .label)) m))) (some m)
 
   -- 488-508, and 524-543: delete the stored range x, and add back what of it lies left of s..=e, and what lies right of it
   unfoldable pub inclusive-cut-out : Span → ℕ → ℕ → List Span → Option (List Span)
@@ -71,7 +71,7 @@ module _ (add-one sub-one : ℕ → Option ℕ) where
 
   -- 373: insert the (possibly expanded) new range
   abbrev pub inclusive-finish : ℕ → State → Option (List Span)
-  inclusive-finish v s = some (entered (closedSpan (s .start) (s .end) v) (s .btm))
+  inclusive-finish v s = some (entered (closed-range (s .start) (s .end) v) (s .btm))
 
   -- 317-373: from the loop on
   abbrev pub inclusive-insert-body : ℕ → State → Option (List Span)
@@ -110,13 +110,18 @@ module _ (add-one sub-one : ℕ → Option ℕ) where
   inclusive-edit lo hi none m = inclusive-remove lo (hi - 1) m
   inclusive-edit lo hi (some v) m = inclusive-insert lo (hi - 1) v m
 
-  -- a sequence of calls; extend (722-726), from_iter (710-714) and from (941-947) are such sequences, of inserts alone
+  -- a sequence of calls
   unfoldable pub inclusive-history : List Edit → List Span → Option (List Span)
   inclusive-history [] m = some m
   inclusive-history (e ∷ es) m = and-then (inclusive-edit (e .lo) (e .hi) (e .new) m) (inclusive-history es)
 
+  -- 722-726: extend. from_iter (710-714) and from (941-947) are extend of an empty map
+  unfoldable pub inclusive-extend : List Span → List Span → Option (List Span)
+  inclusive-extend [] m = some m
+  inclusive-extend (x ∷ xs) m = and-then (inclusive-insert (x .lo) (final x) (x .label) m) (inclusive-extend xs)
+
 -- what the theorems ask of them: where a key is below the greatest, the next one; where it is not the first, the one before
-pub record StepBounds (add-one sub-one : ℕ → Option ℕ) (greatest : ℕ) : Type 0 where
+pub record StepFns (add-one sub-one : ℕ → Option ℕ) (greatest : ℕ) : Type 0 where
   pub adds : (z : ℕ) → z < greatest → add-one z ≡ some (suc z)
   pub subs : (z : ℕ) → 0 < z → sub-one z ≡ some (z - 1)
 
@@ -166,8 +171,8 @@ module _ (add-one sub-one : ℕ → Option ℕ) where
   -- 862-874: the gap at the end of the outer range, if there is one. After Gaps::next candidate_needs_plus_one is always true
   unfoldable pub inclusive-tail-gap : ℕ → Bool → ℕ → List Span → Option GapStep
   inclusive-tail-gap end plus c xs = cond plus
-      (cond (ltb c end) (and-then (add-one c) (λ s. some (gap-step (some (closedSpan s end 0)) end xs))) (some (gap-step none end xs)))
-      (cond (leb c end) (some (gap-step (some (closedSpan c end 0)) end xs)) (some (gap-step none end xs)))
+      (cond (ltb c end) (and-then (add-one c) (λ s. some (gap-step (some (closed-range s end 0)) end xs))) (some (gap-step none end xs)))
+      (cond (leb c end) (some (gap-step (some (closed-range c end 0)) end xs)) (some (gap-step none end xs)))
 
   -- 835-877: Gaps::next
   unfoldable pub inclusive-next-gap : ℕ → Bool → ℕ → List Span → Option GapStep
@@ -175,7 +180,7 @@ module _ (add-one sub-one : ℕ → Option ℕ) where
   inclusive-next-gap end plus c (x ∷ xs) =
       let more = inclusive-next-gap end true (final x) xs in
       cond (ltb end (x .lo)) (inclusive-tail-gap end plus c xs) (and-then (cond plus (add-one c) (some c)) (λ start.
-      cond (ltb start (x .lo)) (and-then (sub-one (x .lo)) (λ e. some (gap-step (some (closedSpan start e 0)) (final x) xs))) more))
+      cond (ltb start (x .lo)) (and-then (sub-one (x .lo)) (λ e. some (gap-step (some (closed-range start e 0)) (final x) xs))) more))
 
   -- all that Gaps gives until it gives None, in n calls at most
   unfoldable pub inclusive-collect-gaps : ℕ → ℕ → Bool → ℕ → List Span → Option (List Span)

@@ -8,7 +8,7 @@ use lib.Dec.{ltb, leb, eqb}
 use lib.ListN.{length}
 use Rattle.span.specs.Span.{Span, span, inside, Edit}
 use Rattle.rust_algorithm.specs.Btree.{and-then, if-let, is-some, filtered, taken-while, reversed, taken, next, next-back}
-use Rattle.rust_algorithm.specs.Btree.{up-to, from-to, between, deleted, entered}
+use Rattle.rust_algorithm.specs.Btree.{up-to, from-to, strictly-between, deleted, entered}
 
 -- std_ext.rs, 12-16: does a..b overlap c..d
 unfoldable pub ranges-overlap : ℕ → ℕ → ℕ → ℕ → Bool
@@ -78,7 +78,7 @@ remove-candidate lo hi m = next (filtered (λ x. ranges-overlap (x .lo) (x .hi) 
 -- 420-436: the loop, for n rounds at most
 unfoldable pub remove-loop : ℕ → ℕ → ℕ → List Span → Option (List Span)
 remove-loop zero lo hi m = none
-remove-loop (suc n) lo hi m = if-let (next (between lo hi m)) (λ x. remove-loop n lo hi (cut-out x lo hi m)) (some m)
+remove-loop (suc n) lo hi m = if-let (next (strictly-between lo hi m)) (λ x. remove-loop n lo hi (cut-out x lo hi m)) (some m)
 
 -- 419-436: from the loop on. (BTreeMap::range panics where its start is past its end, or both are excluded and equal; here lo < hi)
 abbrev pub remove-body : ℕ → ℕ → List Span → Option (List Span)
@@ -93,10 +93,15 @@ unfoldable pub map-edit : ℕ → ℕ → Option ℕ → List Span → Option (L
 map-edit lo hi none m = map-remove lo hi m
 map-edit lo hi (some v) m = map-insert lo hi v m
 
--- a sequence of calls; extend (627-631), from_iter (615-619) and from (823-829) are such sequences, of inserts alone
+-- a sequence of calls
 unfoldable pub map-history : List Edit → List Span → Option (List Span)
 map-history [] m = some m
 map-history (e ∷ es) m = and-then (map-edit (e .lo) (e .hi) (e .new) m) (map-history es)
+
+-- 627-631: extend. from_iter (615-619) and from (823-829) are extend of an empty map
+unfoldable pub map-extend : List Span → List Span → Option (List Span)
+map-extend [] m = some m
+map-extend (x ∷ xs) m = and-then (map-insert (x .lo) (x .hi) (x .label) m) (map-extend xs)
 
 -- 163-176: get_key_value, the last that starts by the key, if it contains the key (Range::contains is `inside`)
 unfoldable pub map-get-key-value : ℕ → List Span → Option Span

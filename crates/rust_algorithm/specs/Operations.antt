@@ -8,10 +8,9 @@ use mathlib.Core.Option.{Option, some, none}
 use lib.Dec.{ltb, leb}
 use lib.ListN.{length}
 use Rattle.span.specs.Span.{Span, span, inside}
-use Rattle.span.specs.Operations.{puts}
 use Rattle.rust_algorithm.specs.Btree.{and-then, if-let}
-use Rattle.rust_algorithm.specs.Map.{given-first, map-history}
-use Rattle.rust_algorithm.specs.InclusiveMap.{final, closedSpan, inclusive-range-contains, inclusive-history}
+use Rattle.rust_algorithm.specs.Map.{given-first, map-extend}
+use Rattle.rust_algorithm.specs.InclusiveMap.{final, closed-range, inclusive-range-contains, inclusive-extend}
 
 -- 40-52: merge, the range that it leaves, and none where it answers false
 unfoldable pub range-merge : Span → Span → Option Span
@@ -20,7 +19,7 @@ range-merge x y = cond (inside (x .lo) (x .hi) (y .lo)) (some (cond (ltb (x .hi)
 -- 54-66: the same of inclusive ranges
 unfoldable pub inclusive-merge : Span → Span → Option Span
 inclusive-merge x y = cond (inclusive-range-contains (x .lo) (final x) (y .lo))
-    (some (cond (ltb (final x) (final y)) (closedSpan (x .lo) (final y) (x .label)) x))
+    (some (cond (ltb (final x) (final y)) (closed-range (x .lo) (final y) (x .label)) x))
     none
 
 -- 74-85: intersect
@@ -35,7 +34,7 @@ unfoldable pub inclusive-intersect : Span → Span → Option Span
 inclusive-intersect x y =
     let start = max (x .lo) (y .lo) in
     let end = min (final x) (final y) in
-    cond (ltb end start) none (some (closedSpan start end (x .label)))
+    cond (ltb end start) none (some (closed-range start end (x .label)))
 
 -- what an iterator over two lists answers, and what is left of them after it
 pub record PairStep : Type 0 where
@@ -108,17 +107,17 @@ set-intersection a b = collect-intersection (λ x. x .hi) range-intersect (suc (
 unfoldable pub inclusive-set-intersection : List Span → List Span → Option (List Span)
 inclusive-set-intersection a b = collect-intersection final inclusive-intersect (suc (length a + length b)) a b
 
--- set.rs, 425-431, 417-423 and 266-286: a | b and a & b collect their ranges into a new set, one insert for each
+-- set.rs, 425-431, 417-423 and 266-286: a | b and a & b collect their ranges into a new set: extend of an empty one
 unfoldable pub set-or : List Span → List Span → Option (List Span)
-set-or a b = and-then (set-union a b) (λ xs. map-history (puts xs) [])
+set-or a b = and-then (set-union a b) (λ xs. map-extend xs [])
 
 unfoldable pub set-and : List Span → List Span → Option (List Span)
-set-and a b = and-then (set-intersection a b) (λ xs. map-history (puts xs) [])
+set-and a b = and-then (set-intersection a b) (λ xs. map-extend xs [])
 
 -- inclusive_set.rs, 484-490, 476-482 and 292-312: the same of inclusive sets
 module _ (add-one sub-one : ℕ → Option ℕ) where
   unfoldable pub inclusive-set-or : List Span → List Span → Option (List Span)
-  inclusive-set-or a b = and-then (inclusive-set-union a b) (λ xs. inclusive-history add-one sub-one (puts xs) [])
+  inclusive-set-or a b = and-then (inclusive-set-union a b) (λ xs. inclusive-extend add-one sub-one xs [])
 
   unfoldable pub inclusive-set-and : List Span → List Span → Option (List Span)
-  inclusive-set-and a b = and-then (inclusive-set-intersection a b) (λ xs. inclusive-history add-one sub-one (puts xs) [])
+  inclusive-set-and a b = and-then (inclusive-set-intersection a b) (λ xs. inclusive-extend add-one sub-one xs [])
