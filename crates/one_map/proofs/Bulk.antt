@@ -13,7 +13,7 @@ use Rattle.key.specs.Range.{Kind}
 use Rattle.key.proofs.Lawful.{Lawful}
 use Rattle.outcomes.specs.Stored.{places, Stored}
 use Rattle.outcomes.specs.Outcomes.{Entry, Edited, Extended, extended, editSound, bulkInsertSound, edit, insert, bulkInsert}
-use Rattle.one_map.specs.Events.{Proper, bulkInsert}
+use Rattle.one_map.specs.Events.{Proper, bulkEvent}
 use Rattle.one_map.proofs.Known.{proper-formed}
 use Rattle.one_map.proofs.Histories.{event-proper}
 
@@ -78,4 +78,4 @@ module _ {kind : Kind} (law : Lawful kind) {m : Stored} (p : Proper kind m) (xs 
   unfolding edit
   bulk-number f =
       let at : told .told .applied ≡ stop .taken = omega (arith, stop .applied-is) in
-      rw (proper-formed (event-proper law (bulkInsert xs) p), at) (stop .number f)
+      rw (proper-formed (event-proper law (bulkEvent xs) p), at) (stop .number f)

@@ -29,7 +29,7 @@ use Rattle.outcomes.proofs.Bulk.{range, entries-ranges, bulk-singles}
 use Rattle.byte_form.specs.Layout.{rm01}
 use Rattle.byte_form.specs.Bytes.{Bytes}
 use Rattle.byte_form.specs.Form.{entriesOf, mapIn, isForm, read}
-use Rattle.one_map.specs.Events.{Proper, valueAt, Event, insert, remove, bulkInsert, clear, readBytes, happens, afterEvents, lastValue}
+use Rattle.one_map.specs.Events.{Proper, valueAt, Event, insertEvent, removeEvent, bulkEvent, clearEvent, readEvent, happens, afterEvents, lastValue}
 use Rattle.one_map.specs.Events.{Effect, changed, anew, ifAccepted, entryChange, effect, leftAt}
 use Rattle.one_map.proofs.Known.{some-found, proper-formed, proper-tidy, value-at, none-found, same-lookups}
 use Rattle.one_map.proofs.OneMap.{edit-proper, edit-instants, clear-proper, clear-holds, read-proper}
@@ -123,11 +123,11 @@ read-left {m} bs fit z =
 module _ {kind : Kind} (law : Lawful kind) where
   -- each event leaves what its effect says
   pub event-left : (x : Event kind) {m : Stored} → Proper kind m → Left kind m (happens x m .left) (effect x m)
-  event-left (insert s e v) {m} p = done-or-not (edit kind m s e (some v)) _ p (edit-left law p s e (some v)) (edit-unchanged kind m s e (some v))
-  event-left (remove s e) {m} p = done-or-not (edit kind m s e none) _ p (edit-left law p s e none) (edit-unchanged kind m s e none)
-  event-left (bulkInsert xs) p = bulk-left law p xs
-  event-left clear {m} p = clear-left law m
-  event-left (readBytes is bs fit) {m} p =
+  event-left (insertEvent s e v) {m} p = done-or-not (edit kind m s e (some v)) _ p (edit-left law p s e (some v)) (edit-unchanged kind m s e (some v))
+  event-left (removeEvent s e) {m} p = done-or-not (edit kind m s e none) _ p (edit-left law p s e none) (edit-unchanged kind m s e none)
+  event-left (bulkEvent xs) p = bulk-left law p xs
+  event-left clearEvent {m} p = clear-left law m
+  event-left (readEvent is bs fit) {m} p =
       let cs : List Change = map entryChange (entriesOf (mapIn rm01 bs)) in
       let as-read : read rm01 m bs .answer ≡ 0 → Left kind m (read rm01 m bs .left) (anew cs) =
       λ z. subst (λ (k : Kind). Left k m (read rm01 m bs .left) (anew cs)) (sym is) (read-left bs fit z) in
@@ -167,7 +167,7 @@ module _ {kind : Kind} (law : Lawful kind) where
 
   -- or 5 where there is none
   pub no-value-told : (xs : List (Event kind)) (k : ℤ) → lastValue xs (clear kind) k none ≡ none
-      → lookup kind (afterEvents xs (clear kind)) k ≡ Found.Refused noneThere
+      → lookup kind (afterEvents xs (clear kind)) k ≡ Found.Nothing
   no-value-told xs k e = none-found (events-proper xs (clear-proper law)) k (last-value-held xs k ∙ e)
 
   -- and two histories that agree at every key leave the same stored map, unused places included
@@ -179,19 +179,19 @@ module _ {kind : Kind} (law : Lawful kind) where
 
 -- an event that is done as a whole or not at all: any but a bulk insert
 abbrev pub Whole : {kind : Kind} → Event kind → Type 0
-Whole (insert s e v) = Unit {0}
-Whole (remove s e) = Unit {0}
-Whole (bulkInsert xs) = ⊥
-Whole clear = Unit {0}
-Whole (readBytes is bs fit) = Unit {0}
+Whole (insertEvent s e v) = Unit {0}
+Whole (removeEvent s e) = Unit {0}
+Whole (bulkEvent xs) = ⊥
+Whole clearEvent = Unit {0}
+Whole (readEvent is bs fit) = Unit {0}
 
 -- A REFUSED EVENT leaves the map as it was
 pub refused-leaves : {kind : Kind} (x : Event kind) (m : Stored) → Whole x → (happens x m .answer ≡ 0 → ⊥) → happens x m .left ≡ m
-refused-leaves {kind} (insert s e v) m w n = edit-unchanged kind m s e (some v) n
-refused-leaves {kind} (remove s e) m w n = edit-unchanged kind m s e none n
-refused-leaves (bulkInsert xs) m w n = absurd w
-refused-leaves clear m w n = absurd (n refl)
-refused-leaves (readBytes is bs fit) m w n = read-unchanged m bs n
+refused-leaves {kind} (insertEvent s e v) m w n = edit-unchanged kind m s e (some v) n
+refused-leaves {kind} (removeEvent s e) m w n = edit-unchanged kind m s e none n
+refused-leaves (bulkEvent xs) m w n = absurd w
+refused-leaves clearEvent m w n = absurd (n refl)
+refused-leaves (readEvent is bs fit) m w n = read-unchanged m bs n
 
 -- so it may as well not have happened
 pub refused-skipped : {kind : Kind} (x : Event kind) (xs : List (Event kind)) (m : Stored) → Whole x → (happens x m .answer ≡ 0 → ⊥)
@@ -201,6 +201,6 @@ refused-skipped x xs m w n = ap (afterEvents xs) (refused-leaves x m w n)
 
 -- A BULK INSERT leaves what its first entries leave, as many as it applied, each inserted and none refused
 pub bulk-leaves : {kind : Kind} → Lawful kind → {m : Stored} → Proper kind m → (xs : List Entry)
-    → edits kind m (map entryChange (take (bulkInsert kind m xs .told .applied) xs)) ≡ leaving done (happens {kind = kind} (bulkInsert xs) m .left)
+    → edits kind m (map entryChange (take (bulkInsert kind m xs .told .applied) xs)) ≡ leaving done (happens {kind = kind} (bulkEvent xs) m .left)
 unfolding bulkInsert
 bulk-leaves {kind} law {m} p xs = rw (proper-formed p) (bulk-singles kind law m xs (p .sound) (p .all-places))

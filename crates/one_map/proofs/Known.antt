@@ -34,6 +34,7 @@ use Rattle.one_map.specs.Events.{Proper, valueOf, valueAt}
 -- a lookup that tells a value answers 0, with that value
 pub some-found : (a : Found) {v : ℕ} → valueOf a ≡ some v → (Numbers.foundInC a .answer ≡ 0) × (Numbers.foundInC a .value ≡ v)
 some-found (Found.Range s e u) h = (refl, cc)
+some-found Found.Nothing h = absurd (never h)
 some-found (Found.Refused n) h = absurd (never h)
 
 -- the label at a place, and none past the last
@@ -83,17 +84,17 @@ module _ {kind : Kind} {m : Stored} (p : Proper kind m) where
   unfolding lookupSound
   value-at k = ap valueOf (lookup-found k) ∙ value-placed (firstPlace (holds (rank k)) (ranges kind m)) ∙ sym (first-at (rank k) (ranges kind m))
 
-  placed-none : (i : ℕ) → valueOf (rangeAtSound m i) ≡ none → rangeAtSound m i ≡ Found.Refused noneThere
+  placed-none : (i : ℕ) → valueOf (rangeAtSound m i) ≡ none → rangeAtSound m i ≡ Found.Nothing
   unfolding rangeAtSound
   placed-none i = go (ltb i (m .count))
     where
-      go : (t : Bool) → valueOf (cond t (Found.Range (getD (m .starts) i (pos 0)) (getD (m .ends) i (pos 0)) (getD (m .values) i 0)) (Found.Refused noneThere)) ≡ none
-          → cond t (Found.Range (getD (m .starts) i (pos 0)) (getD (m .ends) i (pos 0)) (getD (m .values) i 0)) (Found.Refused noneThere) ≡ Found.Refused noneThere
+      go : (t : Bool) → valueOf (cond t (Found.Range (getD (m .starts) i (pos 0)) (getD (m .ends) i (pos 0)) (getD (m .values) i 0)) Found.Nothing) ≡ none
+          → cond t (Found.Range (getD (m .starts) i (pos 0)) (getD (m .ends) i (pos 0)) (getD (m .values) i 0)) Found.Nothing ≡ Found.Nothing
       go true e = absurd (never (sym e))
       go false e = refl
 
   -- where nothing is held, the lookup answers 5
-  pub none-found : (k : ℤ) → valueAt kind m k ≡ none → lookup kind m k ≡ Found.Refused noneThere
+  pub none-found : (k : ℤ) → valueAt kind m k ≡ none → lookup kind m k ≡ Found.Nothing
   unfolding lookupSound
   none-found k e = lookup-found k ∙ placed-none (firstPlace (holds (rank k)) (ranges kind m)) (ap valueOf (sym (lookup-found k)) ∙ e)
 

@@ -16,7 +16,7 @@ use Rattle.byte_form.specs.Layout.{rm01}
 use Rattle.byte_form.specs.Form.{entriesOf, formOf, read, InMemory}
 use Rattle.byte_form.proofs.Lawful.{rm01-lawful}
 use Rattle.byte_form.proofs.Forms.{write-read, read-write}
-use Rattle.one_map.specs.Events.{Proper, Event, insert, remove, bulkInsert, clear, readBytes, afterEvents, entryChange, effect}
+use Rattle.one_map.specs.Events.{Proper, Event, insertEvent, removeEvent, bulkEvent, clearEvent, readEvent, afterEvents, entryChange, effect}
 use Rattle.one_map.specs.Events.{EntriesU8, ValuesU8, AllU8}
 use Rattle.one_map.proofs.Known.{proper-formed}
 use Rattle.one_map.proofs.OneMap.{clear-proper}
@@ -46,11 +46,11 @@ unfolding entriesOf
 memory-u8 {m} i = map-u8 (m .count) (m .starts) (m .ends) (m .values) (i .values-fit)
 
 event-u8 : {kind : Kind} (x : Event kind) (m : Stored) → ValuesU8 x → AllGive IsU8 (effect x m .made)
-event-u8 {kind} (insert s e v) m u = accepted-gives IsU8 (insert kind m s e v) _ (λ z. (u, tt))
-event-u8 {kind} (remove s e) m u = accepted-gives IsU8 (remove kind m s e) _ (λ z. (tt, tt))
-event-u8 {kind} (bulkInsert xs) m u = entries-u8 (bulkInsert kind m xs .told .applied) xs u
-event-u8 clear m u = tt
-event-u8 (readBytes is bs fit) m u = accepted-gives IsU8 (read rm01 m bs) _ (λ z. memory-u8 (read-write rm01-lawful m bs fit (read-done m bs z) .memory))
+event-u8 {kind} (insertEvent s e v) m u = accepted-gives IsU8 (insert kind m s e v) _ (λ z. (u, tt))
+event-u8 {kind} (removeEvent s e) m u = accepted-gives IsU8 (remove kind m s e) _ (λ z. (tt, tt))
+event-u8 {kind} (bulkEvent xs) m u = entries-u8 (bulkInsert kind m xs .told .applied) xs u
+event-u8 clearEvent m u = tt
+event-u8 (readEvent is bs fit) m u = accepted-gives IsU8 (read rm01 m bs) _ (λ z. memory-u8 (read-write rm01-lawful m bs fit (read-done m bs z) .memory))
 
 module _ {kind : Kind} (law : Lawful kind) where
   events-u8 : (xs : List (Event kind)) {m : Stored} → Proper kind m → AllU8 xs → Holds IsU8 kind m → Holds IsU8 kind (afterEvents xs m)

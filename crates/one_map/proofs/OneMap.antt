@@ -144,7 +144,7 @@ module _ {kind : Kind} (law : Lawful kind) where
   clear-holds k = value-at clear-proper k ∙ ap (λ (xs : List Span). at xs (rank k)) (ranges-cleared kind law)
 
   -- THE ONE MAP THAT HOLDS NOTHING: a well-formed map whose lookup answers 5 at every key is a new map
-  pub one-clear : {b : Stored} → Proper kind b → ((k : ℤ) → SFits w64 k → lookup kind b k ≡ Found.Refused noneThere) → b ≡ clear kind
+  pub one-clear : {b : Stored} → Proper kind b → ((k : ℤ) → SFits w64 k → lookup kind b k ≡ Found.Nothing) → b ≡ clear kind
   one-clear q told = same-lookups law q clear-proper (λ k fit. ap valueOf (told k fit) ∙ sym (clear-holds k))
 
 -- a well-formed map as memory holds it is proper

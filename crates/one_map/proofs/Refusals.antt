@@ -54,6 +54,7 @@ count-zero (Counted.Refused r) n = refl
 pub range-zero : (a : Found) → (Numbers.foundInC a .answer ≡ 0 → ⊥)
     → (Numbers.foundInC a .start ≡ pos 0) × (Numbers.foundInC a .end ≡ pos 0) × (Numbers.foundInC a .value ≡ 0)
 range-zero (Found.Range s e v) n = absurd (n refl)
+range-zero Found.Nothing n = (refl, refl, refl)
 range-zero (Found.Refused r) n = (refl, refl, refl)
 
 -- a part of the places

@@ -21,7 +21,7 @@ use Rattle.outcomes.proofs.Sets.{plain-ranges}
 use Rattle.set_ops.specs.Answers.{pairs, setInsert, setRemove, setBulkInsert, setLookup}
 use Rattle.set_ops.proofs.Laws.{plain-storing}
 use Rattle.one_map.specs.Events.{Proper, valueAt, happens, afterEvents, lastValue, entryChange, effect}
-use Rattle.one_map.specs.SetEvents.{SetEvent, setInsert, setRemove, setBulkInsert, setClear, setHappens, afterSetEvents, ofMap, setValueAt}
+use Rattle.one_map.specs.SetEvents.{SetEvent, setInsertEvent, setRemoveEvent, setBulkEvent, setClearEvent, setHappens, afterSetEvents, ofMap, setValueAt}
 use Rattle.one_map.proofs.OneMap.{clear-proper}
 use Rattle.one_map.proofs.Histories.{event-proper, last-value-held, same-histories}
 use Rattle.one_map.proofs.Values.{Gives, AllGive, Holds, event-values, accepted-gives, all-values}
@@ -48,18 +48,18 @@ pairs-zero (suc n) (s ∷ ss) (e ∷ es) = (refl, pairs-zero n ss es)
 
 -- an event of a set gives 0 or nothing
 event-zero : (kind : Kind) (x : SetEvent) (m : Stored) → AllGive IsZero (effect (ofMap kind x) m .made)
-event-zero kind (setInsert s e) m = accepted-gives IsZero (insert kind m s e 0) _ (λ z. (refl, tt))
-event-zero kind (setRemove s e) m = accepted-gives IsZero (remove kind m s e) _ (λ z. (tt, tt))
-event-zero kind (setBulkInsert ss es) m = pairs-zero (bulkInsert kind m (pairs ss es) .told .applied) ss es
-event-zero kind setClear m = tt
+event-zero kind (setInsertEvent s e) m = accepted-gives IsZero (insert kind m s e 0) _ (λ z. (refl, tt))
+event-zero kind (setRemoveEvent s e) m = accepted-gives IsZero (remove kind m s e) _ (λ z. (tt, tt))
+event-zero kind (setBulkEvent ss es) m = pairs-zero (bulkInsert kind m (pairs ss es) .told .applied) ss es
+event-zero kind setClearEvent m = tt
 
 -- of a set, what happens is what happens to the map
 pub set-as-map : (kind : Kind) (x : SetEvent) (m : Stored) → plain m ≡ true → setHappens kind x m ≡ happens (ofMap kind x) m
 unfolding setInsert setRemove setBulkInsert
-set-as-map kind (setInsert s e) m z = rw z
-set-as-map kind (setRemove s e) m z = rw z
-set-as-map kind (setBulkInsert ss es) m z = rw z
-set-as-map kind setClear m z = refl
+set-as-map kind (setInsertEvent s e) m z = rw z
+set-as-map kind (setRemoveEvent s e) m z = rw z
+set-as-map kind (setBulkEvent ss es) m z = rw z
+set-as-map kind setClearEvent m z = refl
 
 module _ {kind : Kind} (law : Lawful kind) where
   -- a new map is a set

@@ -28,6 +28,7 @@ pub record Proper (kind : Kind) (m : Stored) : Type 0 where
 -- what the answer of a lookup tells of its key: the value that is held there, or none
 abbrev pub valueOf : Found → Option ℕ
 valueOf (Found.Range s e v) = some v
+valueOf Found.Nothing = none
 valueOf (Found.Refused n) = none
 
 -- the value that a map holds at a key, as its lookup answers
@@ -40,11 +41,11 @@ inRange kind s e k = inside (rank s) (kind .past e) (rank k)
 
 -- AN EVENT: insert of a range and a value, remove of a range, bulk insert of a list, clear, and read of bytes, which half-open maps alone have
 pub data Event (kind : Kind) : Type 0 where
-  insert : ℤ → ℤ → ℕ → Event kind
-  remove : ℤ → ℤ → Event kind
-  bulkInsert : List Entry → Event kind
-  clear : Event kind
-  readBytes : kind ≡ halfOpen → (bs : List ℕ) → Bytes bs → Event kind
+  insertEvent : ℤ → ℤ → ℕ → Event kind
+  removeEvent : ℤ → ℤ → Event kind
+  bulkEvent : List Entry → Event kind
+  clearEvent : Event kind
+  readEvent : kind ≡ halfOpen → (bs : List ℕ) → Bytes bs → Event kind
 
 -- the values of a list's entries are u8
 abbrev pub EntriesU8 : List Entry → Type 0
@@ -53,11 +54,11 @@ EntriesU8 (x ∷ xs) = (x .value < 256) × EntriesU8 xs
 
 -- the values of an event are u8, as its function takes them
 abbrev pub ValuesU8 : {kind : Kind} → Event kind → Type 0
-ValuesU8 (insert s e v) = v < 256
-ValuesU8 (remove s e) = Unit {0}
-ValuesU8 (bulkInsert xs) = EntriesU8 xs
-ValuesU8 clear = Unit {0}
-ValuesU8 (readBytes is bs fit) = Unit {0}
+ValuesU8 (insertEvent s e v) = v < 256
+ValuesU8 (removeEvent s e) = Unit {0}
+ValuesU8 (bulkEvent xs) = EntriesU8 xs
+ValuesU8 clearEvent = Unit {0}
+ValuesU8 (readEvent is bs fit) = Unit {0}
 
 -- those of all events are
 abbrev pub AllU8 : {kind : Kind} → List (Event kind) → Type 0
@@ -66,11 +67,11 @@ AllU8 (x ∷ xs) = ValuesU8 x × AllU8 xs
 
 -- what an event answers, and the map that it leaves, accepted or refused
 abbrev pub happens : {kind : Kind} → Event kind → Stored → Edited
-happens {kind} (insert s e v) m = insert kind m s e v
-happens {kind} (remove s e) m = remove kind m s e
-happens {kind} (bulkInsert xs) m = leaving (bulkInsert kind m xs .told .answer) (bulkInsert kind m xs .left)
-happens {kind} clear m = leaving done (clear kind)
-happens {kind} (readBytes is bs fit) m = read rm01 m bs
+happens {kind} (insertEvent s e v) m = insert kind m s e v
+happens {kind} (removeEvent s e) m = remove kind m s e
+happens {kind} (bulkEvent xs) m = leaving (bulkInsert kind m xs .told .answer) (bulkInsert kind m xs .left)
+happens {kind} clearEvent m = leaving done (clear kind)
+happens {kind} (readEvent is bs fit) m = read rm01 m bs
 
 -- the map after some events
 unfoldable pub afterEvents : {kind : Kind} → List (Event kind) → Stored → Stored
@@ -100,11 +101,11 @@ entryChange x = record { start = x .start; end = x .end; new = some (x .value) }
 
 -- WHAT AN EVENT DID. Of a bulk insert the entries that were applied stay, refused or not; a read puts the ranges in its bytes in place of all that was held
 abbrev pub effect : {kind : Kind} → Event kind → Stored → Effect
-effect {kind} (insert s e v) m = ifAccepted (insert kind m s e v) (changed (record { start = s; end = e; new = some v } ∷ []))
-effect {kind} (remove s e) m = ifAccepted (remove kind m s e) (changed (record { start = s; end = e; new = none } ∷ []))
-effect {kind} (bulkInsert xs) m = changed (map entryChange (take (bulkInsert kind m xs .told .applied) xs))
-effect {kind} clear m = anew []
-effect {kind} (readBytes is bs fit) m = ifAccepted (read rm01 m bs) (anew (map entryChange (entriesOf (mapIn rm01 bs))))
+effect {kind} (insertEvent s e v) m = ifAccepted (insert kind m s e v) (changed (record { start = s; end = e; new = some v } ∷ []))
+effect {kind} (removeEvent s e) m = ifAccepted (remove kind m s e) (changed (record { start = s; end = e; new = none } ∷ []))
+effect {kind} (bulkEvent xs) m = changed (map entryChange (take (bulkInsert kind m xs .told .applied) xs))
+effect {kind} clearEvent m = anew []
+effect {kind} (readEvent is bs fit) m = ifAccepted (read rm01 m bs) (anew (map entryChange (entriesOf (mapIn rm01 bs))))
 
 -- what an effect leaves at a key where old was held: what the last change over the key gives, or else old, unless all that was held is gone
 unfoldable pub leftAt : Kind → Effect → ℤ → Option ℕ → Option ℕ

@@ -201,17 +201,17 @@ pub fn combine_unchecked(
 }
 
 // Any two sets are taken.
-pub fn combine<'a, 'b>(
+pub fn combine(
     kind: RangeKind,
     operation: Operation,
-    count_a: &'a usize,
-    starts_a: &'a [i64; PLACES],
-    ends_a: &'a [i64; PLACES],
-    values_a: &'a [Value; PLACES],
-    count_b: &'b usize,
-    starts_b: &'b [i64; PLACES],
-    ends_b: &'b [i64; PLACES],
-    values_b: &'b [Value; PLACES],
+    count_a: &usize,
+    starts_a: &[i64; PLACES],
+    ends_a: &[i64; PLACES],
+    values_a: &[Value; PLACES],
+    count_b: &usize,
+    starts_b: &[i64; PLACES],
+    ends_b: &[i64; PLACES],
+    values_b: &[Value; PLACES],
     out_starts: &mut [i64],
     out_ends: &mut [i64],
 ) -> Counted

@@ -257,8 +257,39 @@ fn show_list(a: Map, b: Map, start: i64, end: i64, bytes: &[u8]) {
     );
 }
 
-fn at(a: Map, b: Map, start: i64, end: i64, bytes: &[u8], key: i64) -> Told {
+// The fields of a local are lent at one lifetime: the borrow checker does not cover two at once.
+fn told_at<'a, 'b>(
+    count_a: &'a usize,
+    starts_a: &'a [i64; PLACES],
+    ends_a: &'a [i64; PLACES],
+    values_a: &'a [u8; PLACES],
+    count_b: &'b usize,
+    starts_b: &'b [i64; PLACES],
+    ends_b: &'b [i64; PLACES],
+    values_b: &'b [u8; PLACES],
+    start: i64,
+    end: i64,
+    bytes: &[u8],
+    key: i64,
+) -> Told {
     told_of(query::instant::query_at(
+        count_a,
+        starts_a,
+        ends_a,
+        values_a,
+        count_b,
+        starts_b,
+        ends_b,
+        values_b,
+        start,
+        end,
+        bytes,
+        key,
+    ))
+}
+
+fn at(a: Map, b: Map, start: i64, end: i64, bytes: &[u8], key: i64) -> Told {
+    told_at(
         &a.count,
         &a.starts,
         &a.ends,
@@ -271,7 +302,7 @@ fn at(a: Map, b: Map, start: i64, end: i64, bytes: &[u8], key: i64) -> Told {
         end,
         bytes,
         key,
-    ))
+    )
 }
 
 fn show_at(a: Map, b: Map, start: i64, end: i64, bytes: &[u8], key: i64) {

@@ -72,8 +72,22 @@ fn november(count: usize, status: u8) -> Map {
     }
 }
 
+// The fields of a local are lent at one lifetime: the borrow checker does not cover two at once.
+fn report_on<'a>(
+    count: &'a usize,
+    starts: &'a [i64; PLACES],
+    ends: &'a [i64; PLACES],
+    values: &'a [u8; PLACES],
+    zone: u8,
+    year: u16,
+    month: u8,
+    day: u8,
+) -> DayReport {
+    report::day_report(count, starts, ends, values, zone, year, month, day)
+}
+
 fn report_of(m: Map, zone: u8, year: u16, month: u8, day: u8) -> DayReport {
-    report::day_report(
+    report_on(
         &m.count,
         &m.starts,
         &m.ends,
