@@ -108,22 +108,22 @@ unfolding all
 no-gap-inclusive = refl
 
 -- insert and remove: a panic. 4..4, 9..4, 9..=4
-insert-panics : map-insert 4 4 1 [] ≡ none
+insert-empty-panics : map-insert 4 4 1 [] ≡ none
 unfolding all
-insert-panics = refl
+insert-empty-panics = refl
 
-remove-panics : map-remove 9 4 [] ≡ none
+remove-reversed-panics : map-remove 9 4 [] ≡ none
 unfolding all
-remove-panics = refl
+remove-reversed-panics = refl
 
-inclusive-insert-panics : inclusive-insert add-one-checked sub-one-checked 9 4 1 [] ≡ none
+inclusive-reversed-panics : inclusive-insert add-one-checked sub-one-checked 9 4 1 [] ≡ none
 unfolding all
-inclusive-insert-panics = refl
+inclusive-reversed-panics = refl
 
 -- bulk insert with a third entry 4..4: extend panics, and the first two alone are kept; the ledger answers 1, two applied
-extend-panics : map-extend (span 0 1 1 ∷ span 2 3 1 ∷ span 4 4 1 ∷ []) [] ≡ none
+third-entry-panics : map-extend (span 0 1 1 ∷ span 2 3 1 ∷ span 4 4 1 ∷ []) [] ≡ none
 unfolding all
-extend-panics = refl
+third-entry-panics = refl
 
 extend-two : map-extend (span 0 1 1 ∷ span 2 3 1 ∷ []) [] ≡ some (span 0 1 1 ∷ span 2 3 1 ∷ [])
 unfolding all

@@ -31,8 +31,10 @@ use Rattle.outcomes.specs.declared.Part.the-variants as Part
 use Rattle.outcomes.proofs.Bulk.{single}
 use Rattle.rust_algorithm.specs.Btree.{filtered}
 use Rattle.rust_algorithm.specs.Map.{ranges-overlap}
+use Rattle.rust_algorithm.specs.InclusiveMap.{inclusive-range-contains, inclusive-ranges-overlap}
 use Rattle.rust_algorithm.specs.Answers.{Functions, editedBy}
 use Rattle.rust_algorithm.specs.Equal.{LentMap, entrySpans}
+use Rattle.rust_algorithm.proofs.InclusiveEdits.{leb-ltb}
 use Rattle.rust_algorithm.proofs.Same.{Kept, Transcribed}
 use Rattle.rust_algorithm.proofs.Equal.{kept, well, ends-by, edit-equal, edited-is, left, extend-changes}
 
@@ -44,6 +46,14 @@ contains-says-no lo hi k h = in-no lo hi k (omega arith)
 pub overlaps-says-no : (a b c d : ℕ) → b ≤ a → ranges-overlap a b c d ≡ false
 unfolding ranges-overlap
 overlaps-says-no a b c d h = le-ltb (max a c) (min b d) (omega arith)
+
+pub inclusive-contains-says-no : (lo last k : ℕ) → last < lo → inclusive-range-contains lo last k ≡ false
+unfolding inclusive-range-contains inside
+inclusive-contains-says-no lo last k h = rw (leb-ltb k last (suc last) refl) (in-no lo (suc last) k (omega arith))
+
+pub inclusive-overlaps-says-no : (a b c d : ℕ) → b < a → inclusive-ranges-overlap a b c d ≡ false
+unfolding inclusive-ranges-overlap
+inclusive-overlaps-says-no a b c d h = lt-leb (max a c) (min b d) (omega arith)
 
 -- an empty or reversed range
 module _ (kind : Kind) (s e : ℤ) (empty : kind .past e ≤ rank s) where
