@@ -8,7 +8,7 @@ use mathlib.Core.Option.{Option, some, none}
 use lib.Dec.{ltb}
 use lib.ListN.{length, take}
 use lib.IntN.{ℤ}
-use Rattle.answers.specs.Answers.{done, emptyRange, tooMany, notFormed}
+use Rattle.answers.specs.Answers.{done, emptyRange, tooMany}
 use Rattle.span.specs.Span.{Span, given}
 use Rattle.key.specs.Rank.{rank}
 use Rattle.key.specs.Range.{Kind, halfOpen, spanOf, empty}
@@ -27,6 +27,7 @@ use Rattle.one_map.specs.SetEvents.{SetEvent, setInsertEvent, setRemoveEvent, s
 use Rattle.one_map.proofs.OneMap.{unchecked-same}
 use Rattle.one_map.proofs.Histories.{event-proper, event-holds}
 use Rattle.one_map.proofs.Refusals.{edit-unchanged}
+use Rattle.one_map.proofs.SetRefusals.{set-insert-unchanged, set-remove-unchanged}
 use Rattle.one_map.proofs.SetHistories.{set-as-map, set-stays}
 use Rattle.theorems.specs.Calls.{ifDone, gave}
 
@@ -137,17 +138,9 @@ module _ (kind : Kind) (m : Stored) (s e : ℤ) where
   either-refused new (inl q) n = refused-same (edit-unchanged kind m s e new) q n
   either-refused new (inr q) n = refused-same (sound-unchanged new) q n
 
-  -- a set that is checked first
-  set-unchanged : (t : Bool) {o : Edited} → ((o .answer ≡ 0 → ⊥) → o .left ≡ m)
-      → (cond t o (leaving notFormed m) .answer ≡ 0 → ⊥) → cond t o (leaving notFormed m) .left ≡ m
-  set-unchanged true kept n = kept n
-  set-unchanged false kept n = refl
-
   -- insert and remove of a set
   pub set-insert-refused : {r : ℕ} {m′ : Stored} → leaving r m′ ≡ setInsert kind m s e → (r ≡ done → ⊥) → m′ ≡ m
-  unfolding setInsert
-  set-insert-refused q n = refused-same (set-unchanged (plain m) (edit-unchanged kind m s e (some 0))) q n
+  set-insert-refused q n = refused-same (set-insert-unchanged kind m s e) q n
 
   pub set-remove-refused : {r : ℕ} {m′ : Stored} → leaving r m′ ≡ setRemove kind m s e → (r ≡ done → ⊥) → m′ ≡ m
-  unfolding setRemove
-  set-remove-refused q n = refused-same (set-unchanged (plain m) (edit-unchanged kind m s e none)) q n
+  set-remove-refused q n = refused-same (set-remove-unchanged kind m s e) q n
