@@ -26,7 +26,7 @@ use Rattle.theorems.specs.Inputs.{CallInputs}
 use Rattle.theorems.proofs.Steps.{either-door}
 use Rattle.theorems.proofs.Bytes.{write-then-read}
 
--- the event of a call, and what the call answered
+-- the event of a call
 abbrev pub eventOf : Call → Event halfOpen
 eventOf (insertCall s e v r) = insertEvent s e v
 eventOf (removeCall s e r) = removeEvent s e
@@ -34,6 +34,7 @@ eventOf (extendCall ss es vs t) = bulkEvent (entries ss es vs)
 eventOf clearCall = clearEvent
 eventOf (readCall bs fit r) = readEvent refl bs fit
 
+-- what a call answered
 abbrev pub answerOf : Call → ℕ
 answerOf (insertCall s e v r) = r
 answerOf (removeCall s e r) = r

@@ -101,7 +101,7 @@ of-map : {kind : Kind} {did : Effect} {m m′ : Stored} → Step kind did m m′
 of-map t = (t .proper, t)
 
 -- A SET keeps two things, and a step of it
-abbrev GoodSet : Kind → Stored → Type 0
+abbrev pub GoodSet : Kind → Stored → Type 0
 GoodSet kind m = Proper kind m × (plain m ≡ true)
 
 of-set : {kind : Kind} {did : Effect} {m m′ : Stored} → SetStep kind did m m′ → GoodSet kind m′ × Step kind did m m′
@@ -260,3 +260,19 @@ range-inclusive-set-refused (setInsertCall s e r) m m′ q n = OneInclusiveSet.h
 range-inclusive-set-refused (setRemoveCall s e r) m m′ q n = OneInclusiveSet.held-one (set-remove-refused inclusive (InclusiveSet.held m) s e q n)
 range-inclusive-set-refused (setExtendCall ss es t) m m′ q n = absurd n
 range-inclusive-set-refused setClearCall m m′ q n = absurd n
+
+-- THE STRUCT that stores a map: a half-open map
+abbrev pub range-map-of : Stored → RangeMap
+range-map-of x = record { count = x .count; starts = x .starts; ends = x .ends; values = x .values }
+
+-- an inclusive map
+abbrev pub range-inclusive-map-of : Stored → RangeInclusiveMap
+range-inclusive-map-of x = record { count = x .count; starts = x .starts; ends = x .ends; values = x .values }
+
+-- a set of half-open ranges
+abbrev pub range-set-of : Stored → RangeSet
+range-set-of x = record { count = x .count; starts = x .starts; ends = x .ends; values = x .values }
+
+-- a set of inclusive ranges
+abbrev pub range-inclusive-set-of : Stored → RangeInclusiveSet
+range-inclusive-set-of x = record { count = x .count; starts = x .starts; ends = x .ends; values = x .values }

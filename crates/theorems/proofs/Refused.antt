@@ -75,6 +75,7 @@ pub record ListsKept (r : Count) (starts starts′ ends ends′ : List ℤ) : Ty
   pub refused : Refuses (r .answer) → (r .count ≡ 0) × (starts′ ≡ starts) × (ends′ ≡ ends)
   pub past : (k : ℕ) → r .count ≤ k → (getD starts′ k (pos 0) ≡ getD starts k (pos 0)) × (getD ends′ k (pos 0) ≡ getD ends k (pos 0))
 
+-- where the definition keeps them, the promise does
 pub lists-kept : (w : Written) (r : Count) (starts starts′ ends ends′ : List ℤ) → Kept w starts ends → Listed r starts′ ends′ w
     → ListsKept r starts starts′ ends ends′
 lists-kept w r starts starts′ ends ends′ kept q =
@@ -88,6 +89,7 @@ pub record OutputKept (r : Count) (out out′ : List ℕ) : Type 0 where
   pub refused : Refuses (r .answer) → (r .count ≡ 0) × (out′ ≡ out)
   pub past : (k : ℕ) → r .count ≤ k → getD out′ k 0 ≡ getD out k 0
 
+-- where the definition keeps them, the promise does
 pub output-kept : (w : Output) (r : Count) (out out′ : List ℕ) → BytesKept w out → Wrote r out′ w → OutputKept r out out′
 output-kept w r out out′ kept q =
     rw (q .number, q .out-is) (record { refused = λ n. (count-zero (w .answer) n, kept .refused n); past = kept .past })

@@ -41,11 +41,12 @@ module _ {kind : Kind} (law : Lawful kind) {m m′ : Stored} (p : Proper kind m)
   event-step : (x : Event kind) → m′ ≡ happens x m .left → Step kind (effect x m) m m′
   event-step x q = subst (Step kind (effect x m) m) (sym q) (record { proper = event-proper law x p; holds = event-holds law x p })
 
-  -- insert and remove
+  -- insert
   pub insert-step : (s e : ℤ) (v : ℕ) {r : ℕ} → leaving r m′ ≡ edit kind m s e (some v) → Step kind (ifDone r (gave s e (some v))) m m′
   insert-step s e v q =
       subst (λ (o : Edited). Step kind (ifAccepted o (gave s e (some v))) m m′) (sym q) (event-step (insertEvent s e v) (ap (λ (o : Edited). o .left) q))
 
+  -- remove
   pub remove-step : (s e : ℤ) {r : ℕ} → leaving r m′ ≡ edit kind m s e none → Step kind (ifDone r (gave s e none)) m m′
   remove-step s e q =
       subst (λ (o : Edited). Step kind (ifAccepted o (gave s e none)) m m′) (sym q) (event-step (removeEvent s e) (ap (λ (o : Edited). o .left) q))
@@ -79,7 +80,7 @@ pub record SetStep (kind : Kind) (did : Effect) (m m′ : Stored) : Type 0 where
   pub set-again : plain m′ ≡ true
 
 -- bulk insert of a set is that of the map
-as-bulk : (kind : Kind) (m : Stored) (xs : List Entry) → plain m ≡ true → setBulkInsert kind m xs ≡ bulkInsert kind m xs
+pub as-bulk : (kind : Kind) (m : Stored) (xs : List Entry) → plain m ≡ true → setBulkInsert kind m xs ≡ bulkInsert kind m xs
 unfolding setBulkInsert
 as-bulk kind m xs z = rw z
 
@@ -88,13 +89,14 @@ module _ {kind : Kind} (law : Lawful kind) {m m′ : Stored} (p : Proper kind m)
   set-left : (x : SetEvent) → m′ ≡ setHappens kind x m .left → plain m′ ≡ true
   set-left x q = ap plain (q ∙ ap (λ (o : Edited). o .left) (set-as-map kind x m z)) ∙ set-stays law x p z
 
-  -- insert and remove
+  -- insert
   pub set-insert-step : (s e : ℤ) {r : ℕ} → leaving r m′ ≡ setInsert kind m s e → SetStep kind (ifDone r (gave s e (some 0))) m m′
   set-insert-step s e q = record {
     as-map = insert-step law p s e 0 (q ∙ set-as-map kind (setInsertEvent s e) m z);
     set-again = set-left (setInsertEvent s e) (ap (λ (o : Edited). o .left) q);
   }
 
+  -- remove
   pub set-remove-step : (s e : ℤ) {r : ℕ} → leaving r m′ ≡ setRemove kind m s e → SetStep kind (ifDone r (gave s e none)) m m′
   set-remove-step s e q = record {
     as-map = remove-step law p s e (q ∙ set-as-map kind (setRemoveEvent s e) m z);
@@ -138,9 +140,10 @@ module _ (kind : Kind) (m : Stored) (s e : ℤ) where
   either-refused new (inl q) n = refused-same (edit-unchanged kind m s e new) q n
   either-refused new (inr q) n = refused-same (sound-unchanged new) q n
 
-  -- insert and remove of a set
+  -- insert of a set
   pub set-insert-refused : {r : ℕ} {m′ : Stored} → leaving r m′ ≡ setInsert kind m s e → (r ≡ done → ⊥) → m′ ≡ m
   set-insert-refused q n = refused-same (set-insert-unchanged kind m s e) q n
 
+  -- remove of a set
   pub set-remove-refused : {r : ℕ} {m′ : Stored} → leaving r m′ ≡ setRemove kind m s e → (r ≡ done → ⊥) → m′ ≡ m
   set-remove-refused q n = refused-same (set-remove-unchanged kind m s e) q n

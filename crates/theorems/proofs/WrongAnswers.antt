@@ -56,6 +56,7 @@ use Rattle.query.specs.Result.{result, isTrue}
 use Rattle.query.specs.Answers.{queryRangesSound, queryAtSound, queryRanges, queryAt}
 use Rattle.query.proofs.QueryCases.{Reply}
 use Rattle.map_query.specs.Promises.{RangeMapQuery, RangeMapQueryAt}
+use Rattle.theorems.proofs.Histories.{range-map-of, range-inclusive-map-of, range-set-of, range-inclusive-set-of}
 use Rattle.theorems.specs.Inputs.{RangeInput, DateInput, BytesInput, QueryInput, ListsInput}
 
 -- `unfolding of-maps` and `unfolding of-queries` open every definition that a case computes with
@@ -145,11 +146,7 @@ inclusive-set-remove : Tried (setRemove inclusive) (one inclusive)
 unfolding of-maps
 inclusive-set-remove = record { memory = one-memory inclusive-too; taken = refl; reversed = refl; other = λ h. omega arith }
 
--- THE HALF-OPEN MAP: the struct that stores a map
-abbrev range-map-of : Stored → RangeMap
-range-map-of m = record { count = m .count; starts = m .starts; ends = m .ends; values = m .values }
-
--- a function meets its insert's promise: the map that it leaves, and its answer
+-- THE HALF-OPEN MAP: a function meets its insert's promise: the map that it leaves, and its answer
 abbrev pub RangeMapInserter : (RangeMap → ℤ → ℤ → ℕ → RangeMap × ℕ) → Type 0
 RangeMapInserter f = (m : RangeMap) (start end : ℤ) (value : ℕ) → RangeInput (Map.held m) start end → value < 256
     → RangeMapInsert m (f m start end value .0) start end value (f m start end value .1)
@@ -173,22 +170,19 @@ range-map-insert-not-untouched f meets untouched =
     not-untouched Map.held (λ m s e. insert halfOpen m s e 0) (range-map-of (clear halfOpen)) half-open-insert
     (λ m s e. f m s e 0) (λ m s e i. meets m s e 0 i (omega arith)) (λ m s e i. untouched m s e 0 i (omega arith))
 
--- nor does REMOVE
+-- REMOVE does not always answer one number
 pub range-map-remove-not-always : (f : RangeMap → ℤ → ℤ → RangeMap × ℕ) → RangeMapRemover f → (n : ℕ)
     → ((m : RangeMap) (start end : ℤ) → RangeInput (Map.held m) start end → f m start end .1 ≡ n) → ⊥
 range-map-remove-not-always f meets n always =
     not-always Map.held (remove halfOpen) (range-map-of (one halfOpen)) half-open-remove f meets n always
 
+-- nor leave every map as it was
 pub range-map-remove-not-untouched : (f : RangeMap → ℤ → ℤ → RangeMap × ℕ) → RangeMapRemover f
     → ((m : RangeMap) (start end : ℤ) → RangeInput (Map.held m) start end → f m start end .0 ≡ m) → ⊥
 range-map-remove-not-untouched f meets untouched =
     not-untouched Map.held (remove halfOpen) (range-map-of (one halfOpen)) half-open-remove f meets untouched
 
--- THE INCLUSIVE MAP: the struct that stores a map
-abbrev range-inclusive-map-of : Stored → RangeInclusiveMap
-range-inclusive-map-of m = record { count = m .count; starts = m .starts; ends = m .ends; values = m .values }
-
--- a function meets its insert's promise: the map that it leaves, and its answer
+-- THE INCLUSIVE MAP: a function meets its insert's promise: the map that it leaves, and its answer
 abbrev pub RangeInclusiveMapInserter : (RangeInclusiveMap → ℤ → ℤ → ℕ → RangeInclusiveMap × ℕ) → Type 0
 RangeInclusiveMapInserter f = (m : RangeInclusiveMap) (start end : ℤ) (value : ℕ) → RangeInput (InclusiveMap.held m) start end → value < 256
     → RangeInclusiveMapInsert m (f m start end value .0) start end value (f m start end value .1)
@@ -212,22 +206,19 @@ range-inclusive-map-insert-not-untouched f meets untouched =
     not-untouched InclusiveMap.held (λ m s e. insert inclusive m s e 0) (range-inclusive-map-of (clear inclusive)) inclusive-insert
     (λ m s e. f m s e 0) (λ m s e i. meets m s e 0 i (omega arith)) (λ m s e i. untouched m s e 0 i (omega arith))
 
--- nor does REMOVE
+-- REMOVE does not always answer one number
 pub range-inclusive-map-remove-not-always : (f : RangeInclusiveMap → ℤ → ℤ → RangeInclusiveMap × ℕ) → RangeInclusiveMapRemover f → (n : ℕ)
     → ((m : RangeInclusiveMap) (start end : ℤ) → RangeInput (InclusiveMap.held m) start end → f m start end .1 ≡ n) → ⊥
 range-inclusive-map-remove-not-always f meets n always =
     not-always InclusiveMap.held (remove inclusive) (range-inclusive-map-of (one inclusive)) inclusive-remove f meets n always
 
+-- nor leave every map as it was
 pub range-inclusive-map-remove-not-untouched : (f : RangeInclusiveMap → ℤ → ℤ → RangeInclusiveMap × ℕ) → RangeInclusiveMapRemover f
     → ((m : RangeInclusiveMap) (start end : ℤ) → RangeInput (InclusiveMap.held m) start end → f m start end .0 ≡ m) → ⊥
 range-inclusive-map-remove-not-untouched f meets untouched =
     not-untouched InclusiveMap.held (remove inclusive) (range-inclusive-map-of (one inclusive)) inclusive-remove f meets untouched
 
--- THE SET OF HALF-OPEN RANGES: the struct that stores a map
-abbrev range-set-of : Stored → RangeSet
-range-set-of m = record { count = m .count; starts = m .starts; ends = m .ends; values = m .values }
-
--- a function meets its insert's promise: the set that it leaves, and its answer
+-- THE SET OF HALF-OPEN RANGES: a function meets its insert's promise: the set that it leaves, and its answer
 abbrev pub RangeSetInserter : (RangeSet → ℤ → ℤ → RangeSet × ℕ) → Type 0
 RangeSetInserter f = (m : RangeSet) (start end : ℤ) → RangeInput (Set.held m) start end
     → RangeSetInsert m (f m start end .0) start end (f m start end .1)
@@ -249,22 +240,19 @@ pub range-set-insert-not-untouched : (f : RangeSet → ℤ → ℤ → RangeSet 
 range-set-insert-not-untouched f meets untouched =
     not-untouched Set.held (setInsert halfOpen) (range-set-of (clear halfOpen)) half-open-set-insert f meets untouched
 
--- nor does REMOVE
+-- REMOVE does not always answer one number
 pub range-set-remove-not-always : (f : RangeSet → ℤ → ℤ → RangeSet × ℕ) → RangeSetRemover f → (n : ℕ)
     → ((m : RangeSet) (start end : ℤ) → RangeInput (Set.held m) start end → f m start end .1 ≡ n) → ⊥
 range-set-remove-not-always f meets n always =
     not-always Set.held (setRemove halfOpen) (range-set-of (one halfOpen)) half-open-set-remove f meets n always
 
+-- nor leave every set as it was
 pub range-set-remove-not-untouched : (f : RangeSet → ℤ → ℤ → RangeSet × ℕ) → RangeSetRemover f
     → ((m : RangeSet) (start end : ℤ) → RangeInput (Set.held m) start end → f m start end .0 ≡ m) → ⊥
 range-set-remove-not-untouched f meets untouched =
     not-untouched Set.held (setRemove halfOpen) (range-set-of (one halfOpen)) half-open-set-remove f meets untouched
 
--- THE SET OF INCLUSIVE RANGES: the struct that stores a map
-abbrev range-inclusive-set-of : Stored → RangeInclusiveSet
-range-inclusive-set-of m = record { count = m .count; starts = m .starts; ends = m .ends; values = m .values }
-
--- a function meets its insert's promise: the set that it leaves, and its answer
+-- THE SET OF INCLUSIVE RANGES: a function meets its insert's promise: the set that it leaves, and its answer
 abbrev pub RangeInclusiveSetInserter : (RangeInclusiveSet → ℤ → ℤ → RangeInclusiveSet × ℕ) → Type 0
 RangeInclusiveSetInserter f = (m : RangeInclusiveSet) (start end : ℤ) → RangeInput (InclusiveSet.held m) start end
     → RangeInclusiveSetInsert m (f m start end .0) start end (f m start end .1)
@@ -286,12 +274,13 @@ pub range-inclusive-set-insert-not-untouched : (f : RangeInclusiveSet → ℤ �
 range-inclusive-set-insert-not-untouched f meets untouched =
     not-untouched InclusiveSet.held (setInsert inclusive) (range-inclusive-set-of (clear inclusive)) inclusive-set-insert f meets untouched
 
--- nor does REMOVE
+-- REMOVE does not always answer one number
 pub range-inclusive-set-remove-not-always : (f : RangeInclusiveSet → ℤ → ℤ → RangeInclusiveSet × ℕ) → RangeInclusiveSetRemover f → (n : ℕ)
     → ((m : RangeInclusiveSet) (start end : ℤ) → RangeInput (InclusiveSet.held m) start end → f m start end .1 ≡ n) → ⊥
 range-inclusive-set-remove-not-always f meets n always =
     not-always InclusiveSet.held (setRemove inclusive) (range-inclusive-set-of (one inclusive)) inclusive-set-remove f meets n always
 
+-- nor leave every set as it was
 pub range-inclusive-set-remove-not-untouched : (f : RangeInclusiveSet → ℤ → ℤ → RangeInclusiveSet × ℕ) → RangeInclusiveSetRemover f
     → ((m : RangeInclusiveSet) (start end : ℤ) → RangeInput (InclusiveSet.held m) start end → f m start end .0 ≡ m) → ⊥
 range-inclusive-set-remove-not-untouched f meets untouched =
