@@ -149,5 +149,5 @@ pub range-inclusive-set-extend-inserts : (m m′ : RangeInclusiveSet) (starts en
     → RangeInclusiveSetExtend m m′ starts ends t → Calls RangeInclusiveSetCall (map setInsertOf (take (t .applied) (pairs starts ends))) m m′
 range-inclusive-set-extend-inserts m m′ starts ends t (p, z) q =
     bulk-called inclusive-too InclusiveSet.held range-inclusive-set-of (λ x. refl) (λ a b e. OneInclusiveSet.held-one e) RangeInclusiveSetCall setInsertOf
-    IsZero (GoodSet inclusive) (λ x m. set-inserted inclusive-too x (InclusiveSet.held m)) (pairs starts ends) m m′ t (pairs-zero (t .applied) starts ends) (p, z) p
-    (q ∙ as-bulk inclusive (InclusiveSet.held m) (pairs starts ends) z)
+    IsZero (GoodSet inclusive) (λ x m. set-inserted inclusive-too x (InclusiveSet.held m)) (pairs starts ends) m m′ t (pairs-zero (t .applied) starts ends)
+    (p, z) p (q ∙ as-bulk inclusive (InclusiveSet.held m) (pairs starts ends) z)
