@@ -1,12 +1,12 @@
--- `splice::put_i64` meets its contract.
+-- `splice::put_keys` meets its contract.
 use native.Mathlib.Omega.{arith}
 use lib.ListN.{length-set}
 use mathlib.Core.Path.{_≡_}
 use native.Mathlib.Numerals.{add-one, add-two}
 use mir.Facts.{toZ-ofZ}
 use borrow.Author.Needs.{needs}
-use Rattle.splice.proofs.put_i64.Statement.{statement}
-use Rattle.splice.proofs.put_i64.Tie as tie
+use Rattle.splice.proofs.put_keys.Statement.{statement}
+use Rattle.splice.proofs.put_keys.Tie as tie
 
 returns : tie.Need-returns
 returns c = search needs
@@ -59,8 +59,8 @@ returns-4 c =
     let e : entry .args .k ≡ 3 = omega arith in
     rw (e, toZ-ofZ (f .x), toZ-ofZ (f .y), toZ-ofZ (f .z), add-one, add-two)
 
-pub put-i64-spec : {M : Type 1} → statement M
-put-i64-spec =
+pub put-keys-spec : {M : Type 1} → statement M
+put-keys-spec =
     tie.close
     (tie.spec
     returns

@@ -1,4 +1,4 @@
--- `splice::splice_i64` meets its contract.
+-- `splice::splice_keys` meets its contract.
 use mathlib.Core.List.{List, [], _∷_}
 use native.Mathlib.Omega.{arith}
 use lib.IntN.{ℤ, pos}
@@ -7,20 +7,20 @@ use lib.Seq.{length-take-le}
 use mir.Facts.{toZ-ofZ}
 use Rattle.splice.proofs.Sets.{splice-done}
 use borrow.Author.Needs.{needs}
-use Rattle.splice.proofs.splice_i64.Statement.{statement}
-use Rattle.splice.proofs.splice_i64.Tie as tie
+use Rattle.splice.proofs.splice_keys.Statement.{statement}
+use Rattle.splice.proofs.splice_keys.Tie as tie
 
 -- the ladder, from the end down: after the clear, after the put, after the move, at the entry
-abbrev cleared : tie.After-a3 → tie.After-clear-i64
+abbrev cleared : tie.After-a3 → tie.After-clear-keys
 cleared c = c .before
 
-abbrev stored : tie.After-clear-i64 → tie.After-put-i64
+abbrev stored : tie.After-clear-keys → tie.After-put-keys
 stored c = c .before .before .before
 
-abbrev moved : tie.After-put-i64 → tie.After-move-i64
+abbrev moved : tie.After-put-keys → tie.After-move-keys
 moved c = c .before .before .before
 
-abbrev entry : tie.After-move-i64 → tie.Start
+abbrev entry : tie.After-move-keys → tie.Start
 entry c = c .before .before
 
 add-next : tie.Need-add-next
@@ -29,17 +29,17 @@ add-next c = search needs
 sub-rest : tie.Need-sub-rest
 sub-rest c = search needs
 
-move-i64-requires : tie.Need-move-i64-requires
-move-i64-requires c κs = search needs
+move-keys-requires : tie.Need-move-keys-requires
+move-keys-requires c κs = search needs
 
-put-i64-requires : tie.Need-put-i64-requires
-put-i64-requires c κs = search needs
+put-keys-requires : tie.Need-put-keys-requires
+put-keys-requires c κs = search needs
 
-add-clear-i64 : tie.Need-add-clear-i64
-add-clear-i64 c = search needs
+add-clear-keys : tie.Need-add-clear-keys
+add-clear-keys c = search needs
 
-clear-i64-requires : tie.Need-clear-i64-requires
-clear-i64-requires c κs = search needs
+clear-keys-requires : tie.Need-clear-keys-requires
+clear-keys-requires c κs = search needs
 
 same-length : tie.Need-same-length
 same-length c = search needs
@@ -57,19 +57,19 @@ returns c =
     let k = length-take-le (q .n) vs (apt .few) in
     splice-done (g .a .now) (q .from) (q .to) (g .count) (take (q .n) vs) (pos 0) (apt .ascending) (apt .within)
     (s .pre .1 .held) (omega (arith, s .pre .1 .room)) (s .pre .2) (q .n) k
-    (m .move-i64 .ensures)
-    (rw (toZ-ofZ (s .fits .x), toZ-ofZ (s .fits .y), toZ-ofZ (s .fits .z)) at (p .put-i64 .ensures))
-    (e .clear-i64 .ensures)
+    (m .move-keys .ensures)
+    (rw (toZ-ofZ (s .fits .x), toZ-ofZ (s .fits .y), toZ-ofZ (s .fits .z)) at (p .put-keys .ensures))
+    (e .clear-keys .ensures)
 
-pub splice-i64-spec : {M : Type 1} → statement M
-splice-i64-spec =
+pub splice-keys-spec : {M : Type 1} → statement M
+splice-keys-spec =
     tie.close
     (tie.spec
     add-next
     sub-rest
-    move-i64-requires
-    put-i64-requires
-    add-clear-i64
-    clear-i64-requires
+    move-keys-requires
+    put-keys-requires
+    add-clear-keys
+    clear-keys-requires
     same-length
     returns)

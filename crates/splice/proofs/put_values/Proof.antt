@@ -1,11 +1,11 @@
--- `splice::put_u8` meets its contract.
+-- `splice::put_values` meets its contract.
 use mathlib.Core.Path.{_≡_}
 use native.Mathlib.Omega.{arith}
 use native.Mathlib.Numerals.{add-one, add-two}
 use lib.ListN.{length-set}
 use borrow.Author.Needs.{needs}
-use Rattle.splice.proofs.put_u8.Statement.{statement}
-use Rattle.splice.proofs.put_u8.Tie as tie
+use Rattle.splice.proofs.put_values.Statement.{statement}
+use Rattle.splice.proofs.put_values.Tie as tie
 
 returns : tie.Need-returns
 returns c = search needs
@@ -46,8 +46,8 @@ returns-4 c =
     let e : entry .args .k ≡ 3 = omega arith in
     rw (e, add-one, add-two)
 
-pub put-u8-spec : {M : Type 1} → statement M
-put-u8-spec =
+pub put-values-spec : {M : Type 1} → statement M
+put-values-spec =
     tie.close
     (tie.spec
     returns

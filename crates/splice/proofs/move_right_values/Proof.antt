@@ -1,21 +1,25 @@
--- `splice::move_left_u8` meets its contract.
-use Prim.Native.Nat.{_-_, _≤_}
+-- `splice::move_right_values` meets its contract.
+use Prim.Native.Nat.{_+_, _-_, _≤_}
 use mathlib.Core.Path.{_≡_, refl}
 use native.Mathlib.Omega.{arith}
+use native.Mathlib.Nat.{add-zero}
 use lib.ListN.{length, length-set, take, drop}
 use lib.Seq.{sets}
-use Rattle.splice.proofs.Sets.{left-more}
-use Rattle.splice.proofs.move_left_u8.Statement.{statement}
-use Rattle.splice.proofs.move_left_u8.Tie as tie
+use Rattle.splice.proofs.Sets.{right-more, none-moved}
+use Rattle.splice.proofs.move_right_values.Statement.{statement}
+use Rattle.splice.proofs.move_right_values.Tie as tie
 
 abbrev Inv-loop : tie.InvT-loop
-Inv-loop a₀ from to n p₀ a p = (p ≤ n) × (length a ≡ length a₀) × (a ≡ sets a₀ to (take p (drop from a₀)))
+Inv-loop a₀ from to n p₀ a p = (p ≤ n) × (length a ≡ length a₀) × (a ≡ sets a₀ (to + p) (drop p (take n (drop from a₀))))
 
 abbrev μ-loop : tie.MeasureT-loop
-μ-loop a₀ from to n p₀ a p = n - p
+μ-loop a₀ from to n p₀ a p = p
 
 loop-holds : tie.Need-loop-holds Inv-loop μ-loop
-loop-holds c = (omega arith, refl, refl)
+loop-holds c = (omega arith, refl, none-moved (c .args .a .now) (c .args .from) (c .args .to) (c .args .n))
+
+sub-p : tie.Need-sub-p Inv-loop μ-loop
+sub-p c = omega arith
 
 add-a : tie.Need-add-a Inv-loop μ-loop
 add-a c = omega arith
@@ -29,9 +33,6 @@ add-a-2 c = omega arith
 slice-write-a : tie.Need-slice-write-a Inv-loop μ-loop
 slice-write-a c = omega arith
 
-add-p : tie.Need-add-p Inv-loop μ-loop
-add-p c = omega arith
-
 loop-less : tie.Need-loop-less Inv-loop μ-loop
 loop-less c = omega arith
 
@@ -42,7 +43,7 @@ loop-again c =
     let s = turn .before .args in (
       omega arith,
       simp length-set (omega arith),
-      left-more (s .a .now) (s .from) (s .to) (l .p) 0 (l .inv .2) refl (omega arith) (omega arith),
+      right-more (s .a .now) (s .from) (s .to) (s .n) (l .p) 0 (l .inv .2) refl (omega arith) (omega arith) (omega arith) (omega arith),
     )
 
 same-length : tie.Need-same-length Inv-loop μ-loop
@@ -51,21 +52,21 @@ same-length c = omega arith
 returns : tie.Need-returns Inv-loop μ-loop
 returns c =
     let turn = c .before in
-    let e : turn .before .args .n ≡ turn .loop .p = omega arith in
-    rw e (turn .loop .inv .2)
+    let e : turn .loop .p ≡ 0 = omega arith in
+    rw (e, add-zero) at (turn .loop .inv .2)
 
-pub move-left-u8-spec : {M : Type 1} → statement M
-move-left-u8-spec =
+pub move-right-values-spec : {M : Type 1} → statement M
+move-right-values-spec =
     tie.close
     (tie.spec
     Inv-loop
     μ-loop
     loop-holds
+    sub-p
     add-a
     slice-read-a
     add-a-2
     slice-write-a
-    add-p
     loop-less
     loop-again
     same-length
