@@ -242,7 +242,7 @@ module _ {A : Type 0} (number : A → ℕ) {n r : ℕ} {x y : A} where
   lets-pass false a b = a
 
   -- a test that refuses
-  refuses : (t : Bool) → number x ≡ n → number y ≡ r → number (cond t x y) ≡ cond t n r
+  pub refuses : (t : Bool) → number x ≡ n → number y ≡ r → number (cond t x y) ≡ cond t n r
   refuses true a b = a
   refuses false a b = b
 
@@ -259,7 +259,8 @@ module _ {A : Type 0} (number : A → ℕ) {n r : ℕ} {x y : A} where
   all-pass true false u v a b = a
   all-pass false t u v a b = a
 
-told-done : (t : Bool) → askedInC (yesNo t) .answer ≡ 0
+-- yes or no is answered with 0
+pub told-done : (t : Bool) → askedInC (yesNo t) .answer ≡ 0
 told-done true = refl
 told-done false = refl
 
@@ -358,7 +359,7 @@ module _ (kind : Kind) where
   ordering-order a b = both-pass orderNumber (formed kind a) (formed kind b) refl (order-done (orderSound kind a b))
 
   -- a list: 3
-  writing-order : (xs : List Span) (starts ends : List ℤ) → listNumber (intoLists kind xs starts ends) ≡ firstNumber (overlong xs starts ends ∷ [])
+  pub writing-order : (xs : List Span) (starts ends : List ℤ) → listNumber (intoLists kind xs starts ends) ≡ firstNumber (overlong xs starts ends ∷ [])
   unfolding intoLists
   writing-order xs starts ends = refuses listNumber (ltb (min (length starts) (length ends)) (length xs)) refl refl
 

@@ -1,0 +1,146 @@
+-- ONE CALL: what each shape of promise, of a map or of a set of either kind, says of the stored map that is left.
+use Prim.Native.Nat.{ℕ}
+use mathlib.Core.Path.{_≡_, refl, sym, ap, subst, _∙_}
+use mathlib.Core.Bool.{Bool, true, false, cond}
+use mathlib.Core.Logic.{_⊎_, inl, inr}
+use mathlib.Core.List.{List, [], map}
+use mathlib.Core.Option.{Option, some, none}
+use lib.Dec.{ltb}
+use lib.ListN.{length, take}
+use lib.IntN.{ℤ}
+use Rattle.answers.specs.Answers.{done, emptyRange, tooMany}
+use Rattle.span.specs.Span.{Span, given}
+use Rattle.key.specs.Rank.{rank}
+use Rattle.key.specs.Range.{Kind, halfOpen, spanOf, empty}
+use Rattle.key.proofs.Lawful.{Lawful, half-open}
+use Rattle.outcomes.specs.Stored.{places, Stored, ranges, storing}
+use Rattle.outcomes.specs.Outcomes.{Entry, Edited, leaving, Extended, extended, editSound, edit, bulkInsert, clear}
+use Rattle.outcomes.specs.declared.Applied.{Applied}
+use Rattle.outcomes.specs.Sets.{plain}
+use Rattle.set_ops.specs.Answers.{pairs, setInsert, setRemove, setBulkInsert}
+use Rattle.byte_form.specs.Bytes.{Bytes}
+use Rattle.byte_form.specs.Layout.{rm01}
+use Rattle.byte_form.specs.Form.{entriesOf, mapIn, read}
+use Rattle.one_map.specs.Events.{Proper, valueAt, Event, insertEvent, removeEvent, bulkEvent, clearEvent, readEvent, happens}
+use Rattle.one_map.specs.Events.{Effect, changed, anew, ifAccepted, entryChange, effect, leftAt}
+use Rattle.one_map.specs.SetEvents.{SetEvent, setInsertEvent, setRemoveEvent, setBulkEvent, setClearEvent, setHappens}
+use Rattle.one_map.proofs.OneMap.{unchecked-same}
+use Rattle.one_map.proofs.Histories.{event-proper, event-holds}
+use Rattle.one_map.proofs.Refusals.{edit-unchanged}
+use Rattle.one_map.proofs.SetRefusals.{set-insert-unchanged, set-remove-unchanged}
+use Rattle.one_map.proofs.SetHistories.{set-as-map, set-stays}
+use Rattle.theorems.specs.Calls.{ifDone, gave}
+
+-- a proper map is left, which tells of each key what was given it, or else what was held
+pub record Step (kind : Kind) (did : Effect) (m m′ : Stored) : Type 0 where
+  pub proper : Proper kind m′
+  pub holds : (k : ℤ) → valueAt kind m′ k ≡ leftAt kind did k (valueAt kind m k)
+
+module _ {kind : Kind} (law : Lawful kind) {m m′ : Stored} (p : Proper kind m) where
+  -- a promise that says what an event leaves
+  event-step : (x : Event kind) → m′ ≡ happens x m .left → Step kind (effect x m) m m′
+  event-step x q = subst (Step kind (effect x m) m) (sym q) (record { proper = event-proper law x p; holds = event-holds law x p })
+
+  -- insert and remove
+  pub insert-step : (s e : ℤ) (v : ℕ) {r : ℕ} → leaving r m′ ≡ edit kind m s e (some v) → Step kind (ifDone r (gave s e (some v))) m m′
+  insert-step s e v q =
+      subst (λ (o : Edited). Step kind (ifAccepted o (gave s e (some v))) m m′) (sym q) (event-step (insertEvent s e v) (ap (λ (o : Edited). o .left) q))
+
+  pub remove-step : (s e : ℤ) {r : ℕ} → leaving r m′ ≡ edit kind m s e none → Step kind (ifDone r (gave s e none)) m m′
+  remove-step s e q =
+      subst (λ (o : Edited). Step kind (ifAccepted o (gave s e none)) m m′) (sym q) (event-step (removeEvent s e) (ap (λ (o : Edited). o .left) q))
+
+  -- through either door
+  pub either-door : (s e : ℤ) (new : Option ℕ) {r : ℕ} → (leaving r m′ ≡ edit kind m s e new) ⊎ (leaving r m′ ≡ editSound kind places m s e new)
+      → leaving r m′ ≡ edit kind m s e new
+  either-door s e new (inl q) = q
+  either-door s e new (inr q) = q ∙ unchecked-same p s e new
+
+  -- bulk insert
+  pub extend-step : (xs : List Entry) {t : Applied} → extended t m′ ≡ bulkInsert kind m xs → Step kind (changed (map entryChange (take (t .applied) xs))) m m′
+  extend-step xs q =
+      subst (λ (o : Extended). Step kind (changed (map entryChange (take (o .told .applied) xs))) m m′) (sym q)
+      (event-step (bulkEvent xs) (ap (λ (o : Extended). o .left) q))
+
+  -- clear
+  pub clear-step : m′ ≡ clear kind → Step kind (anew []) m m′
+  clear-step q = event-step clearEvent q
+
+-- read of bytes, which half-open maps alone have
+pub read-step : {m m′ : Stored} → Proper halfOpen m → (bs : List ℕ) → Bytes bs → {r : ℕ} → leaving r m′ ≡ read rm01 m bs
+    → Step halfOpen (ifDone r (anew (map entryChange (entriesOf (mapIn rm01 bs))))) m m′
+read-step {m} {m′} p bs fit q =
+    subst (λ (o : Edited). Step halfOpen (ifAccepted o (anew (map entryChange (entriesOf (mapIn rm01 bs))))) m m′) (sym q)
+    (event-step half-open p (readEvent refl bs fit) (ap (λ (o : Edited). o .left) q))
+
+-- A SET as a call leaves it: it is a set again
+pub record SetStep (kind : Kind) (did : Effect) (m m′ : Stored) : Type 0 where
+  pub as-map : Step kind did m m′
+  pub set-again : plain m′ ≡ true
+
+-- bulk insert of a set is that of the map
+as-bulk : (kind : Kind) (m : Stored) (xs : List Entry) → plain m ≡ true → setBulkInsert kind m xs ≡ bulkInsert kind m xs
+unfolding setBulkInsert
+as-bulk kind m xs z = rw z
+
+module _ {kind : Kind} (law : Lawful kind) {m m′ : Stored} (p : Proper kind m) (z : plain m ≡ true) where
+  -- an event of a set leaves a set, as the same event of a map does
+  set-left : (x : SetEvent) → m′ ≡ setHappens kind x m .left → plain m′ ≡ true
+  set-left x q = ap plain (q ∙ ap (λ (o : Edited). o .left) (set-as-map kind x m z)) ∙ set-stays law x p z
+
+  -- insert and remove
+  pub set-insert-step : (s e : ℤ) {r : ℕ} → leaving r m′ ≡ setInsert kind m s e → SetStep kind (ifDone r (gave s e (some 0))) m m′
+  set-insert-step s e q = record {
+    as-map = insert-step law p s e 0 (q ∙ set-as-map kind (setInsertEvent s e) m z);
+    set-again = set-left (setInsertEvent s e) (ap (λ (o : Edited). o .left) q);
+  }
+
+  pub set-remove-step : (s e : ℤ) {r : ℕ} → leaving r m′ ≡ setRemove kind m s e → SetStep kind (ifDone r (gave s e none)) m m′
+  set-remove-step s e q = record {
+    as-map = remove-step law p s e (q ∙ set-as-map kind (setRemoveEvent s e) m z);
+    set-again = set-left (setRemoveEvent s e) (ap (λ (o : Edited). o .left) q);
+  }
+
+  -- bulk insert
+  pub set-extend-step : (ss es : List ℤ) {t : Applied} → extended t m′ ≡ setBulkInsert kind m (pairs ss es)
+      → SetStep kind (changed (map entryChange (take (t .applied) (pairs ss es)))) m m′
+  set-extend-step ss es q = record {
+    as-map = extend-step law p (pairs ss es) (q ∙ as-bulk kind m (pairs ss es) z);
+    set-again = set-left (setBulkEvent ss es) (ap (λ (o : Extended). o .left) q);
+  }
+
+  -- clear
+  pub set-clear-step : m′ ≡ clear kind → SetStep kind (anew []) m m′
+  set-clear-step q = record { as-map = clear-step law p q; set-again = set-left setClearEvent q }
+
+-- REFUSED: what leaves the map as it was on any number but 0 does so where its promise is met
+pub refused-same : {r : ℕ} {m m′ : Stored} {o : Edited} → ((o .answer ≡ 0 → ⊥) → o .left ≡ m) → leaving r m′ ≡ o → (r ≡ done → ⊥) → m′ ≡ m
+refused-same kept q n = ap (λ (o : Edited). o .left) q ∙ kept (λ z. n (ap (λ (o : Edited). o .answer) q ∙ z))
+
+module _ (kind : Kind) (m : Stored) (s e : ℤ) where
+  -- the unchecked door of insert and remove
+  sound-unchanged : (new : Option ℕ) → (editSound kind places m s e new .answer ≡ 0 → ⊥) → editSound kind places m s e new .left ≡ m
+  unfolding editSound
+  sound-unchanged new n = go (empty (spanOf kind s e 0)) (ltb places (length xs)) n
+    where
+      xs : List Span
+      xs = given (rank s) (kind .past e) new (ranges kind m)
+
+      go : (t u : Bool) → (cond t (leaving emptyRange m) (cond u (leaving tooMany m) (leaving done (storing kind places xs))) .answer ≡ 0 → ⊥)
+          → cond t (leaving emptyRange m) (cond u (leaving tooMany m) (leaving done (storing kind places xs))) .left ≡ m
+      go true u n = refl
+      go false true n = refl
+      go false false n = absurd (n refl)
+
+  -- insert and remove of a map, refused at either door
+  pub either-refused : (new : Option ℕ) {r : ℕ} {m′ : Stored} → (leaving r m′ ≡ edit kind m s e new) ⊎ (leaving r m′ ≡ editSound kind places m s e new)
+      → (r ≡ done → ⊥) → m′ ≡ m
+  either-refused new (inl q) n = refused-same (edit-unchanged kind m s e new) q n
+  either-refused new (inr q) n = refused-same (sound-unchanged new) q n
+
+  -- insert and remove of a set
+  pub set-insert-refused : {r : ℕ} {m′ : Stored} → leaving r m′ ≡ setInsert kind m s e → (r ≡ done → ⊥) → m′ ≡ m
+  set-insert-refused q n = refused-same (set-insert-unchanged kind m s e) q n
+
+  pub set-remove-refused : {r : ℕ} {m′ : Stored} → leaving r m′ ≡ setRemove kind m s e → (r ≡ done → ⊥) → m′ ≡ m
+  set-remove-refused q n = refused-same (set-remove-unchanged kind m s e) q n

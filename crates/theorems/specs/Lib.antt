@@ -1,0 +1,5 @@
+-- What the theorems over the promises say: Calls (calls one after the other, and the last value that they gave a key), Structs (which promise each call of
+-- the four structs meets), Inputs (what a caller can give).
+pub mod Calls
+pub mod Structs
+pub mod Inputs

@@ -1,0 +1,1 @@
+// What follows from the promises of the exported functions, said of these promises: definitions and theorems, no code.
