@@ -2,7 +2,7 @@
 -- what it held.
 use Prim.Native.Nat.{ℕ, _≤_, _<_}
 use native.Mathlib.Omega.{arith}
-use mathlib.Core.Path.{_≡_, refl, sym, ap, _∙_}
+use mathlib.Core.Path.{_≡_, sym, ap, _∙_}
 use mathlib.Core.List.{List}
 use mathlib.Core.Option.{some, none}
 use lib.IntN.{ℤ}
@@ -18,12 +18,11 @@ use Rattle.outcomes.specs.Stored.{Stored, ranges}
 use Rattle.outcomes.specs.Outcomes.{Edited}
 use Rattle.duty.specs.Duty.{tallying}
 use Rattle.duty.proofs.Sums.{same-totals, same-strange}
-use Rattle.log_day.specs.Days.{dayOf, dayInC}
+use Rattle.log_day.specs.Days.{dayOf}
 use Rattle.log_day.specs.Promises.{LogDayPromise}
 use Rattle.log_day.specs.declared.Day.{Day}
 use Rattle.log_day.specs.declared.Day.the-variants as Day
 use Rattle.log_day.specs.declared.LogDay.{LogDay}
-use Rattle.log_day.proofs.Spans.{refused-is}
 use Rattle.report.specs.Report.{dayReport, reportedInC}
 use Rattle.report.specs.declared.DayReport.{DayReport}
 use Rattle.report.proofs.Returns.{day-window}
@@ -36,19 +35,12 @@ use Rattle.one_map.specs.Events.{Proper, valueAt, leftAt}
 use Rattle.one_map.proofs.Known.{proper-formed, proper-tidy, value-at}
 use Rattle.theorems.specs.Calls.{Call, callEffect, lastGiven}
 use Rattle.theorems.specs.Structs.{RangeMapCall, RangeMapAfter}
+use Rattle.theorems.proofs.Days.{log-day-is}
 use Rattle.theorems.proofs.Histories.{range-map-step, range-map-proper, range-map-holds}
 
 -- a key of a day, as `log_day` tells its start and end
 abbrev pub InDay : LogDay → ℤ → Type 0
 InDay day k = SFits w64 k × (rank (day .start) ≤ rank k) × (rank k < rank (day .end))
-
--- a day that is told is the date's
-of-day : (z y mo d : ℕ) (day : LogDay) → LogDayPromise z y mo d day → day .answer ≡ done → dayOf z y mo d ≡ Day.Span (day .start) (day .end)
-of-day z y mo d day p h = go (dayOf z y mo d) refl p
-  where
-    go : (x : Day) → dayOf z y mo d ≡ x → day ≡ dayInC x → dayOf z y mo d ≡ Day.Span (day .start) (day .end)
-    go (Day.Span s e) q p = q ∙ sym (ap (λ (t : LogDay). Day.Span (t .start) (t .end)) p)
-    go (Day.Refused n) q p = absurd (omega (arith, refused-is z y mo d q, ap (λ (t : LogDay). t .answer) p))
 
 module _ (z y mo d : ℕ) (day : LogDay) (told : LogDayPromise z y mo d day) (is-day : day .answer ≡ done) where
   abbrev s : ℤ
@@ -58,7 +50,7 @@ module _ (z y mo d : ℕ) (day : LogDay) (told : LogDayPromise z y mo d day) (is
   e = day .end
 
   span : dayOf z y mo d ≡ Day.Span s e
-  span = of-day z y mo d day told is-day
+  span = log-day-is z y mo d day told is-day
 
   -- two well-formed maps that hold the same at every key of the day have the same report
   same-report : {a b : Stored} → Proper halfOpen a → Proper halfOpen b → ((k : ℤ) → InDay day k → valueAt halfOpen a k ≡ valueAt halfOpen b k)

@@ -1,4 +1,4 @@
--- THE DAY: the hours of the exported report add up to the day's length, days meet, and what changes nothing in the day leaves its report as it was.
+-- THE DAY: how long the days of `log_day` are, that they meet, and that the hours of the exported report add up to the day's length.
 use Prim.Native.Nat.{ℕ, _+_, _-_, _^_, _<_}
 use native.Mathlib.Omega.{arith}
 use mathlib.Core.Path.{_≡_, refl, sym, ap, subst, _∙_}
@@ -59,15 +59,45 @@ module _ (m : Stored) (z y mo d : ℕ) where
   unfolding dayReport
   totalled h = of-map (formed halfOpen m) h
 
--- THE HOURS ADD UP: the seconds of the four statuses and the unrecorded ones are the day's length, end less start; and which length a day has, and when
-pub record AddsUp (z y mo d : ℕ) (r : DayReport) : Type 0 where
+-- THE LENGTH OF A DAY, end less start: 82,800, 86,400 or 90,000 seconds, and which when
+pub record DayLength (z y mo d : ℕ) (start end : ℤ) : Type 0 where
   pub from : ℕ
   pub to : ℕ
-  pub start-is : r .start ≡ pos from
-  pub end-is : r .end ≡ pos to
+  pub start-is : start ≡ pos from
+  pub end-is : end ≡ pos to
   pub ordered : from < to
-  pub sum : r .«off_duty» + r .«sleeper_berth» + r .driving + r .«on_duty» + r .unrecorded ≡ to - from
+  pub below : to < 2 ^ 40
   pub length-is : Length z (date y mo d) (to - from)
+
+day-length : (z y mo d : ℕ) {s e : ℤ} → dayOf z y mo d ≡ Day.Span s e → DayLength z y mo d s e
+day-length z y mo d q =
+    let k = Spans.held z y mo d q in
+    record { from = k .from; to = k .to; start-is = k .start-is; end-is = k .end-is; ordered = k .ordered; below = k .below; length-is = k .length-is }
+
+-- what `log_day` tells with answer 0 is the date's day
+pub log-day-is : (z y mo d : ℕ) (day : LogDay) → LogDayPromise z y mo d day → day .answer ≡ done → dayOf z y mo d ≡ Day.Span (day .start) (day .end)
+log-day-is z y mo d day p h = go (dayOf z y mo d) refl p
+  where
+    go : (x : Day) → dayOf z y mo d ≡ x → day ≡ dayInC x → dayOf z y mo d ≡ Day.Span (day .start) (day .end)
+    go (Day.Span s e) q p = q ∙ sym (ap (λ (t : LogDay). Day.Span (t .start) (t .end)) p)
+    go (Day.Refused n) q p = absurd (omega (arith, refused-is z y mo d q, ap (λ (t : LogDay). t .answer) p))
+
+-- so it is that long
+pub log-day-length : (z y mo d : ℕ) (day : LogDay) → LogDayPromise z y mo d day → day .answer ≡ done → DayLength z y mo d (day .start) (day .end)
+log-day-length z y mo d day p h = day-length z y mo d (log-day-is z y mo d day p h)
+
+-- and days meet: the next date's starts where this one ends
+pub log-days-meet : (z y mo d : ℕ) (day after : LogDay) → let next = nextDate (date y mo d) in
+    LogDayPromise z y mo d day → day .answer ≡ done → LogDayPromise z (next .year) (next .month) (next .day) after → after .answer ≡ done
+    → day .end ≡ after .start
+log-days-meet z y mo d day after p h q i =
+    let next = nextDate (date y mo d) in
+    meet z y mo d (log-day-is z y mo d day p h) (log-day-is z (next .year) (next .month) (next .day) after q i)
+
+-- THE HOURS ADD UP: the seconds of the four statuses and the unrecorded ones are the day's length
+pub record AddsUp (z y mo d : ℕ) (r : DayReport) : Type 0 where
+  pub day : DayLength z y mo d (r .start) (r .end)
+  pub sum : r .«off_duty» + r .«sleeper_berth» + r .driving + r .«on_duty» + r .unrecorded ≡ day .to - day .from
 
 -- the same in ranks
 abbrev Sums : DayReport → Type 0
@@ -91,19 +121,11 @@ module _ (m : RangeMap) (z y mo d : ℕ) (r : DayReport) (q : RangeMapDayReport 
   day-adds-up =
       let t = seconds .totals in
       let is : r ≡ reportedInC (Reported.Totals (seconds .start) (seconds .end) t) = as-told in
-      let k = Spans.held z y mo d day-is in
+      let k : DayLength z y mo d (r .start) (r .end) = day-length z y mo d day-is in
       let a : rank (r .start) ≡ 2 ^ 63 + k .from = ap rank (k .start-is) ∙ rank-pos (k .from) (lt→ltb (k .from) (2 ^ 63) (omega arith)) in
       let b : rank (r .end) ≡ 2 ^ 63 + k .to = ap rank (k .end-is) ∙ rank-pos (k .to) (lt→ltb (k .to) (2 ^ 63) (omega arith)) in
       let here : Sums r = subst Sums (sym is) (report-sum (held m) z y mo d (seconds .start) (seconds .end) t (seconds .is)) in
-      record {
-        from = k .from;
-        to = k .to;
-        start-is = k .start-is;
-        end-is = k .end-is;
-        ordered = k .ordered;
-        sum = omega (arith, here, a, b);
-        length-is = k .length-is;
-      }
+      record { day = k; sum = omega (arith, here, a, b) }
 
   -- the report's day is what `log_day` answers
   pub day-is-log-day : (t : LogDay) → LogDayPromise z y mo d t → (t .answer ≡ done) × (t .start ≡ r .start) × (t .end ≡ r .end)
