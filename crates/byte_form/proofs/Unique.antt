@@ -12,13 +12,18 @@ use Rattle.key.proofs.Answers.{one-answer}
 use Rattle.outcomes.specs.Stored.{Stored}
 use Rattle.outcomes.specs.Outcomes.{formed, leaving}
 use Rattle.outcomes.specs.declared.Count.{Count}
+use Rattle.outcomes.specs.declared.Counted.{Counted}
 use Rattle.byte_form.specs.Layout.{Layout}
-use Rattle.byte_form.specs.Form.{formOf, Output, intoOutput, write, Wrote, read, InMemory}
+use Rattle.byte_form.specs.Form.{formOf, Output, output, intoOutput, write, Wrote, read, InMemory}
 use Rattle.byte_form.proofs.Lawful.{Lawful}
 use Rattle.byte_form.proofs.Forms.{write-read}
 
 pub write-one : {r t : Count} {o p : List ℕ} {w : Output} → Wrote r o w → Wrote t p w → (r ≡ t) × (o ≡ p)
 write-one a b = (one-answer (a .number) (b .number), one-answer (a .out-is) (b .out-is))
+
+-- the same, as functions tell each other
+pub output-one : {r t : Counted} {o p : List ℕ} {w : Output} → output r o ≡ w → output t p ≡ w → (r ≡ t) × (o ≡ p)
+output-one a b = (ap (λ (w : Output). w .answer) (one-answer a b), ap (λ (w : Output). w .out) (one-answer a b))
 
 -- what stands first in an output that is long enough is the form
 pub written-form : (layout : Layout) (m : Stored) (out : List ℕ) → formed (layout .kind) m ≡ true → length (formOf layout m) ≤ length out

@@ -118,9 +118,9 @@ fn clear_rest(
     ensures { λ _. ⌜ Cleared count (was starts) (was ends) (was values)
         (becomes starts) (becomes ends) (becomes values) ⌝ }
 {
-    splice::clear_i64(starts, count, PLACES);
-    splice::clear_i64(ends, count, PLACES);
-    splice::clear_u8(values, count, PLACES);
+    splice::clear_keys(starts, count, PLACES);
+    splice::clear_keys(ends, count, PLACES);
+    splice::clear_values(values, count, PLACES);
 }
 
 // The map whose form the bytes are.

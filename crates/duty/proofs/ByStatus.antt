@@ -11,7 +11,7 @@ use Rattle.span.specs.Labels.{relabelled, equals, those}
 use Rattle.span.specs.Operations.{within, spanTotal}
 use Rattle.span.proofs.Total.{total-those}
 use Rattle.key.proofs.Answers.{never}
-use Rattle.duty.specs.Duty.{isOffDuty, isSleeperBerth, isDriving, isOnDuty, isStatus, secondsOf, unrecordedOf, strange, totalsOf, tallying}
+use Rattle.duty.specs.Duty.{isOffDuty, isSleeperBerth, isDriving, isOnDuty, isStatus, secondsOf, unrecordedOf, strange, totalsOf, tallySound}
 use Rattle.duty.specs.InnerWalk.{tableLength, sumOver}
 
 -- `unfolding tests` opens the test of each total, and `unfolding of-duties` all that totals and answers are made of
@@ -20,7 +20,7 @@ unfolding isOffDuty isSleeperBerth isDriving isOnDuty isStatus
 tests = tt
 
 unfoldable pub of-duties : Unit {0}
-unfolding tests relabelled secondsOf unrecordedOf strange totalsOf tallying
+unfolding tests relabelled secondsOf unrecordedOf strange totalsOf tallySound
 of-duties = tt
 
 -- what lies past a table passes no test

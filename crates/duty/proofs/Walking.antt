@@ -27,7 +27,7 @@ use Rattle.store.specs.InnerCheck.{Steps}
 use Rattle.store.specs.InnerSearch.{Reached, FirstPast}
 use Rattle.store.proofs.Checked.{formed-steps}
 use Rattle.store.proofs.Seeking.{reached-after, ends-ascend}
-use Rattle.duty.specs.Duty.{isOffDuty, isSleeperBerth, isDriving, isOnDuty, isStatus, secondsOf, unrecordedOf, strange, totalsOf, tallying}
+use Rattle.duty.specs.Duty.{isOffDuty, isSleeperBerth, isDriving, isOnDuty, isStatus, secondsOf, unrecordedOf, strange, totalsOf, tallySound}
 use Rattle.duty.specs.declared.Tallied.{Tallied}
 use Rattle.duty.specs.declared.Tallied.the-variants as Tallied
 use Rattle.duty.specs.InnerWalk.{u32Limit, tableLength, sumOver, gatheredOf, gathering, tallySum, completing, tallyOf, walkFinds}
@@ -346,8 +346,8 @@ module _ (m : Stored) (s e : ℤ) where
   abbrev all : List Span
   all = ranges halfOpen m
 
-  pub found-strange : Walked.Strange ≡ walkFinds (rank s) (rank e) all → Tallied.Refused badStatus ≡ tallying m s e
-  unfolding walkFinds tallying
+  pub found-strange : Walked.Strange ≡ walkFinds (rank s) (rank e) all → Tallied.Refused badStatus ≡ tallySound m s e
+  unfolding walkFinds tallySound
   found-strange w = go (strange (rank s) (rank e) all) w
     where
       go : (t : Bool) → Walked.Strange ≡ cond t Walked.Strange (Walked.Counted (tallyOf (rank s) (rank e) all))
@@ -373,8 +373,8 @@ module _ (m : Stored) (s e : ℤ) where
     unfolding tallyOf
     counted-room = rw (f .tally-is) (omega (arith, duties-sum (rank s) (rank e) all real (good sound .tidy .ordered) (f .calm)))
 
-    pub counted-is : Tallied.Seconds (completing t (rank e - rank s)) ≡ tallying m s e
-    unfolding tallying completing totalsOf tallyOf
+    pub counted-is : Tallied.Seconds (completing t (rank e - rank s)) ≡ tallySound m s e
+    unfolding tallySound completing totalsOf tallyOf
     counted-is =
         let left : rank e - rank s - tallySum (tallyOf (rank s) (rank e) all) ≡ unrecordedOf (rank s) (rank e) all =
         omega (arith, duties-sum (rank s) (rank e) all real (good sound .tidy .ordered) (f .calm)) in

@@ -13,7 +13,7 @@ ghost use Rattle.key.specs.Rank.{rank};
 ghost use Rattle.key.specs.Range.{halfOpen};
 ghost use Rattle.outcomes.specs.Stored.{Sound, stored, ranges, atEntryWith};
 ghost use Rattle.store.specs.InnerSearch.{Reached};
-ghost use Rattle.duty.specs.Duty.{tallying};
+ghost use Rattle.duty.specs.Duty.{tallySound};
 ghost use Rattle.duty.specs.InnerWalk.{u32Limit, tableLength, gathering, tallySum, completing, walkFinds};
 ghost use Rattle.duty.specs.InnerCounting.{Statuses, Amiss, Met, EachApart, Inside, part};
 ghost use Rattle.duty.specs.InnerCounting.{noSeconds, credited, Both, Joined, TableRoom, Added};
@@ -260,7 +260,7 @@ pub fn between(
     end: i64,
 ) -> Tallied
     requires { ⌜ Sound halfOpen (stored count (now starts) (now ends) (now values)) × (rank start < rank end) × (rank end - rank start < u32Limit) ⌝ }
-    ensures { λ r. ⌜ r ≡ tallying (atEntryWith count starts ends values) start end ⌝ }
+    ensures { λ r. ⌜ r ≡ tallySound (atEntryWith count starts ends values) start end ⌝ }
 {
     let from = reaching(RangeKind::HalfOpen, ends, count, start);
     let w = walk(count, starts, ends, values, from, start, end);

@@ -10,6 +10,7 @@ use mir.Val.{SFits}
 use Rattle.key.specs.Rank.{rank, keys}
 use Rattle.key.specs.Range.{Kind}
 use Rattle.key.proofs.Lawful.{Lawful}
+use Rattle.outcomes.specs.Stored.{Spare}
 use Rattle.edit.specs.InnerPlan.{LeastEnd, GreatestStart}
 
 module _ {kind : Kind} (law : Lawful kind) where
@@ -38,3 +39,16 @@ one-more zero w x y z h = refl
 one-more (suc zero) w x y z h = refl
 one-more (suc (suc zero)) w x y z h = refl
 one-more (suc (suc (suc n))) w x y z h = absurd (omega arith)
+
+-- and what is 0 past n entries is so past one more
+pub one-more-blank : {A : Type 0} (n : ℕ) (w x y z : A) {u : A} → Spare (x ∷ y ∷ z ∷ []) n u → Spare (w ∷ x ∷ y ∷ []) (n + 1) u
+one-more-blank n w x y z s zero h = absurd (omega arith)
+one-more-blank n w x y z s (suc zero) h = s 0 (omega arith)
+one-more-blank n w x y z s (suc (suc zero)) h = s 1 (omega arith)
+one-more-blank n w x y z s (suc (suc (suc k))) h = refl
+
+pub all-blank : {A : Type 0} (u : A) → Spare (u ∷ u ∷ u ∷ []) 0 u
+all-blank u zero h = refl
+all-blank u (suc zero) h = refl
+all-blank u (suc (suc zero)) h = refl
+all-blank u (suc (suc (suc k))) h = refl

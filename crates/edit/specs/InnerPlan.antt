@@ -17,7 +17,7 @@ use Rattle.splice.specs.InnerSplice.{spliced}
 use Rattle.splice.specs.InnerReplace.{newStarts, newEnds, newValues, newCount, Apt, Columns}
 use Rattle.splice.specs.declared.Entry.{Entry}
 use Rattle.splice.specs.declared.Replacement.{Replacement}
-use Rattle.outcomes.specs.Stored.{Stored, stored, spans, ranges, AllFit}
+use Rattle.outcomes.specs.Stored.{Stored, stored, spans, ranges, Spare, AllFit}
 use Rattle.outcomes.specs.Outcomes.{Edited, leaving}
 use Rattle.edit.specs.declared.Change.{Change}
 use Rattle.edit.specs.declared.Met.{Met}
@@ -105,12 +105,17 @@ inFront x xs = kept (x .kept) (entry (x .start) (x .end) (x .value)) xs
 abbrev pub coming : Replacement → List Entry
 coming p = take (p .n) (p .x ∷ p .y ∷ p .z ∷ [])
 
+-- the entries past those that come are 0
+abbrev pub Blank : Replacement → Type 0
+Blank p = Spare (p .x ∷ p .y ∷ p .z ∷ []) (p .n) (entry (pos 0) (pos 0) 0)
+
 -- a plan for the places from i up to j, by which these entries come, n at most
 pub record Brings (p : Replacement) (i j n : ℕ) (xs : List Entry) : Type 0 where
   pub from-is : p .from ≡ i
   pub to-is : p .to ≡ j
   pub few : p .n ≤ n
   pub are : coming p ≡ xs
+  pub blank : Blank p
 
 -- a plan over places that are met: the new range comes, or none, between what is kept of the first and of the last
 pub record Overlaid (starts ends : List ℤ) (values : List ℕ) (met : Met) (change : Change) (p : Replacement) : Type 0 where

@@ -11,7 +11,7 @@ ghost use Prim.Native.Nat.{suc, _≤_};
 ghost use Rattle.outcomes.specs.Stored.{lent, atEntry, atExit};
 ghost use Rattle.outcomes.specs.Outcomes.{leaving};
 ghost use Rattle.splice.specs.InnerReplace.{Apt};
-ghost use Rattle.edit.specs.InnerPlan.{Brings, coming, inFront, carried, ColumnsOf};
+ghost use Rattle.edit.specs.InnerPlan.{Blank, Brings, coming, inFront, carried, ColumnsOf};
 
 // A range, and whether the plan keeps it.
 pub struct Part {
@@ -23,7 +23,7 @@ pub struct Part {
 
 // A plan by which one more range comes, before the others, if it is kept.
 fn in_front(part: Part, p: Replacement) -> Replacement
-    requires { ⌜ p .n ≤ 2 ⌝ }
+    requires { ⌜ (p .n ≤ 2) × Blank p ⌝ }
     ensures { λ r. ⌜ Brings r (p .from) (p .to) (suc (p .n)) (inFront part (coming p)) ⌝ }
 {
     let kept = part.kept;

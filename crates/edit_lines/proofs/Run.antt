@@ -1,12 +1,13 @@
 -- A text of edits makes what these edits make: `edits` of document 01's maps, up to the first refusal. And lines as document 01 and docs/PROGRAM.md have them.
 use Prim.Native.Nat.{ℕ, suc}
-use mathlib.Core.Path.{_≡_, refl}
+use mathlib.Core.Path.{_≡_, refl, ap}
 use mathlib.Core.Bool.{Bool, true, false, cond}
 use mathlib.Core.List.{List, [], _∷_}
 use mathlib.Core.Option.{some}
 use lib.Dec.{eqb}
 use lib.IntN.{pos, negsuc}
 use Rattle.key.specs.Range.{halfOpen}
+use Rattle.key.proofs.Answers.{one-answer}
 use Rattle.outcomes.specs.Stored.{Stored}
 use Rattle.outcomes.specs.Outcomes.{Edited, Change, edit, clear, edits}
 use Rattle.byte_form.specs.Form.{sameBytes}
@@ -83,3 +84,7 @@ last-line = refl
 pub ended-line : linesOf (ascii "a\n\n") ≡ ascii "a" ∷ [] ∷ []
 unfolding all
 ended-line = refl
+
+-- ONE OUTCOME of `make`: what it answers, and the map that it leaves
+pub making-one : {r t : Made} {m n : Stored} {o : Making} → making r m ≡ o → making t n ≡ o → (r ≡ t) × (m ≡ n)
+making-one a b = (ap (λ (o : Making). o .told) (one-answer a b), ap (λ (o : Making). o .left) (one-answer a b))

@@ -6,7 +6,7 @@ use mathlib.Core.Path.{_≡_, refl, sym, ap, _∙_}
 use mathlib.Core.List.{List, [], _++_}
 use lib.ListN.{length, take}
 use Rattle.text.specs.Text.{Adds}
-use Rattle.text.proofs.Laws.{adds-none, adds-then, adds-as, adds-length, text-first}
+use Rattle.text.proofs.Laws.{adds-none, adds-then, adds-as, adds-length, adds-one, text-first}
 use Rattle.filling.specs.Filling.{series, AddsWithin}
 
 -- a text that was put takes its own length, and whatever is more
@@ -44,3 +44,8 @@ within-one a b = (a .adds .puts ∙ sym (b .adds .puts), a .adds .upto ∙ sym (
 -- what a caller writes of lent bytes with room for the text: the first r of them
 pub within-first : {m : ℕ} {s out out₁ : List ℕ} {r : ℕ} → AddsWithin m s out 0 out₁ r → m ≤ length out → take r out₁ ≡ s
 within-first a h = text-first (a .adds) (omega (arith, a .within, a .adds .upto))
+
+-- ONE OUTCOME: the place behind the text, and the lent bytes
+pub adds-within-one : {m : ℕ} {t out out₁ out₂ : List ℕ} {at r₁ r₂ : ℕ} → AddsWithin m t out at out₁ r₁ → AddsWithin m t out at out₂ r₂
+    → (r₁ ≡ r₂) × (out₁ ≡ out₂)
+adds-within-one a b = adds-one (a .adds) (b .adds)

@@ -16,7 +16,7 @@ use Rattle.key.specs.Rank.{aboveLeast, bitRank, rank, keys}
 use Rattle.key.specs.Range.{halfOpen}
 use Rattle.key.proofs.Laws.{toZ-fit, rank-place, rank-below}
 use Rattle.outcomes.specs.Stored.{Stored, ranges}
-use Rattle.duty.specs.Duty.{isStatus, strange, tallying}
+use Rattle.duty.specs.Duty.{isStatus, strange, tallySound}
 use Rattle.duty.specs.declared.Totals.{Totals}
 use Rattle.duty.specs.declared.Tallied.the-variants as Tallied
 use Rattle.duty.proofs.Laws.{within-cons, strange-cons, strange-alike, strange-none}
@@ -86,8 +86,8 @@ day-quarters {m} {s} {e} d =
 
 -- WHAT IS ANSWERED of a quarter: its totals
 pub quarter-totals : {m : Stored} {s : ℤ} {q : ℕ} (a b : ℤ) → Quarter m s q → rank a ≡ rank s + 900 * q → rank b ≡ rank s + 900 * (q + 1)
-    → tallying m a b ≡ Tallied.Seconds (inQuarter (ranges halfOpen m) s q)
-unfolding tallying inQuarter
+    → tallySound m a b ≡ Tallied.Seconds (inQuarter (ranges halfOpen m) s q)
+unfolding tallySound inQuarter
 quarter-totals a b d p r = rw (p, r, d .calm)
 
 -- and its mark

@@ -110,7 +110,7 @@ range-inclusive-map-extend-one m starts ends values m′ m″ r t x y = let e = 
 pub range-inclusive-map-well-formed-one : (m : RangeInclusiveMap) (r t : Bool)
     → RangeInclusiveMapWellFormed m r → RangeInclusiveMapWellFormed m t
     → r ≡ t
-range-inclusive-map-well-formed-one m r t x y = one-answer x y
+range-inclusive-map-well-formed-one m r t x y = one-answer (x .0) (y .0)
 
 pub range-inclusive-map-get-key-value-unchecked-one : (m : RangeInclusiveMap) (key : ℤ) (r t : Range)
     → RangeInclusiveMapGetKeyValueUnchecked m key r → RangeInclusiveMapGetKeyValueUnchecked m key t

@@ -3,7 +3,7 @@
 use Prim.Native.Nat.{ℕ}
 use mathlib.Core.Path.{_≡_}
 use mathlib.Core.List.{List}
-use mathlib.Core.Bool.{Bool}
+use mathlib.Core.Bool.{Bool, true}
 use lib.IntN.{ℤ}
 use mathlib.Core.Option.{some, none}
 use Rattle.key.specs.Range.{inclusive}
@@ -11,7 +11,7 @@ use Rattle.outcomes.specs.Outcomes.{clear, isEmpty, countOf, rangeAt, firstOf, 
 use Rattle.outcomes.specs.Outcomes.{insert, leaving, remove, entries, extended, bulkInsert, formed, lookupSound, gapsSound, editSound}
 use Rattle.inclusive_map.specs.Map.{held}
 use Rattle.outcomes.specs.Numbers.{askedInC, countedInC, foundInC, partInC, comparedInC}
-use Rattle.outcomes.specs.Stored.{places}
+use Rattle.outcomes.specs.Stored.{places, Sound}
 use Rattle.inclusive_map.specs.declared.RangeInclusiveMap.{RangeInclusiveMap}
 use Rattle.outcomes.specs.declared.Applied.{Applied}
 use Rattle.outcomes.specs.declared.Count.{Count}
@@ -89,9 +89,9 @@ RangeInclusiveMapClear m m′ = held m′ ≡ clear inclusive
 abbrev pub RangeInclusiveMapExtend : RangeInclusiveMap → RangeInclusiveMap → List ℤ → List ℤ → List ℕ → Applied → Type 0
 RangeInclusiveMapExtend m m′ starts ends values r = extended r (held m′) ≡ bulkInsert inclusive (held m) (entries starts ends values)
 
--- `range_inclusive_map_well_formed`: whether a map is well formed.
+-- `range_inclusive_map_well_formed`: whether a map is well formed. Where it is, it is what an unchecked door requires.
 abbrev pub RangeInclusiveMapWellFormed : RangeInclusiveMap → Bool → Type 0
-RangeInclusiveMapWellFormed m r = r ≡ formed inclusive (held m)
+RangeInclusiveMapWellFormed m r = (r ≡ formed inclusive (held m)) × (r ≡ true → Sound inclusive (held m))
 
 -- `range_inclusive_map_get_key_value_unchecked`: lookup through the unchecked door: the map must be well formed.
 abbrev pub RangeInclusiveMapGetKeyValueUnchecked : RangeInclusiveMap → ℤ → Range → Type 0

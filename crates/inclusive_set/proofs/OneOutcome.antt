@@ -110,7 +110,7 @@ range-inclusive-set-clear-one m m′ m″ x y = held-one (one-answer x y)
 pub range-inclusive-set-well-formed-one : (m : RangeInclusiveSet) (r t : Bool)
     → RangeInclusiveSetWellFormed m r → RangeInclusiveSetWellFormed m t
     → r ≡ t
-range-inclusive-set-well-formed-one m r t x y = one-answer x y
+range-inclusive-set-well-formed-one m r t x y = one-answer (x .0) (y .0)
 
 pub range-inclusive-set-intersection-one : (a : RangeInclusiveSet) (b : RangeInclusiveSet) (outStarts : List ℤ) (outEnds : List ℤ) (outStarts′ : List ℤ) (outEnds′ : List ℤ) (outStarts″ : List ℤ) (outEnds″ : List ℤ) (r t : Count)
     → RangeInclusiveSetIntersection a b outStarts outStarts′ outEnds outEnds′ r → RangeInclusiveSetIntersection a b outStarts outStarts″ outEnds outEnds″ t

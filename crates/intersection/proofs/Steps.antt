@@ -1,20 +1,23 @@
 -- The walk, one step at a time: of the two ranges at hand the one that ends first goes, and what they have in common is found.
 use Prim.Native.Nat.{ℕ, _+_, _-_, _≤_, _<_, min, max}
 use native.Mathlib.Omega.{arith}
-use mathlib.Core.Path.{_≡_, refl, sym, _∙_}
+use mathlib.Core.Path.{_≡_, refl, sym, ap, _∙_}
 use mathlib.Core.Bool.{Bool, true, false, not, cond}
 use mathlib.Core.List.{List, [], _∷_, _++_}
 use borrow.Author.Tests.{ltb-true, ltb-false}
 use lib.Dec.{ltb}
 use lib.ListN.{length, getD, set}
 use lib.IntN.{ℤ, pos}
-use mir.Val.{boolByte}
+use mir.Syntax.{w64}
+use mir.Val.{SFits, boolByte}
 use Rattle.span.specs.Span.{Span, span, keep}
 use Rattle.span.specs.Operations.{common}
 use Rattle.span.proofs.Walks.{Spaced, meet, common-left, common-right, common-none, common-no, length-common}
 use Rattle.key.specs.Rank.{rank, keyAt}
 use Rattle.key.specs.Range.{kindOf}
 use Rattle.key.specs.declared.RangeKind.{RangeKind}
+use Rattle.key.proofs.Answers.{one-answer}
+use Rattle.key.proofs.Laws.{rank-one}
 use Rattle.two_sets.specs.InnerKind.{wide}
 use Rattle.range_list.specs.InnerColumns.{columnRows, rest}
 use Rattle.two_sets.specs.InnerSides.{Side}
@@ -141,3 +144,14 @@ module _ (kind : RangeKind) {sa ea sb eb : List ℤ} {na nb : ℕ} (a : Side (ki
   going-found lo hi lo₁ hi₁ g l h s t =
       going-step (kindOf kind) g found (span lo (wide kind + hi) 0)
       (open-step found (wide kind) lo hi (rank start) (rank end) lo₁ hi₁ _ _ step-found l h) (omega arith) s t
+
+-- THE ONE STEP over two ranges: the keys from which and up to which, whether they have one in common, and which range goes
+pub stepped-one : {kind : RangeKind} {s e t f : ℕ} {lo hi lo′ hi′ : ℤ} {found left found′ left′ : Bool}
+    → SFits w64 lo → SFits w64 hi → SFits w64 lo′ → SFits w64 hi′ → Stepped kind s e t f lo hi found left → Stepped kind s e t f lo′ hi′ found′ left′
+    → (lo ≡ lo′) × (hi ≡ hi′) × (found ≡ found′) × (left ≡ left′)
+stepped-one {kind} {hi = hi} {lo′ = lo′} lo-fits hi-fits lo-fits′ hi-fits′ a b =
+    let start = rank-one lo-fits lo-fits′ (a .start) (b .start) in
+    let end = rank-one hi-fits hi-fits′ (a .end) (b .end) in
+    let from = ap (λ (x : ℤ). ltb (rank x) (wide kind + rank hi)) start in
+    let upto = ap (λ (x : ℤ). ltb (rank lo′) (wide kind + rank x)) end in
+    (start, end, a .met ∙ from ∙ upto ∙ sym (b .met), one-answer (a .first) (b .first))

@@ -107,7 +107,7 @@ range-map-extend-one m starts ends values m′ m″ r t x y = let e = extend-one
 pub range-map-well-formed-one : (m : RangeMap) (r t : Bool)
     → RangeMapWellFormed m r → RangeMapWellFormed m t
     → r ≡ t
-range-map-well-formed-one m r t x y = one-answer x y
+range-map-well-formed-one m r t x y = one-answer (x .0) (y .0)
 
 pub range-map-get-key-value-unchecked-one : (m : RangeMap) (key : ℤ) (r t : Range)
     → RangeMapGetKeyValueUnchecked m key r → RangeMapGetKeyValueUnchecked m key t

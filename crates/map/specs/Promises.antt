@@ -3,7 +3,7 @@
 use Prim.Native.Nat.{ℕ}
 use mathlib.Core.Path.{_≡_}
 use mathlib.Core.List.{List}
-use mathlib.Core.Bool.{Bool}
+use mathlib.Core.Bool.{Bool, true}
 use lib.IntN.{ℤ}
 use mathlib.Core.Option.{some, none}
 use Rattle.key.specs.Range.{halfOpen}
@@ -11,7 +11,7 @@ use Rattle.outcomes.specs.Outcomes.{clear, isEmpty, countOf, rangeAt, firstOf, 
 use Rattle.outcomes.specs.Outcomes.{insert, leaving, remove, entries, extended, bulkInsert, formed, lookupSound, gapsSound, editSound}
 use Rattle.map.specs.Map.{held}
 use Rattle.outcomes.specs.Numbers.{askedInC, countedInC, foundInC, partInC, comparedInC}
-use Rattle.outcomes.specs.Stored.{places}
+use Rattle.outcomes.specs.Stored.{places, Sound}
 use Rattle.map.specs.declared.RangeMap.{RangeMap}
 use Rattle.outcomes.specs.declared.Applied.{Applied}
 use Rattle.outcomes.specs.declared.Count.{Count}
@@ -88,9 +88,9 @@ RangeMapClear m m′ = held m′ ≡ clear halfOpen
 abbrev pub RangeMapExtend : RangeMap → RangeMap → List ℤ → List ℤ → List ℕ → Applied → Type 0
 RangeMapExtend m m′ starts ends values r = extended r (held m′) ≡ bulkInsert halfOpen (held m) (entries starts ends values)
 
--- `range_map_well_formed`: whether a map is well formed.
+-- `range_map_well_formed`: whether a map is well formed. Where it is, it is what an unchecked door requires.
 abbrev pub RangeMapWellFormed : RangeMap → Bool → Type 0
-RangeMapWellFormed m r = r ≡ formed halfOpen (held m)
+RangeMapWellFormed m r = (r ≡ formed halfOpen (held m)) × (r ≡ true → Sound halfOpen (held m))
 
 -- `range_map_get_key_value_unchecked`: lookup through the unchecked door: the map must be well formed.
 abbrev pub RangeMapGetKeyValueUnchecked : RangeMap → ℤ → Range → Type 0

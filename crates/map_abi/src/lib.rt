@@ -15,6 +15,7 @@ use outcomes::range_of;
 use outcomes::stretch_of;
 use outcomes::told_of;
 ghost use mathlib.Core.Path.{_≡_};
+ghost use mathlib.Core.Bool.{true};
 ghost use Rattle.lent.specs.Moments.{was, becomes};
 ghost use Rattle.key.specs.Range.{kindOf};
 ghost use mathlib.Core.Option.{some, none};
@@ -252,7 +253,8 @@ pub fn well_formed(
     ends: &[i64; PLACES],
     values: &[Value; PLACES],
 ) -> bool
-    ensures { λ r. ⌜ r ≡ formed (kindOf kind) (atEntry count starts ends values) ⌝ }
+    ensures { λ r. ⌜ (r ≡ formed (kindOf kind) (atEntry count starts ends values))
+        × (r ≡ true → Sound (kindOf kind) (atEntry count starts ends values)) ⌝ }
 {
     store::check::well_formed(kind, *count, starts, ends, values)
 }

@@ -63,7 +63,7 @@ pub fn clear(
     ensures { λ _. ⌜ ((k : Kind) → atExit count starts ends values ≡ clear k) ⌝ }
 {
     *count = 0;
-    splice::clear_i64(starts, 0, PLACES);
-    splice::clear_i64(ends, 0, PLACES);
-    splice::clear_u8(values, 0, PLACES);
+    splice::clear_keys(starts, 0, PLACES);
+    splice::clear_keys(ends, 0, PLACES);
+    splice::clear_values(values, 0, PLACES);
 }

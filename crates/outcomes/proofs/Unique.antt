@@ -6,12 +6,18 @@ use lib.IntN.{ℤ}
 use Rattle.key.proofs.Answers.{one-answer}
 use Rattle.outcomes.specs.Stored.{Stored}
 use Rattle.outcomes.specs.Outcomes.{Written, Listed, Edited, leaving, Extended, extended}
+use Rattle.outcomes.specs.InnerOutcome.{Leaves}
+use Rattle.outcomes.specs.declared.Outcome.{Outcome}
 use Rattle.outcomes.specs.declared.Count.{Count}
 use Rattle.outcomes.specs.declared.Applied.{Applied}
 
 -- an edit: its number, and the map that it leaves
 pub edit-one : {r t : ℕ} {m n : Stored} {o : Edited} → leaving r m ≡ o → leaving t n ≡ o → (r ≡ t) × (m ≡ n)
 edit-one a b = (ap (λ (o : Edited). o .answer) (one-answer a b), ap (λ (o : Edited). o .left) (one-answer a b))
+
+-- the same, as functions tell each other
+pub leaves-one : {r t : Outcome} {m n : Stored} {e : Edited} → Leaves r m e → Leaves t n e → (r ≡ t) × (m ≡ n)
+leaves-one a b = (one-answer (a .outcome) (b .outcome), one-answer (a .map-is) (b .map-is))
 
 -- a bulk insert: its number, how many entries it applied, and the map
 pub extend-one : {r t : Applied} {m n : Stored} {o : Extended} → extended r m ≡ o → extended t n ≡ o → (r ≡ t) × (m ≡ n)

@@ -3,6 +3,7 @@ use Prim.Native.Nat.{ℕ, _+_, _≤_, _<_}
 use mathlib.Core.Path.{_≡_}
 use mathlib.Core.Bool.{Bool, false, not}
 use mathlib.Core.List.{List}
+use lib.IntN.{ℤ}
 use Rattle.span.specs.Span.{Span, at}
 use Rattle.key.specs.Rank.{rank}
 use Rattle.query_text.specs.InnerClasses.{classOf}
@@ -28,6 +29,10 @@ Silent t n = (m : ℕ) → m ≤ 10 → says t n m ≡ false
 pub record Stands (xs ys : List Span) (w : Walk) : Type 0 where
   pub a : Trails xs (w .a) (rank (w .key))
   pub b : Trails ys (w .b) (rank (w .key))
+
+-- a walk begins at a key: it stands in any two maps, so no place is passed
+abbrev pub Begins : ℤ → Walk → Type 0
+Begins key w = (w .key ≡ key) × ((xs ys : List Span) → Stands xs ys w)
 
 -- from p up to where the next walk stands the table says one thing
 pub record Cells (t : Truth) (xs ys : List Span) (p e : ℕ) (c : Cell) : Type 0 where

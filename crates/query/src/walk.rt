@@ -4,14 +4,12 @@ use key::Value;
 use query_text::truth::Truth;
 ghost use mathlib.Core.Path.{_≡_};
 ghost use mathlib.Core.Bool.{true};
-ghost use mathlib.Core.List.{List};
 ghost use Prim.Native.Nat.{_≤_, _<_};
-ghost use Rattle.span.specs.Span.{Span};
 ghost use Rattle.key.specs.Rank.{rank};
 ghost use Rattle.key.specs.Range.{halfOpen};
 ghost use Rattle.outcomes.specs.Stored.{Sound};
 ghost use Rattle.query.specs.InnerColumns.{columns, spansOf};
-ghost use Rattle.query.specs.InnerWalk.{NoBits, Silent, Stands, Cells, Edges};
+ghost use Rattle.query.specs.InnerWalk.{NoBits, Silent, Stands, Begins, Cells, Edges};
 
 // Where a walk is: a key, and in each map a place that trails it, so that a walk need not look at both.
 pub struct Walk {
@@ -28,7 +26,7 @@ pub struct Cell {
 
 // The walk that begins at a key. No place is passed before it is looked at.
 pub fn walk_at(key: i64) -> Walk
-    ensures { λ r. ⌜ (r .key ≡ key) × ((xs ys : List Span) → Stands xs ys r) ⌝ }
+    ensures { λ r. ⌜ Begins key r ⌝ }
 {
     Walk { key, a: 0, b: 0 }
 }

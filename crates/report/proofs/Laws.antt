@@ -20,7 +20,7 @@ use Rattle.outcomes.specs.Outcomes.{formed}
 use Rattle.outcomes.proofs.Formed as Formed
 use Rattle.hours.specs.Hours.{hoursOf, Nearest}
 use Rattle.hours.proofs.Near.{hours-nearest}
-use Rattle.duty.specs.Duty.{isOffDuty, isSleeperBerth, isDriving, isOnDuty, secondsOf, unrecordedOf, strange, totalsOf, tallying}
+use Rattle.duty.specs.Duty.{isOffDuty, isSleeperBerth, isDriving, isOnDuty, secondsOf, unrecordedOf, strange, totalsOf, tallySound}
 use Rattle.duty.specs.declared.Totals.{Totals}
 use Rattle.duty.specs.declared.Tallied.{Tallied}
 use Rattle.duty.specs.declared.Tallied.the-variants as Tallied
@@ -56,7 +56,7 @@ module _ (m : Stored) (z y mo d : ℕ) {s e : ℤ} {t : Totals} where
       record { well = w; day = rw (← a, ← b) h; calm = rw (← a, ← b) c; totals = sym (rw (a, b) at u) }
 
   of-day : (x : Day) → formed halfOpen m ≡ true → dayOf z y mo d ≡ x → dayReportSound m x ≡ Reported.Totals s e t → Told m z y mo d s e t
-  unfolding tallying
+  unfolding tallySound
   of-day (Day.Span s′ e′) w h q = of-tally (strange (rank s′) (rank e′) (ranges halfOpen m)) s′ e′ w h refl q
   of-day (Day.Refused n) w h q = absurd (apart q)
 
@@ -79,7 +79,7 @@ no-day m z y mo d n h q = rw (h, q)
 
 pub strange-day : (m : Stored) (z y mo d : ℕ) (s e : ℤ) → formed halfOpen m ≡ true → dayOf z y mo d ≡ Day.Span s e → strange (rank s) (rank e) (ranges halfOpen m) ≡ true
     → dayReport m z y mo d ≡ Reported.Refused badStatus
-unfolding dayReport tallying
+unfolding dayReport tallySound
 strange-day m z y mo d s e h q c = rw (h, q, c)
 
 -- THE ONE REPORT

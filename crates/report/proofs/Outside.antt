@@ -20,7 +20,7 @@ use Rattle.outcomes.specs.Stored.{places, Stored, ranges, storing, wellFormed}
 use Rattle.outcomes.specs.Outcomes.{leaving, editSound, edit, formed}
 use Rattle.outcomes.proofs.Formed as Formed
 use Rattle.outcomes.proofs.Edits.{edit-accepted, edit-ranges, edit-sound, edit-length}
-use Rattle.duty.specs.Duty.{strange, tallying}
+use Rattle.duty.specs.Duty.{strange, tallySound}
 use Rattle.duty.proofs.Sums.{same-totals, same-strange}
 use Rattle.log_day.specs.Days.{dayOf}
 use Rattle.log_day.specs.declared.Day.{Day}
@@ -35,8 +35,8 @@ pub data Off (a b s e : ℤ) : Type 0 where
 
 -- two maps that hold alike in a window have the same seconds there
 same-tally : (m n : Stored) (s e : ℤ) → rank s < rank e → Ordered 0 (ranges halfOpen m) → Ordered 0 (ranges halfOpen n)
-    → ((k : ℕ) → rank s ≤ k → k < rank e → at (ranges halfOpen m) k ≡ at (ranges halfOpen n) k) → tallying m s e ≡ tallying n s e
-unfolding tallying
+    → ((k : ℕ) → rank s ≤ k → k < rank e → at (ranges halfOpen m) k ≡ at (ranges halfOpen n) k) → tallySound m s e ≡ tallySound n s e
+unfolding tallySound
 same-tally m n s e h o p f = rw (same-strange (rank s) (rank e) (ranges halfOpen m) (ranges halfOpen n) h o p f, same-totals (rank s) (rank e) (ranges halfOpen m) (ranges halfOpen n) h o p f)
 
 -- an edit leaves the map as it was, or it was done
@@ -53,7 +53,7 @@ kept-or-done m a b new = go (leb (rank b) (rank a)) (ltb places (length xs))
     go false false = inr refl
 
 -- of a well-formed map and a day the report is what is counted in it
-of-day : (m : Stored) (z y mo d : ℕ) {s e : ℤ} → formed halfOpen m ≡ true → dayOf z y mo d ≡ Day.Span s e → dayReport m z y mo d ≡ withKeys s e (tallying m s e)
+of-day : (m : Stored) (z y mo d : ℕ) {s e : ℤ} → formed halfOpen m ≡ true → dayOf z y mo d ≡ Day.Span s e → dayReport m z y mo d ≡ withKeys s e (tallySound m s e)
 unfolding dayReport
 of-day m z y mo d h q = rw (h, q)
 

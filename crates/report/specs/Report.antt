@@ -9,7 +9,7 @@ use Rattle.key.specs.Range.{halfOpen}
 use Rattle.outcomes.specs.Stored.{Stored}
 use Rattle.outcomes.specs.Outcomes.{formed}
 use Rattle.hours.specs.Hours.{hoursOf}
-use Rattle.duty.specs.Duty.{tallying}
+use Rattle.duty.specs.Duty.{tallySound}
 use Rattle.duty.specs.declared.Tallied.{Tallied}
 use Rattle.duty.specs.declared.Tallied.the-variants as Tallied
 use Rattle.log_day.specs.Days.{dayOf}
@@ -26,7 +26,7 @@ withKeys s e (Tallied.Refused n) = Reported.Refused n
 
 -- of a well-formed map and a day
 abbrev pub dayReportSound : Stored → Day → Reported
-dayReportSound m (Day.Span s e) = withKeys s e (tallying m s e)
+dayReportSound m (Day.Span s e) = withKeys s e (tallySound m s e)
 dayReportSound m (Day.Refused n) = Reported.Refused n
 
 -- A DAY'S REPORT of any map, zone and date

@@ -107,7 +107,7 @@ range-set-clear-one m m′ m″ x y = held-one (one-answer x y)
 pub range-set-well-formed-one : (m : RangeSet) (r t : Bool)
     → RangeSetWellFormed m r → RangeSetWellFormed m t
     → r ≡ t
-range-set-well-formed-one m r t x y = one-answer x y
+range-set-well-formed-one m r t x y = one-answer (x .0) (y .0)
 
 pub range-set-intersection-one : (a : RangeSet) (b : RangeSet) (outStarts : List ℤ) (outEnds : List ℤ) (outStarts′ : List ℤ) (outEnds′ : List ℤ) (outStarts″ : List ℤ) (outEnds″ : List ℤ) (r t : Count)
     → RangeSetIntersection a b outStarts outStarts′ outEnds outEnds′ r → RangeSetIntersection a b outStarts outStarts″ outEnds outEnds″ t

@@ -18,12 +18,13 @@ use outcomes::stretch_of;
 use outcomes::told_of;
 use outcomes::total_of;
 ghost use mathlib.Core.Path.{_≡_};
+ghost use mathlib.Core.Bool.{true};
 ghost use Rattle.lent.specs.Moments.{was, becomes};
 ghost use Rattle.key.specs.Range.{kindOf};
 ghost use Rattle.outcomes.specs.Stored.{atEntry, atExit};
 ghost use Rattle.outcomes.specs.Numbers.{askedInC, countedInC, foundInC, partInC, comparedInC, totalledInC};
 ghost use Rattle.outcomes.specs.Outcomes.{Listed, leaving};
-ghost use Rattle.outcomes.specs.Sets.{formedSet, totalOf};
+ghost use Rattle.outcomes.specs.Sets.{formedSet, SoundSet, totalOf};
 ghost use Rattle.operations.specs.InnerOperation.{combinedAny};
 ghost use Rattle.set_ops.specs.Answers.{setContains, setCount, setEqual, setFirst, setGaps, setInsert, setIsEmpty, setLast, setLookup, setOverlaps, setOrder, setOverlapping, setRangeAt, setRemove};
 
@@ -256,7 +257,8 @@ pub fn well_formed(
     ends: &[i64; PLACES],
     values: &[Value; PLACES],
 ) -> bool
-    ensures { λ r. ⌜ r ≡ formedSet (kindOf kind) (atEntry count starts ends values) ⌝ }
+    ensures { λ r. ⌜ (r ≡ formedSet (kindOf kind) (atEntry count starts ends values))
+        × (r ≡ true → SoundSet (kindOf kind) (atEntry count starts ends values)) ⌝ }
 {
     store::plain::is_set(kind, *count, starts, ends, values)
 }

@@ -27,7 +27,7 @@ pub struct Replacement {
 }
 
 // Moves n places to the left, the first one first: none is written before it is read.
-fn move_left_i64(a: &mut [i64], from: usize, to: usize, n: usize)
+fn move_left_keys(a: &mut [i64], from: usize, to: usize, n: usize)
     requires { ⌜ (to ≤ from) × (from + n ≤ length (now a)) ⌝ }
     ensures { λ _. ⌜ becomes a ≡ moved (was a) from to n ⌝ }
 {
@@ -39,7 +39,7 @@ fn move_left_i64(a: &mut [i64], from: usize, to: usize, n: usize)
 }
 
 // Moves n places to the right, the last one first, for the same reason.
-fn move_right_i64(a: &mut [i64], from: usize, to: usize, n: usize)
+fn move_right_keys(a: &mut [i64], from: usize, to: usize, n: usize)
     requires { ⌜ (from ≤ to) × (to + n ≤ length (now a)) ⌝ }
     ensures { λ _. ⌜ becomes a ≡ moved (was a) from to n ⌝ }
 {
@@ -51,19 +51,19 @@ fn move_right_i64(a: &mut [i64], from: usize, to: usize, n: usize)
 }
 
 // Moves n places, to either side.
-fn move_i64(a: &mut [i64], from: usize, to: usize, n: usize)
+fn move_keys(a: &mut [i64], from: usize, to: usize, n: usize)
     requires { ⌜ (from + n ≤ length (now a)) × (to + n ≤ length (now a)) ⌝ }
     ensures { λ _. ⌜ becomes a ≡ moved (was a) from to n ⌝ }
 {
     if to < from {
-        move_left_i64(a, from, to, n);
+        move_left_keys(a, from, to, n);
     } else {
-        move_right_i64(a, from, to, n);
+        move_right_keys(a, from, to, n);
     }
 }
 
 // Writes 0 into the places from `from` up to `to`.
-pub fn clear_i64(a: &mut [i64], from: usize, to: usize)
+pub fn clear_keys(a: &mut [i64], from: usize, to: usize)
     requires { ⌜ to ≤ length (now a) ⌝ }
     ensures { λ _. ⌜ becomes a ≡ filledWith (was a) from to (pos 0) ⌝ }
 {
@@ -75,7 +75,7 @@ pub fn clear_i64(a: &mut [i64], from: usize, to: usize)
 }
 
 // Writes the first k of x, y and z from the place i on.
-fn put_i64(a: &mut [i64], i: usize, k: usize, x: i64, y: i64, z: i64)
+fn put_keys(a: &mut [i64], i: usize, k: usize, x: i64, y: i64, z: i64)
     requires { ⌜ (k ≤ 3) × (i + k ≤ length (now a)) ⌝ }
     ensures { λ _. ⌜ becomes a ≡ putFrom (was a) i k x y z ⌝ }
 {
@@ -94,7 +94,7 @@ fn put_i64(a: &mut [i64], i: usize, k: usize, x: i64, y: i64, z: i64)
 }
 
 // Carries a replacement out in one column, in which x, y and z come; the places after those that go move up or down.
-fn splice_i64(a: &mut [i64], count: usize, p: Replacement, x: i64, y: i64, z: i64)
+fn splice_keys(a: &mut [i64], count: usize, p: Replacement, x: i64, y: i64, z: i64)
     requires { ⌜ Apt count p × Room count p (length (now a)) × Filler (now a) count (pos 0) ⌝ }
     ensures { λ _. ⌜ becomes a ≡ spliced (was a) (p .from) (p .to) count (take (p .n) (x ∷ y ∷ z ∷ [])) (pos 0) ⌝ }
 {
@@ -103,13 +103,13 @@ fn splice_i64(a: &mut [i64], count: usize, p: Replacement, x: i64, y: i64, z: i6
     let n = p.n;
     let next = from + n;
     let rest = count - to;
-    move_i64(a, to, next, rest);
-    put_i64(a, from, n, x, y, z);
-    clear_i64(a, next + rest, count);
+    move_keys(a, to, next, rest);
+    put_keys(a, from, n, x, y, z);
+    clear_keys(a, next + rest, count);
 }
 
 // Moves n places to the left, the first one first: none is written before it is read.
-fn move_left_u8(a: &mut [Value], from: usize, to: usize, n: usize)
+fn move_left_values(a: &mut [Value], from: usize, to: usize, n: usize)
     requires { ⌜ (to ≤ from) × (from + n ≤ length (now a)) ⌝ }
     ensures { λ _. ⌜ becomes a ≡ moved (was a) from to n ⌝ }
 {
@@ -121,7 +121,7 @@ fn move_left_u8(a: &mut [Value], from: usize, to: usize, n: usize)
 }
 
 // Moves n places to the right, the last one first, for the same reason.
-fn move_right_u8(a: &mut [Value], from: usize, to: usize, n: usize)
+fn move_right_values(a: &mut [Value], from: usize, to: usize, n: usize)
     requires { ⌜ (from ≤ to) × (to + n ≤ length (now a)) ⌝ }
     ensures { λ _. ⌜ becomes a ≡ moved (was a) from to n ⌝ }
 {
@@ -133,19 +133,19 @@ fn move_right_u8(a: &mut [Value], from: usize, to: usize, n: usize)
 }
 
 // Moves n places, to either side.
-fn move_u8(a: &mut [Value], from: usize, to: usize, n: usize)
+fn move_values(a: &mut [Value], from: usize, to: usize, n: usize)
     requires { ⌜ (from + n ≤ length (now a)) × (to + n ≤ length (now a)) ⌝ }
     ensures { λ _. ⌜ becomes a ≡ moved (was a) from to n ⌝ }
 {
     if to < from {
-        move_left_u8(a, from, to, n);
+        move_left_values(a, from, to, n);
     } else {
-        move_right_u8(a, from, to, n);
+        move_right_values(a, from, to, n);
     }
 }
 
 // Writes 0 into the places from `from` up to `to`.
-pub fn clear_u8(a: &mut [Value], from: usize, to: usize)
+pub fn clear_values(a: &mut [Value], from: usize, to: usize)
     requires { ⌜ to ≤ length (now a) ⌝ }
     ensures { λ _. ⌜ becomes a ≡ filledWith (was a) from to 0 ⌝ }
 {
@@ -157,7 +157,7 @@ pub fn clear_u8(a: &mut [Value], from: usize, to: usize)
 }
 
 // Writes the first k of x, y and z from the place i on.
-fn put_u8(a: &mut [Value], i: usize, k: usize, x: Value, y: Value, z: Value)
+fn put_values(a: &mut [Value], i: usize, k: usize, x: Value, y: Value, z: Value)
     requires { ⌜ (k ≤ 3) × (i + k ≤ length (now a)) ⌝ }
     ensures { λ _. ⌜ becomes a ≡ putFrom (was a) i k x y z ⌝ }
 {
@@ -176,7 +176,7 @@ fn put_u8(a: &mut [Value], i: usize, k: usize, x: Value, y: Value, z: Value)
 }
 
 // Carries a replacement out in one column, in which x, y and z come; the places after those that go move up or down.
-fn splice_u8(a: &mut [Value], count: usize, p: Replacement, x: Value, y: Value, z: Value)
+fn splice_values(a: &mut [Value], count: usize, p: Replacement, x: Value, y: Value, z: Value)
     requires { ⌜ Apt count p × Room count p (length (now a)) × Filler (now a) count 0 ⌝ }
     ensures { λ _. ⌜ becomes a ≡ spliced (was a) (p .from) (p .to) count (take (p .n) (x ∷ y ∷ z ∷ [])) 0 ⌝ }
 {
@@ -185,9 +185,9 @@ fn splice_u8(a: &mut [Value], count: usize, p: Replacement, x: Value, y: Value, 
     let n = p.n;
     let next = from + n;
     let rest = count - to;
-    move_u8(a, to, next, rest);
-    put_u8(a, from, n, x, y, z);
-    clear_u8(a, next + rest, count);
+    move_values(a, to, next, rest);
+    put_values(a, from, n, x, y, z);
+    clear_values(a, next + rest, count);
 }
 
 // Replaces places in all three columns.
@@ -206,7 +206,7 @@ pub fn splice(
     let x = p.x;
     let y = p.y;
     let z = p.z;
-    splice_i64(starts, count, p, x.start, y.start, z.start);
-    splice_i64(ends, count, p, x.end, y.end, z.end);
-    splice_u8(values, count, p, x.value, y.value, z.value);
+    splice_keys(starts, count, p, x.start, y.start, z.start);
+    splice_keys(ends, count, p, x.end, y.end, z.end);
+    splice_values(values, count, p, x.value, y.value, z.value);
 }

@@ -1,4 +1,5 @@
--- What the search finds holds of the later places too; and the starts and the ends of a well-formed map ascend, as the searches require.
+-- What the search finds holds of the later places too; the starts and the ends of a well-formed map ascend, as the searches require; and each search
+-- finds one place.
 use Prim.Native.Nat.{ℕ, zero, suc, _≤_, _<_}
 use native.Mathlib.Omega.{arith}
 use native.Mathlib.Decide.{decLt}
@@ -10,10 +11,11 @@ use lib.ListN.{length, getD}
 use lib.IntN.{ℤ, pos}
 use Rattle.key.specs.Rank.{rank, lesser}
 use Rattle.key.specs.Range.{Kind}
+use Rattle.key.proofs.Answers.{neither-less}
 use Rattle.key.proofs.Lawful.{Lawful}
 use Rattle.outcomes.specs.Stored.{Stored, Sound}
 use Rattle.outcomes.proofs.Formed.{Formed, Shaped, shape, good}
-use Rattle.store.specs.InnerSearch.{Ascends, Reached}
+use Rattle.store.specs.InnerSearch.{Ascends, Reached, FirstPast}
 use Rattle.store.proofs.Checked.{formed-steps}
 
 -- of keys that ascend, one before another is no greater
@@ -64,3 +66,17 @@ searched {kind} sound law = (omega (arith, good sound .held, sound .ends-as), en
 
 pub starts-searched : {kind : Kind} {m : Stored} → Sound kind m → Lawful kind → (m .count ≤ length (m .starts)) × Ascends (m .count) (m .starts)
 starts-searched {kind} sound law = (omega (arith, good sound .held), starts-ascend kind law (shape sound) (good sound))
+
+-- THE ONE PLACE that each search finds
+module _ {kind : Kind} {n : ℕ} {l : List ℤ} {k : ℤ} where
+  reached-first : {p q : ℕ} → Reached kind n l k p → Reached kind n l k q → p < q → ⊥
+  reached-first {p} a b h = omega (arith, a .at (omega (arith, b .within)), b .below p h)
+
+  pub reached-one : {p q : ℕ} → Reached kind n l k p → Reached kind n l k q → p ≡ q
+  reached-one a b = neither-less _ _ (reached-first a b) (reached-first b a)
+
+  past-first : {from p q : ℕ} → FirstPast kind n l from k p → FirstPast kind n l from k q → p < q → ⊥
+  past-first {p = p} a b h = omega (arith, a .at (omega (arith, b .within)), b .before p h (a .from))
+
+  pub first-past-one : {from p q : ℕ} → FirstPast kind n l from k p → FirstPast kind n l from k q → p ≡ q
+  first-past-one a b = neither-less _ _ (past-first a b) (past-first b a)

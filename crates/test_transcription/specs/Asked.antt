@@ -116,7 +116,8 @@ module _ (rust : Functions) (o : ℕ) (starts ends : List ℕ) where
 
   -- of two sets: union, intersection, and what the operators for them collect
   unfoldable pub setPair : List Span → List Span → ℕ
-  setPair a b = packed (2 ^ 28) (answerCode o (rust .union a b) ∷ answerCode o (rust .intersection a b) ∷ answerCode o (rust .bit-or a b) ∷ answerCode o (rust .bit-and a b) ∷ [])
+  setPair a b = packed (2 ^ 28) (answerCode o (rust .union a b) ∷ answerCode o (rust .intersection a b) ∷ answerCode o
+      (rust .bit-or a b) ∷ answerCode o (rust .bit-and a b) ∷ [])
 
   unfoldable pub setPairs : List (List Span) → List (List Span) → List ℕ
   setPairs [] bs = []

@@ -82,3 +82,7 @@ pub space-more : (i : ℕ) {out out₁ : List ℕ} {at : ℕ}
 space-more i {out} {out₁} {at} a =
     let p : at + i + 1 ≡ at + (i + 1) = omega arith in
     rw p at (adds-as (replicate-append-replicate i 1 space) (adds-byte space a))
+
+-- ONE OUTCOME: the place behind the text, and the lent bytes
+pub adds-one : {t out out₁ out₂ : List ℕ} {at r₁ r₂ : ℕ} → Adds t out at out₁ r₁ → Adds t out at out₂ r₂ → (r₁ ≡ r₂) × (out₁ ≡ out₂)
+adds-one a b = (a .upto ∙ sym (b .upto), a .puts ∙ sym (b .puts))

@@ -16,7 +16,7 @@ use Rattle.key.specs.Range.{halfOpen}
 use Rattle.key.proofs.Laws.{rank-below, key-fits, rank-key}
 use Rattle.outcomes.specs.Stored.{Stored, ranges}
 use Rattle.outcomes.specs.Outcomes.{Edited}
-use Rattle.duty.specs.Duty.{tallying}
+use Rattle.duty.specs.Duty.{tallySound}
 use Rattle.duty.proofs.Sums.{same-totals, same-strange}
 use Rattle.log_day.specs.Days.{dayOf}
 use Rattle.log_day.specs.Promises.{LogDayPromise}
@@ -55,7 +55,7 @@ module _ (z y mo d : ℕ) (day : LogDay) (told : LogDayPromise z y mo d day) (is
   -- two well-formed maps that hold the same at every key of the day have the same report
   same-report : {a b : Stored} → Proper halfOpen a → Proper halfOpen b → ((k : ℤ) → InDay day k → valueAt halfOpen a k ≡ valueAt halfOpen b k)
       → dayReport a z y mo d ≡ dayReport b z y mo d
-  unfolding dayReport tallying
+  unfolding dayReport tallySound
   same-report {a} {b} p q agree =
       let real = day-window z y mo d span .real in
       let alike : (k : ℕ) → rank s ≤ k → k < rank e → at (ranges halfOpen a) k ≡ at (ranges halfOpen b) k =

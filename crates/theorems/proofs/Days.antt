@@ -11,7 +11,7 @@ use Rattle.key.specs.Range.{halfOpen}
 use Rattle.key.proofs.Laws.{rank-pos}
 use Rattle.outcomes.specs.Stored.{Stored, ranges}
 use Rattle.outcomes.specs.Outcomes.{formed}
-use Rattle.duty.specs.Duty.{strange, totalsOf, tallying}
+use Rattle.duty.specs.Duty.{strange, totalsOf, tallySound}
 use Rattle.duty.specs.declared.Totals.{Totals}
 use Rattle.duty.specs.declared.Tallied.the-variants as Tallied
 use Rattle.calendar.specs.Calendar.{date, nextDate}
@@ -46,7 +46,7 @@ module _ (m : Stored) (z y mo d : ℕ) where
   of-tally s e false u h = record { start = s; end = e; totals = u; is = refl }
 
   of-day : (x : Day) → dayOf z y mo d ≡ x → reportedInC (dayReportSound m x) .answer ≡ 0 → Totalled (dayReportSound m x)
-  unfolding tallying
+  unfolding tallySound
   of-day (Day.Span s e) q h = of-tally s e (strange (rank s) (rank e) (ranges halfOpen m)) (totalsOf (rank s) (rank e) (ranges halfOpen m)) h
   of-day (Day.Refused n) q h = absurd (omega (arith, refused-is z y mo d q))
 

@@ -210,6 +210,10 @@ range-set-histories : Histories halfOpen Set.held RangeSetAfter setCallEffect (G
 range-set-histories =
     histories half-open Set.held RangeSetCall setCallEffect (GoodSet halfOpen) (λ m g. g .0) (clear-proper half-open, new-set half-open) range-set-step
 
+-- what calls leave is a set: well formed, with all its places, and no value but 0
+pub range-set-good : (cs : List SetCall) (n : RangeSet) → RangeSetAfter cs n → Proper halfOpen (Set.held n) × (plain (Set.held n) ≡ true)
+range-set-good = range-set-histories .good
+
 -- after any calls from a new set, lookup answers 0 of each key that the last call over it covered, and 5 of any other
 pub range-set-last-value : (cs : List SetCall) (n : RangeSet) (k : ℤ) (r : Range) → RangeSetAfter cs n → RangeSetGet n k r
     → Says r (lastGiven halfOpen setCallEffect cs k none)
@@ -241,6 +245,11 @@ range-inclusive-set-histories : Histories inclusive InclusiveSet.held RangeInclu
 range-inclusive-set-histories =
     histories inclusive-too InclusiveSet.held RangeInclusiveSetCall setCallEffect (GoodSet inclusive) (λ m g. g .0)
     (clear-proper inclusive-too, new-set inclusive-too) range-inclusive-set-step
+
+-- what calls leave is a set
+pub range-inclusive-set-good : (cs : List SetCall) (n : RangeInclusiveSet) → RangeInclusiveSetAfter cs n
+    → Proper inclusive (InclusiveSet.held n) × (plain (InclusiveSet.held n) ≡ true)
+range-inclusive-set-good = range-inclusive-set-histories .good
 
 -- after any calls from a new set, lookup answers 0 of each key that the last call over it covered, and 5 of any other
 pub range-inclusive-set-last-value : (cs : List SetCall) (n : RangeInclusiveSet) (k : ℤ) (r : Range) → RangeInclusiveSetAfter cs n → RangeInclusiveSetGet n k r

@@ -16,7 +16,7 @@ use Rattle.outcomes.specs.declared.Asked.the-variants as Asked
 use Rattle.outcomes.specs.declared.Count.{Count}
 use Rattle.outcomes.specs.declared.Told.{Told}
 use Rattle.one_map.proofs.Refusals.{Refusal, refuse, firstNumber, unformed, both-pass, lets-pass, toldNumber, told-done, listNumber, writing-order}
-use Rattle.duty.specs.Duty.{strange, totalsOf, tallying}
+use Rattle.duty.specs.Duty.{strange, totalsOf, tallySound}
 use Rattle.duty.specs.declared.Tallied.the-variants as Tallied
 use Rattle.log_day.specs.Days.{dayOf}
 use Rattle.log_day.specs.declared.Day.{Day}
@@ -95,7 +95,7 @@ strangeIn m z y mo d = refuse (byDay (dayOf z y mo d) (λ s e. strange (rank s) 
 -- A DAY'S REPORT: 4, 8, 10
 pub report-order : (m : RangeMap) (z y mo d : ℕ) (r : DayReport) → RangeMapDayReport m z y mo d r
     → r .answer ≡ firstNumber (unformed halfOpen (held m) ∷ noDay z y mo d ∷ strangeIn m z y mo d ∷ [])
-unfolding dayReport tallying
+unfolding dayReport tallySound
 report-order m z y mo d r q =
     ap (λ (x : DayReport). x .answer) q ∙ lets-pass reportNumber (formed halfOpen (held m)) refl (of-day (dayOf z y mo d) refl)
   where

@@ -13,7 +13,9 @@ use lib.ListN.{length-set}
 use Rattle.span.specs.Span.{Span}
 use Rattle.key.specs.Rank.{keyAt}
 use Rattle.key.specs.Range.{Kind}
+use Rattle.key.proofs.Answers.{one-answer}
 use Rattle.range_list.specs.InnerLists.{ListRoom, Puts}
+use Rattle.range_list.proofs.Unique.{puts-one}
 use Rattle.two_sets.specs.InnerLists.{Counting, Going, Ended}
 
 -- one range more is counted, or none
@@ -96,3 +98,8 @@ module _ (kind : Kind) {os oe os₁ oe₁ : List ℤ} {goal todo : List Span} (s
 
   pub none-written : todo ≡ [] → Ended kind 0 goal os oe 0 os₁ oe₁
   none-written n = let g = t ∙ n in record { count = rw g refl; puts = record { starts = rw g s; ends = rw g e } }
+
+-- ONE OUTCOME of what is written: the number, and both lent lists
+pub ended-one : {kind : Kind} {n r t : ℕ} {xs : List Span} {os oe ss es ss′ es′ : List ℤ} → Ended kind n xs os oe r ss es → Ended kind n xs os oe t ss′ es′
+    → (r ≡ t) × (ss ≡ ss′) × (es ≡ es′)
+ended-one a b = let p = puts-one (a .puts) (b .puts) in (one-answer (a .count) (b .count), p .0, p .1)

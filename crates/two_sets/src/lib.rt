@@ -11,6 +11,7 @@ ghost use Prim.Native.Nat.{_+_, _≤_};
 ghost use lib.Dec.{ltb};
 ghost use Rattle.key.specs.Rank.{rank};
 ghost use Rattle.key.specs.Range.{kindOf};
+ghost use Rattle.key.specs.InnerDecides.{Decides};
 ghost use Rattle.outcomes.specs.Stored.{atEntryWith};
 ghost use Rattle.outcomes.specs.Sets.{formedSet, SoundSet};
 ghost use Rattle.two_sets.specs.InnerKind.{wide};
@@ -76,7 +77,7 @@ pub fn pick(yes: bool, a: i64, b: i64) -> i64
 
 // Whether there is room for as many ranges as two sets have together. Then none need be counted.
 pub fn roomy(count_a: usize, count_b: usize, room: usize) -> bool
-    ensures { λ r. ⌜ (r ≡ true → «count_a» + «count_b» ≤ room) ⌝ }
+    ensures { λ r. ⌜ Decides r («count_a» + «count_b» ≤ room) ⌝ }
 {
     if room < count_a {
         return false;

@@ -1,2 +1,3 @@
--- Steps (the walk, one step at a time).
+-- Steps (the walk, one step at a time), Unique (one answer).
 pub mod Steps
+pub mod Unique

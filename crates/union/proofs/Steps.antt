@@ -36,10 +36,10 @@ alone r there h s e = record { there = there; start = s; end = e; first = λ i. 
 
 module _ {ss es ts us : List ℤ} {n m k l : ℕ} (r : Taken) (there : k < n) where
   pub next-left : m ≤ l → r .left ≡ true → rank (r .start) ≡ rank (getD ss k (pos 0)) → rank (r .end) ≡ rank (getD es k (pos 0)) → TakesNext ss es n k ts us m l r
-  next-left h f s e = record { lefts = λ _. alone r there h s e; rights = λ g. never (sym g ∙ f) }
+  next-left h f s e = record { lefts = λ _. alone r there h s e; rights = λ g. never (sym g ∙ f); sooner = λ _ i. absurd (omega arith) }
 
   pub next-right : m ≤ l → r .left ≡ false → rank (r .start) ≡ rank (getD ss k (pos 0)) → rank (r .end) ≡ rank (getD es k (pos 0)) → TakesNext ts us m l ss es n k r
-  next-right h f s e = record { lefts = λ g. never (sym f ∙ g); rights = λ _. alone r there h s e }
+  next-right h f s e = record { lefts = λ g. never (sym f ∙ g); rights = λ _. alone r there h s e; sooner = λ g. never (sym f ∙ g) }
 
   pub next-both : l < m → r .left ≡ ltb (rank (getD ss k (pos 0))) (rank (getD ts l (pos 0)))
       → rank (r .start) ≡ cond (r .left) (rank (getD ss k (pos 0))) (rank (getD ts l (pos 0)))
@@ -57,6 +57,7 @@ module _ {ss es ts us : List ℤ} {n m k l : ℕ} (r : Taken) (there : k < n) wh
       end = rw g at e;
       first = λ _. ltb-false (rank (getD ss k (pos 0))) (rank (getD ts l (pos 0))) (sym f ∙ g);
     };
+    sooner = λ g _. ltb-true (rank (getD ss k (pos 0))) (rank (getD ts l (pos 0))) (sym f ∙ g);
   }
 
 -- the open range from lo to w + h, and a range from s to w + e that starts no sooner, before all others

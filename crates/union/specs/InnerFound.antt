@@ -1,10 +1,11 @@
 -- What the walk finds from two places on, in two sets that are lent as columns.
 use Prim.Native.Nat.{ℕ, _+_, _≤_, _<_}
 use mathlib.Core.Path.{_≡_}
-use mathlib.Core.Bool.{true, false}
+use mathlib.Core.Bool.{true, false, not}
 use mathlib.Core.List.{List}
 use lib.ListN.{getD}
 use lib.IntN.{ℤ, pos}
+use mir.Val.{boolByte}
 use Rattle.span.specs.Span.{Span, span, Ordered}
 use Rattle.span.specs.Operations.{absorb, united}
 use Rattle.key.specs.Rank.{rank}
@@ -39,12 +40,6 @@ openAt kind sa ea na sb eb nb r = openFrom kind (rank (r .start)) (rank (r .end)
 abbrev pub OpenedAt : RangeKind → List ℤ → List ℤ → ℕ → List ℤ → List ℤ → ℕ → Position → Type 0
 OpenedAt kind sa ea na sb eb nb r = Opened kind (rank (r .start)) (rank (r .end)) sa ea na (r .i) sb eb nb (r .j)
 
--- the walk is there once the first range is taken: nothing is written, and the whole union is still to be
-pub record First (kind : RangeKind) (sa ea : List ℤ) (na : ℕ) (sb eb : List ℤ) (nb : ℕ) (r : Position) : Type 0 where
-  pub none-yet : r .at ≡ 0
-  pub all : either kind sa ea na sb eb nb ≡ openAt kind sa ea na sb eb nb r
-  pub opened : OpenedAt kind sa ea na sb eb nb r
-
 -- the range at place k of a set of n is taken, where the other set, of m, is at place l: it starts no later than the range there
 pub record Takes (ss es : List ℤ) (n k : ℕ) (ts : List ℤ) (m l : ℕ) (r : Taken) : Type 0 where
   pub there : k < n
@@ -52,7 +47,20 @@ pub record Takes (ss es : List ℤ) (n k : ℕ) (ts : List ℤ) (m l : ℕ) (r :
   pub end : rank (r .end) ≡ rank (getD es k (pos 0))
   pub first : l < m → rank (getD ss k (pos 0)) ≤ rank (getD ts l (pos 0))
 
--- it is taken from the left set, or from the right one
+-- it is taken from the left set, or from the right one; of two that start together the right one is taken
 pub record TakesNext (sa ea : List ℤ) (na i : ℕ) (sb eb : List ℤ) (nb j : ℕ) (r : Taken) : Type 0 where
   pub lefts : r .left ≡ true → Takes sa ea na i sb nb j r
   pub rights : r .left ≡ false → Takes sb eb nb j sa na i r
+  pub sooner : r .left ≡ true → j < nb → rank (getD sa i (pos 0)) < rank (getD sb j (pos 0))
+
+-- the walk is there once the first range is taken: that is open, its set is at the next place, nothing is written, and the whole union is still to be
+pub record First (kind : RangeKind) (sa ea : List ℤ) (na : ℕ) (sb eb : List ℤ) (nb : ℕ) (r : Position) : Type 0 where
+  pub taken : Taken
+  pub next : TakesNext sa ea na 0 sb eb nb 0 taken
+  pub in-left : r .i ≡ boolByte (taken .left)
+  pub in-right : r .j ≡ boolByte (not (taken .left))
+  pub start : rank (r .start) ≡ rank (taken .start)
+  pub end : rank (r .end) ≡ rank (taken .end)
+  pub none-yet : r .at ≡ 0
+  pub all : either kind sa ea na sb eb nb ≡ openAt kind sa ea na sb eb nb r
+  pub opened : OpenedAt kind sa ea na sb eb nb r

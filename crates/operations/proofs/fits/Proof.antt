@@ -11,7 +11,7 @@ roomy-requires c κs = tt
 returns : tie.Need-returns
 returns c =
     let s = c .before .before in
-    holds (omega (arith, most (s .args .operation) (s .args .kind) (s .pre .0) (s .pre .1), c .before .roomy .ensures (c .if1 .taken)))
+    holds (omega (arith, most (s .args .operation) (s .args .kind) (s .pre .0) (s .pre .1), c .before .roomy .ensures .right (c .if1 .taken)))
 
 counted-requires : tie.Need-counted-requires
 counted-requires c κs = c .before .before .pre

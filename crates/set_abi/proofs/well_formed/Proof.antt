@@ -7,7 +7,7 @@ is-set-requires : tie.Need-is-set-requires
 is-set-requires c κs = search needs
 
 returns : tie.Need-returns
-returns c = c .is-set .ensures .0
+returns c = c .is-set .ensures
 
 pub well-formed-spec : {M : Type 1} → statement M
 well-formed-spec = tie.close (tie.spec is-set-requires returns)

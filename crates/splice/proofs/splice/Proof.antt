@@ -19,29 +19,29 @@ use Rattle.splice.proofs.splice.Tie as tie
 abbrev entry : tie.After-struct-told3 → tie.Start
 entry c = c .before .before .before .before .before .before .before .before
 
-abbrev starts-done : tie.After-struct-told6 → tie.After-splice-i64
+abbrev starts-done : tie.After-struct-told6 → tie.After-splice-keys
 starts-done c = c .before .before .before .before .before
 
-abbrev ends-done : tie.After-splice-u8-arg → tie.After-splice-i642
+abbrev ends-done : tie.After-splice-values-arg → tie.After-splice-keys2
 ends-done c = c .before .before
 
-abbrev values-done : tie.After-slice-known2 → tie.After-splice-u8
+abbrev values-done : tie.After-slice-known2 → tie.After-splice-values
 values-done c = c .before .before
 
 -- each column has room for what comes
 fits : (s : tie.Start) (len : ℕ) → len ≡ length (s .args .starts .now) → Room (s .args .count) (s .args .p) len
 fits s len e = let cols = s .pre .0 in record { held = omega (arith, cols .held); room = omega (arith, s .pre .2 .room) }
 
-splice-i64-requires : tie.Need-splice-i64-requires
-splice-i64-requires c κs = let s = entry c in (s .pre .1, s .pre .2, s .pre .0 .spare-starts)
+splice-keys-requires : tie.Need-splice-keys-requires
+splice-keys-requires c κs = let s = entry c in (s .pre .1, s .pre .2, s .pre .0 .spare-starts)
 
-splice-i64-requires-2 : tie.Need-splice-i64-requires-2
-splice-i64-requires-2 c κs =
+splice-keys-requires-2 : tie.Need-splice-keys-requires-2
+splice-keys-requires-2 c κs =
     let s = entry (starts-done c .before) in
     (s .pre .1, fits s _ (s .pre .0 .ends-as), s .pre .0 .spare-ends)
 
-splice-u8-requires : tie.Need-splice-u8-requires
-splice-u8-requires c κs =
+splice-values-requires : tie.Need-splice-values-requires
+splice-values-requires c κs =
     let s = entry (starts-done (ends-done c .before) .before) in
     (s .pre .1, fits s _ (s .pre .0 .values-as), s .pre .0 .spare-values)
 
@@ -71,11 +71,11 @@ returns c =
     let g = entry (starts .before) .args in
     let p = g .p in (
       back (g .starts .now) (g .count) p (p .x .start) (p .y .start) (p .z .start)
-          (sfits-of (x .0 .1)) (sfits-of (y .0 .1)) (sfits-of (z .0 .1)) (starts .splice-i64 .ensures),
+          (sfits-of (x .0 .1)) (sfits-of (y .0 .1)) (sfits-of (z .0 .1)) (starts .splice-keys .ensures),
       (
         back (g .ends .now) (g .count) p (p .x .end) (p .y .end) (p .z .end)
-            (sfits-of (x .1 .0 .1)) (sfits-of (y .1 .0 .1)) (sfits-of (z .1 .0 .1)) (ends .splice-i642 .ensures),
-        values .splice-u8 .ensures,
+            (sfits-of (x .1 .0 .1)) (sfits-of (y .1 .0 .1)) (sfits-of (z .1 .0 .1)) (ends .splice-keys2 .ensures),
+        values .splice-values .ensures,
       ),
     )
 
@@ -83,9 +83,9 @@ pub splice-spec : {M : Type 1} → statement M
 splice-spec =
     tie.close
     (tie.spec
-    splice-i64-requires
-    splice-i64-requires-2
-    splice-u8-requires
+    splice-keys-requires
+    splice-keys-requires-2
+    splice-values-requires
     same-length
     same-length-2
     same-length-3

@@ -9,20 +9,20 @@ use borrow.Author.Needs.{needs}
 use Rattle.map_ops.proofs.change.clear.Statement.{statement}
 use Rattle.map_ops.proofs.change.clear.Tie as tie
 
-clear-i64-requires : tie.Need-clear-i64-requires
-clear-i64-requires c κs = search needs
+clear-keys-requires : tie.Need-clear-keys-requires
+clear-keys-requires c κs = search needs
 
-clear-i64-requires-2 : tie.Need-clear-i64-requires-2
-clear-i64-requires-2 c κs = search needs
+clear-keys-requires-2 : tie.Need-clear-keys-requires-2
+clear-keys-requires-2 c κs = search needs
 
-clear-u8-requires : tie.Need-clear-u8-requires
-clear-u8-requires c κs = search needs
+clear-values-requires : tie.Need-clear-values-requires
+clear-values-requires c κs = search needs
 
 returns : tie.Need-returns
 unfolding clear storing filled
 returns c =
     let a = c .before .before .before .before .before .before .args in
-    λ k. rw (c .before .before .before .before .clear-i64 .ensures ∙ all-clear (a .starts .now) (pos 0) {n = places} (omega arith), c .before .before .clear-i642 .ensures ∙ all-clear (a .ends .now) (pos 0) {n = places} (omega arith), c .clear-u8 .ensures ∙ all-clear (a .values .now) 0 {n = places} (omega arith))
+    λ k. rw (c .before .before .before .before .clear-keys .ensures ∙ all-clear (a .starts .now) (pos 0) {n = places} (omega arith), c .before .before .clear-keys2 .ensures ∙ all-clear (a .ends .now) (pos 0) {n = places} (omega arith), c .clear-values .ensures ∙ all-clear (a .values .now) 0 {n = places} (omega arith))
 
 pub clear-spec : {M : Type 1} → statement M
-clear-spec = tie.close (tie.spec clear-i64-requires clear-i64-requires-2 clear-u8-requires returns)
+clear-spec = tie.close (tie.spec clear-keys-requires clear-keys-requires-2 clear-values-requires returns)

@@ -24,7 +24,7 @@ roomy-requires c κs = tt
 returns : tie.Need-returns
 returns c =
     let known = c .before .before .before .before .pre .4 in
-    λ zs g. holds (omega (arith, ap (λ (l : List Span). length l) (only g (known .to-come)), known .few, c .before .roomy .ensures (c .if1 .taken)))
+    λ zs g. holds (omega (arith, ap (λ (l : List Span). length l) (only g (known .to-come)), known .few, c .before .roomy .ensures .right (c .if1 .taken)))
 
 count-requires : tie.Need-count-requires
 count-requires c κs =

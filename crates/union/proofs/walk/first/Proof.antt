@@ -22,7 +22,17 @@ returns c =
     let x = c .before .before .before in
     let s = x .before in
     let f = first-open (s .args .kind) (s .pre .0) (s .pre .1) (x .next .result) (x .next .ensures) in
-    record { none-yet = refl; all = simp rank-back (f .0); opened = simp rank-back (f .1) }
+    record {
+      taken = x .next .result;
+      next = x .next .ensures;
+      in-left = refl;
+      in-right = refl;
+      start = rank-back _;
+      end = rank-back _;
+      none-yet = refl;
+      all = simp rank-back (f .0);
+      opened = simp rank-back (f .1);
+    }
 
 pub first-spec : {M : Type 1} → statement M
 first-spec = tie.close (tie.spec next-requires cast-i cast-j returns)
