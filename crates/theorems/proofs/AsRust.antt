@@ -18,8 +18,10 @@ use Rattle.key.specs.Range.{Kind, halfOpen, inclusive}
 use Rattle.key.proofs.Lawful.{half-open, inclusive-too}
 use Rattle.outcomes.specs.Stored.{Stored, ranges}
 use Rattle.outcomes.specs.Outcomes.{Edited, Listed, leaving, edit, edits, intoLists, yesNo, comparedBy}
+use Rattle.outcomes.specs.Outcomes.{Entry, Extended, bulkInsert, bulkInsertSound, entries, extended}
 use Rattle.outcomes.specs.Numbers.{askedInC, foundInC, comparedInC}
 use Rattle.outcomes.specs.Sets.{plain, SoundSet}
+use Rattle.outcomes.specs.declared.Applied.{Applied}
 use Rattle.outcomes.specs.declared.Count.{Count}
 use Rattle.outcomes.specs.declared.Order.{Order}
 use Rattle.outcomes.specs.declared.Range.{Range}
@@ -28,17 +30,18 @@ use Rattle.outcomes.specs.declared.Told.{Told}
 use Rattle.rust_algorithm.specs.Btree.{nth}
 use Rattle.rust_algorithm.specs.Map.{map-first, map-last, map-len, map-is-empty}
 use Rattle.rust_algorithm.specs.Answers.{Functions, rustFound, rustEdited, rustRun}
-use Rattle.rust_algorithm.specs.Equal.{LentMap, SameOfSets, EqualToTheRust}
+use Rattle.rust_algorithm.specs.Equal.{LentMap, SameOfSets, EqualToTheRust, entrySpans}
 use Rattle.one_map.specs.Events.{Proper}
+use Rattle.one_map.proofs.Known.{proper-formed}
 use Rattle.map.specs.declared.RangeMap.{RangeMap}
 use Rattle.map.specs.Map as Map
 use Rattle.map.specs.Promises.{RangeMapCmp, RangeMapContainsKey, RangeMapEq, RangeMapFirstRangeValue, RangeMapGaps, RangeMapGetKeyValue, RangeMapIsEmpty}
-use Rattle.map.specs.Promises.{RangeMapLastRangeValue, RangeMapLen, RangeMapOverlapping, RangeMapOverlaps, RangeMapRangeAt}
+use Rattle.map.specs.Promises.{RangeMapExtend, RangeMapLastRangeValue, RangeMapLen, RangeMapOverlapping, RangeMapOverlaps, RangeMapRangeAt}
 use Rattle.inclusive_map.specs.declared.RangeInclusiveMap.{RangeInclusiveMap}
 use Rattle.inclusive_map.specs.Map as InclusiveMap
 use Rattle.inclusive_map.specs.Promises.{RangeInclusiveMapCmp, RangeInclusiveMapContainsKey, RangeInclusiveMapEq, RangeInclusiveMapFirstRangeValue}
 use Rattle.inclusive_map.specs.Promises.{RangeInclusiveMapGaps, RangeInclusiveMapGetKeyValue, RangeInclusiveMapIsEmpty, RangeInclusiveMapLastRangeValue}
-use Rattle.inclusive_map.specs.Promises.{RangeInclusiveMapLen, RangeInclusiveMapOverlapping, RangeInclusiveMapOverlaps, RangeInclusiveMapRangeAt}
+use Rattle.inclusive_map.specs.Promises.{RangeInclusiveMapExtend, RangeInclusiveMapLen, RangeInclusiveMapOverlapping, RangeInclusiveMapOverlaps, RangeInclusiveMapRangeAt}
 use Rattle.set.specs.declared.RangeSet.{RangeSet}
 use Rattle.set.specs.Set as Set
 use Rattle.set.specs.Promises.{RangeSetIntersection, RangeSetUnion}
@@ -51,7 +54,7 @@ use Rattle.theorems.proofs.Steps.{either-door}
 use Rattle.theorems.proofs.Histories.{range-map-proper, range-inclusive-map-proper, range-set-good, range-inclusive-set-good}
 
 -- a map that calls leave is lent as the theorem of the Rust wants it
-lent : {kind : Kind} {m : Stored} → Proper kind m → LentMap kind m
+pub lent : {kind : Kind} {m : Stored} → Proper kind m → LentMap kind m
 lent p = record { sound = p .sound; full-size = p .all-places }
 
 -- edits of which there is one
@@ -62,7 +65,7 @@ only-one a = go (eqb (a .answer) done) refl
     go true e = ap (λ (n : ℕ). leaving n (a .left)) (sym (eqb-true (a .answer) done e))
     go false e = refl
 
-one-edit : {kind : Kind} (rust : Functions) → EqualToTheRust kind rust → (m : Stored) (s e : ℤ) (new : Option ℕ) → LentMap kind m
+pub one-edit : {kind : Kind} (rust : Functions) → EqualToTheRust kind rust → (m : Stored) (s e : ℤ) (new : Option ℕ) → LentMap kind m
     → edit kind m s e new ≡ rustEdited kind rust m s e new
 unfolding edits rustRun
 one-edit {kind} rust same m s e new l =
@@ -137,6 +140,16 @@ module _ (rust : Functions) (same : EqualToTheRust halfOpen rust) (cs : List Cal
   pub range-map-cmp-as-rust : (ds : List Call) (o : RangeMap) (r : Order) → RangeMapAfter ds o → RangeMapCmp n o r
       → r ≡ comparedInC (comparedBy (rust .cmp range-map-held (ranges halfOpen (Map.held o))))
   range-map-cmp-as-rust ds o r other q = q ∙ ap comparedInC (same .order (Map.held n) (Map.held o) range-map-lent (lent (range-map-proper ds o other)) .cmp)
+
+  -- BULK INSERT: the Rust's extend of as many entries as were applied leaves what the map holds then
+  pub range-map-extend-as-rust : (n′ : RangeMap) (ss es : List ℤ) (vs : List ℕ) (r : Applied) → RangeMapExtend n n′ ss es vs r
+      → rust .extend (entrySpans halfOpen (take (r .applied) (entries ss es vs))) range-map-held ≡ some (ranges halfOpen (Map.held n′))
+  range-map-extend-as-rust n′ ss es vs r q =
+      let xs : List Entry = entries ss es vs in
+      let is : extended r (Map.held n′) ≡ bulkInsertSound halfOpen (Map.held n) 0 xs =
+      q ∙ (unfold bulkInsert in rw (proper-formed (range-map-proper cs n left))) in
+      subst (λ (o : Extended). rust .extend (entrySpans halfOpen (take (o .told .applied) xs)) range-map-held ≡ some (ranges halfOpen (o .left))) (sym is)
+      (same .extend (Map.held n) xs range-map-lent)
 
 -- THE INCLUSIVE MAP
 module _ (rust : Functions) (same : EqualToTheRust inclusive rust) (cs : List Call) (n : RangeInclusiveMap) (left : RangeInclusiveMapAfter cs n) where
@@ -218,6 +231,16 @@ module _ (rust : Functions) (same : EqualToTheRust inclusive rust) (cs : List Ca
       → r ≡ comparedInC (comparedBy (rust .cmp range-inclusive-map-held (ranges inclusive (InclusiveMap.held o))))
   range-inclusive-map-cmp-as-rust ds o r other q =
       q ∙ ap comparedInC (same .order (InclusiveMap.held n) (InclusiveMap.held o) range-inclusive-map-lent (lent (range-inclusive-map-proper ds o other)) .cmp)
+
+  -- BULK INSERT: the Rust's extend of as many entries as were applied leaves what the map holds then
+  pub range-inclusive-map-extend-as-rust : (n′ : RangeInclusiveMap) (ss es : List ℤ) (vs : List ℕ) (r : Applied) → RangeInclusiveMapExtend n n′ ss es vs r
+      → rust .extend (entrySpans inclusive (take (r .applied) (entries ss es vs))) range-inclusive-map-held ≡ some (ranges inclusive (InclusiveMap.held n′))
+  range-inclusive-map-extend-as-rust n′ ss es vs r q =
+      let xs : List Entry = entries ss es vs in
+      let is : extended r (InclusiveMap.held n′) ≡ bulkInsertSound inclusive (InclusiveMap.held n) 0 xs =
+      q ∙ (unfold bulkInsert in rw (proper-formed (range-inclusive-map-proper cs n left))) in
+      subst (λ (o : Extended). rust .extend (entrySpans inclusive (take (o .told .applied) xs)) range-inclusive-map-held ≡ some (ranges inclusive (o .left))) (sym is)
+      (same .extend (InclusiveMap.held n) xs range-inclusive-map-lent)
 
 -- a set that calls leave is sound
 sound-set : {kind : Kind} {m : Stored} → Proper kind m × (plain m ≡ true) → SoundSet kind m
