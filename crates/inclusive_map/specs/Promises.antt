@@ -4,6 +4,7 @@ use Prim.Native.Nat.{ℕ}
 use mathlib.Core.Path.{_≡_}
 use mathlib.Core.List.{List}
 use mathlib.Core.Bool.{Bool, true}
+use lib.ListN.{length}
 use lib.IntN.{ℤ}
 use mathlib.Core.Option.{some, none}
 use Rattle.key.specs.Range.{inclusive}
@@ -89,9 +90,9 @@ RangeInclusiveMapClear m m′ = held m′ ≡ clear inclusive
 abbrev pub RangeInclusiveMapExtend : RangeInclusiveMap → RangeInclusiveMap → List ℤ → List ℤ → List ℕ → Applied → Type 0
 RangeInclusiveMapExtend m m′ starts ends values r = extended r (held m′) ≡ bulkInsert inclusive (held m) (entries starts ends values)
 
--- `range_inclusive_map_well_formed`: whether a map is well formed. Where it is, it is what an unchecked door requires.
+-- `range_inclusive_map_well_formed`: whether a map is well formed. Where it is, it is what an unchecked door requires, and has all its places.
 abbrev pub RangeInclusiveMapWellFormed : RangeInclusiveMap → Bool → Type 0
-RangeInclusiveMapWellFormed m r = (r ≡ formed inclusive (held m)) × (r ≡ true → Sound inclusive (held m))
+RangeInclusiveMapWellFormed m r = (r ≡ formed inclusive (held m)) × (r ≡ true → Sound inclusive (held m) × (length (m .starts) ≡ places))
 
 -- `range_inclusive_map_get_key_value_unchecked`: lookup through the unchecked door: the map must be well formed.
 abbrev pub RangeInclusiveMapGetKeyValueUnchecked : RangeInclusiveMap → ℤ → Range → Type 0

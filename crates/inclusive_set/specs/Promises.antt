@@ -4,6 +4,7 @@ use Prim.Native.Nat.{ℕ}
 use mathlib.Core.Path.{_≡_}
 use mathlib.Core.List.{List}
 use mathlib.Core.Bool.{Bool, true}
+use lib.ListN.{length}
 use lib.IntN.{ℤ}
 use Rattle.key.specs.Range.{inclusive}
 use Rattle.outcomes.specs.Outcomes.{clear, Listed, leaving, extended}
@@ -11,6 +12,7 @@ use Rattle.inclusive_set.specs.Set.{held}
 use Rattle.outcomes.specs.Numbers.{askedInC, countedInC, foundInC, partInC, comparedInC, totalledInC}
 use Rattle.set_ops.specs.Answers.{setIsEmpty, setCount, setRangeAt, setFirst, setLast, setLookup, setContains, setOverlaps, setOverlapping, setGaps}
 use Rattle.set_ops.specs.Answers.{setEqual, setOrder, setInsert, setRemove, pairs, setBulkInsert}
+use Rattle.outcomes.specs.Stored.{places}
 use Rattle.outcomes.specs.Sets.{formedSet, SoundSet, intersection, union, totalOf}
 use Rattle.inclusive_set.specs.declared.RangeInclusiveSet.{RangeInclusiveSet}
 use Rattle.outcomes.specs.declared.Applied.{Applied}
@@ -90,9 +92,9 @@ RangeInclusiveSetExtend m m′ starts ends r = extended r (held m′) ≡ setBul
 abbrev pub RangeInclusiveSetClear : RangeInclusiveSet → RangeInclusiveSet → Type 0
 RangeInclusiveSetClear m m′ = held m′ ≡ clear inclusive
 
--- `range_inclusive_set_well_formed`: whether a set is well formed. Where it is, it is what an unchecked door requires.
+-- `range_inclusive_set_well_formed`: whether a set is well formed. Where it is, it is what an unchecked door requires, and has all its places.
 abbrev pub RangeInclusiveSetWellFormed : RangeInclusiveSet → Bool → Type 0
-RangeInclusiveSetWellFormed m r = (r ≡ formedSet inclusive (held m)) × (r ≡ true → SoundSet inclusive (held m))
+RangeInclusiveSetWellFormed m r = (r ≡ formedSet inclusive (held m)) × (r ≡ true → SoundSet inclusive (held m) × (length (m .starts) ≡ places))
 
 -- `range_inclusive_set_intersection`: the common points of two sets as maximal ranges, into the first places of two lent lists.
 abbrev pub RangeInclusiveSetIntersection : RangeInclusiveSet → RangeInclusiveSet → List ℤ → List ℤ → List ℤ → List ℤ → Count → Type 0

@@ -4,6 +4,7 @@ use Prim.Native.Nat.{ℕ}
 use mathlib.Core.Path.{_≡_}
 use mathlib.Core.List.{List}
 use mathlib.Core.Bool.{Bool, true}
+use lib.ListN.{length}
 use lib.IntN.{ℤ}
 use mathlib.Core.Option.{some, none}
 use Rattle.key.specs.Range.{halfOpen}
@@ -88,9 +89,9 @@ RangeMapClear m m′ = held m′ ≡ clear halfOpen
 abbrev pub RangeMapExtend : RangeMap → RangeMap → List ℤ → List ℤ → List ℕ → Applied → Type 0
 RangeMapExtend m m′ starts ends values r = extended r (held m′) ≡ bulkInsert halfOpen (held m) (entries starts ends values)
 
--- `range_map_well_formed`: whether a map is well formed. Where it is, it is what an unchecked door requires.
+-- `range_map_well_formed`: whether a map is well formed. Where it is, it is what an unchecked door requires, and has all its places.
 abbrev pub RangeMapWellFormed : RangeMap → Bool → Type 0
-RangeMapWellFormed m r = (r ≡ formed halfOpen (held m)) × (r ≡ true → Sound halfOpen (held m))
+RangeMapWellFormed m r = (r ≡ formed halfOpen (held m)) × (r ≡ true → Sound halfOpen (held m) × (length (m .starts) ≡ places))
 
 -- `range_map_get_key_value_unchecked`: lookup through the unchecked door: the map must be well formed.
 abbrev pub RangeMapGetKeyValueUnchecked : RangeMap → ℤ → Range → Type 0

@@ -16,6 +16,7 @@ use outcomes::stretch_of;
 use outcomes::told_of;
 ghost use mathlib.Core.Path.{_≡_};
 ghost use mathlib.Core.Bool.{true};
+ghost use lib.ListN.{length};
 ghost use Rattle.lent.specs.Moments.{was, becomes};
 ghost use Rattle.key.specs.Range.{kindOf};
 ghost use mathlib.Core.Option.{some, none};
@@ -254,7 +255,7 @@ pub fn well_formed(
     values: &[Value; PLACES],
 ) -> bool
     ensures { λ r. ⌜ (r ≡ formed (kindOf kind) (atEntry count starts ends values))
-        × (r ≡ true → Sound (kindOf kind) (atEntry count starts ends values)) ⌝ }
+        × (r ≡ true → Sound (kindOf kind) (atEntry count starts ends values) × (length (was starts) ≡ places)) ⌝ }
 {
     store::check::well_formed(kind, *count, starts, ends, values)
 }

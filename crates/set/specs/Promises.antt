@@ -4,6 +4,7 @@ use Prim.Native.Nat.{ℕ}
 use mathlib.Core.Path.{_≡_}
 use mathlib.Core.List.{List}
 use mathlib.Core.Bool.{Bool, true}
+use lib.ListN.{length}
 use lib.IntN.{ℤ}
 use Rattle.key.specs.Range.{halfOpen}
 use Rattle.outcomes.specs.Outcomes.{clear, Listed, leaving, extended}
@@ -11,6 +12,7 @@ use Rattle.set.specs.Set.{held}
 use Rattle.outcomes.specs.Numbers.{askedInC, countedInC, foundInC, partInC, comparedInC, totalledInC}
 use Rattle.set_ops.specs.Answers.{setIsEmpty, setCount, setRangeAt, setFirst, setLast, setLookup, setContains, setOverlaps, setOverlapping, setGaps}
 use Rattle.set_ops.specs.Answers.{setEqual, setOrder, setInsert, setRemove, pairs, setBulkInsert}
+use Rattle.outcomes.specs.Stored.{places}
 use Rattle.outcomes.specs.Sets.{formedSet, SoundSet, intersection, union, totalOf}
 use Rattle.outcomes.specs.declared.Applied.{Applied}
 use Rattle.outcomes.specs.declared.Count.{Count}
@@ -89,9 +91,9 @@ RangeSetExtend m m′ starts ends r = extended r (held m′) ≡ setBulkInsert h
 abbrev pub RangeSetClear : RangeSet → RangeSet → Type 0
 RangeSetClear m m′ = held m′ ≡ clear halfOpen
 
--- `range_set_well_formed`: whether a set is well formed. Where it is, it is what an unchecked door requires.
+-- `range_set_well_formed`: whether a set is well formed. Where it is, it is what an unchecked door requires, and has all its places.
 abbrev pub RangeSetWellFormed : RangeSet → Bool → Type 0
-RangeSetWellFormed m r = (r ≡ formedSet halfOpen (held m)) × (r ≡ true → SoundSet halfOpen (held m))
+RangeSetWellFormed m r = (r ≡ formedSet halfOpen (held m)) × (r ≡ true → SoundSet halfOpen (held m) × (length (m .starts) ≡ places))
 
 -- `range_set_intersection`: the common points of two sets as maximal ranges, into the first places of two lent lists.
 abbrev pub RangeSetIntersection : RangeSet → RangeSet → List ℤ → List ℤ → List ℤ → List ℤ → Count → Type 0

@@ -19,9 +19,10 @@ use outcomes::told_of;
 use outcomes::total_of;
 ghost use mathlib.Core.Path.{_≡_};
 ghost use mathlib.Core.Bool.{true};
+ghost use lib.ListN.{length};
 ghost use Rattle.lent.specs.Moments.{was, becomes};
 ghost use Rattle.key.specs.Range.{kindOf};
-ghost use Rattle.outcomes.specs.Stored.{atEntry, atExit};
+ghost use Rattle.outcomes.specs.Stored.{places, atEntry, atExit};
 ghost use Rattle.outcomes.specs.Numbers.{askedInC, countedInC, foundInC, partInC, comparedInC, totalledInC};
 ghost use Rattle.outcomes.specs.Outcomes.{Listed, leaving};
 ghost use Rattle.outcomes.specs.Sets.{formedSet, SoundSet, totalOf};
@@ -258,7 +259,7 @@ pub fn well_formed(
     values: &[Value; PLACES],
 ) -> bool
     ensures { λ r. ⌜ (r ≡ formedSet (kindOf kind) (atEntry count starts ends values))
-        × (r ≡ true → SoundSet (kindOf kind) (atEntry count starts ends values)) ⌝ }
+        × (r ≡ true → SoundSet (kindOf kind) (atEntry count starts ends values) × (length (was starts) ≡ places)) ⌝ }
 {
     store::plain::is_set(kind, *count, starts, ends, values)
 }

@@ -99,8 +99,9 @@ module _ (kind : Kind) {n : ℕ} {m : Stored} (shape : Shaped n m) where
 
 -- what the check found of the columns of a whole map, as the callers ask for it
 pub whole : (kind : Kind) {m : Stored} {r : Bool} → Shaped (length (m .starts)) m → length (m .starts) ≡ places → r ≡ wellFormed kind (length (m .starts)) m
-    → (r ≡ true → AllFit (m .starts) × AllFit (m .ends)) → (r ≡ wellFormed kind places m) × (r ≡ true → Sound kind m)
+    → (r ≡ true → AllFit (m .starts) × AllFit (m .ends))
+    → (r ≡ wellFormed kind places m) × ((r ≡ true → Sound kind m) × (r ≡ true → length (m .starts) ≡ places))
 whole kind {m} shape n e f = (
   e ∙ ap (λ (k : ℕ). wellFormed kind k m) n,
-  λ t. record { ends-as = shape .ends; values-as = shape .values; starts-fit = f t .0; ends-fit = f t .1; well = sym e ∙ t },
+  ((λ t. record { ends-as = shape .ends; values-as = shape .values; starts-fit = f t .0; ends-fit = f t .1; well = sym e ∙ t }), λ _. n),
 )

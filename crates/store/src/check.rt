@@ -11,7 +11,7 @@ ghost use Rattle.lent.specs.Moments.{was};
 ghost use Rattle.key.specs.InnerDecides.{Decides};
 ghost use Rattle.key.specs.Rank.{rank};
 ghost use Rattle.key.specs.Range.{halfOpen, inclusive, kindOf};
-ghost use Rattle.outcomes.specs.Stored.{Sound, Spare, atEntryWith};
+ghost use Rattle.outcomes.specs.Stored.{places, Sound, Spare, atEntryWith};
 ghost use Rattle.outcomes.specs.Outcomes.{formed};
 ghost use Rattle.store.specs.InnerCheck.{Follows, Steps, Keys, Unused};
 
@@ -155,7 +155,7 @@ fn unused(starts: &[i64], ends: &[i64], values: &[Value], count: usize) -> bool
     true
 }
 
-// Whether a lent map is well formed: `true` exactly where it is, and then it is sound.
+// Whether a lent map is well formed: `true` exactly where it is, and then it is sound and has all its places.
 pub fn well_formed(
     kind: RangeKind,
     count: usize,
@@ -165,6 +165,7 @@ pub fn well_formed(
 ) -> bool
     ensures { λ r. ⌜ r ≡ formed (kindOf kind) (atEntryWith count starts ends values) ⌝ }
     ensures { λ r. ⌜ (r ≡ true → Sound (kindOf kind) (atEntryWith count starts ends values)) ⌝ }
+    ensures { λ r. ⌜ (r ≡ true → length (was starts) ≡ places) ⌝ }
 {
     if !unused(starts, ends, values, count) {
         return false;

@@ -13,7 +13,7 @@ unfolding totalOf
 returns c = rw (sym (c .before .is-set .ensures .0) ∙ not-true _ (c .if1 .taken))
 
 total-unchecked-requires : tie.Need-total-unchecked-requires
-total-unchecked-requires c κs = let f = c .before .before .before in f .before .is-set .ensures .1 (not-false _ (f .if1 .left))
+total-unchecked-requires c κs = let f = c .before .before .before in f .before .is-set .ensures .1 .0 (not-false _ (f .if1 .left))
 
 returns-2 : tie.Need-returns-2
 unfolding totalOf

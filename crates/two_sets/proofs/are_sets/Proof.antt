@@ -18,7 +18,7 @@ returns-2 : tie.Need-returns-2
 returns-2 c =
     let first = c .before .before .is-set in
     let yes = not-false (first .result) (c .before .if1 .left) in
-    (rw (sym (first .ensures .0) ∙ yes) (c .is-set2 .ensures .0), λ e. (first .ensures .1 yes, c .is-set2 .ensures .1 e))
+    (rw (sym (first .ensures .0) ∙ yes) (c .is-set2 .ensures .0), λ e. (first .ensures .1 .0 yes, c .is-set2 .ensures .1 .0 e))
 
 pub are-sets-spec : {M : Type 1} → statement M
 are-sets-spec = tie.close (tie.spec is-set-requires returns is-set-requires-2 returns-2)

@@ -20,7 +20,7 @@ write-formed-requires : tie.Need-write-formed-requires
 write-formed-requires c κs =
     let f = c .before .before .well-formed in
     let yes = not-false _ (c .before .if1 .left) in
-    (f .ensures .1 yes, formed halfOpen places _ (sym (f .ensures .0) ∙ yes) .held)
+    (f .ensures .1 .0 yes, formed halfOpen places _ (sym (f .ensures .0) ∙ yes) .held)
 
 same-length : tie.Need-same-length
 same-length c = search needs

@@ -15,7 +15,7 @@ unfolding gaps
 returns c = rw (sym (c .before .well-formed .ensures .0) ∙ not-true _ (c .if1 .taken))
 
 gaps-requires : tie.Need-gaps-requires
-gaps-requires c κs = let l = c .before .before .before .before .before in l .before .well-formed .ensures .1 (not-false _ (l .if1 .left))
+gaps-requires c κs = let l = c .before .before .before .before .before in l .before .well-formed .ensures .1 .0 (not-false _ (l .if1 .left))
 
 same-length : tie.Need-same-length
 same-length c = search needs

@@ -15,7 +15,7 @@ unfolding lookup
 returns c = rw (sym (c .before .well-formed .ensures .0) ∙ not-true _ (c .if1 .taken))
 
 get-key-value-requires : tie.Need-get-key-value-requires
-get-key-value-requires c κs = c .before .before .before .before .well-formed .ensures .1 (not-false _ (c .before .before .before .if1 .left))
+get-key-value-requires c κs = c .before .before .before .before .well-formed .ensures .1 .0 (not-false _ (c .before .before .before .if1 .left))
 
 returns-2 : tie.Need-returns-2
 unfolding lookup

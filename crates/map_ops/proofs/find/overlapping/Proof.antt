@@ -15,7 +15,7 @@ unfolding overlapping
 returns c = rw (sym (c .before .well-formed .ensures .0) ∙ not-true _ (c .if1 .taken))
 
 overlapping-requires : tie.Need-overlapping-requires
-overlapping-requires c κs = c .before .before .before .before .well-formed .ensures .1 (not-false _ (c .before .before .before .if1 .left))
+overlapping-requires c κs = c .before .before .before .before .well-formed .ensures .1 .0 (not-false _ (c .before .before .before .if1 .left))
 
 returns-2 : tie.Need-returns-2
 unfolding overlapping

@@ -30,8 +30,8 @@ compare-requires c κs =
     let a = s .args in
     let m = stored (a .count .now) (a .starts .now) (a .ends .now) (a .values .now) in
     let n = stored (a .count2 .now) (a .starts2 .now) (a .ends2 .now) (a .values2 .now) in
-    let p = c .before .before .before .before .before .before .before .before .before .before .well-formed .ensures .1 (not-false _ (c .before .before .before .before .before .before .before .before .before .if1 .left)) in
-    let q = c .before .before .before .before .before .before .before .well-formed2 .ensures .1 (not-false _ (c .before .before .before .before .before .before .if2 .left)) in
+    let p = c .before .before .before .before .before .before .before .before .before .before .well-formed .ensures .1 .0 (not-false _ (c .before .before .before .before .before .before .before .before .before .if1 .left)) in
+    let q = c .before .before .before .before .before .before .before .well-formed2 .ensures .1 .0 (not-false _ (c .before .before .before .before .before .before .if2 .left)) in
     ((sound-held (kindOf (a .kind)) m p, p .ends-as, p .values-as), (sound-held (kindOf (a .kind)) n q, q .ends-as, q .values-as))
 
 returns-3 : tie.Need-returns-3

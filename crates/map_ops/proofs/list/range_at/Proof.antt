@@ -22,7 +22,7 @@ range-at-requires c κs =
     let s = c .before .before .before .before .before .before in
     let a = s .args in
     let m = stored (a .count .now) (a .starts .now) (a .ends .now) (a .values .now) in
-    let sound = c .before .before .before .before .well-formed .ensures .1 (not-false _ (c .before .before .before .if1 .left)) in
+    let sound = c .before .before .before .before .well-formed .ensures .1 .0 (not-false _ (c .before .before .before .if1 .left)) in
     let h = sound-held (kindOf (a .kind)) m sound in
     (h, omega (arith, sound .ends-as), omega (arith, sound .values-as))
 

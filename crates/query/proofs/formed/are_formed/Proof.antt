@@ -18,7 +18,7 @@ returns-2 : tie.Need-returns-2
 returns-2 c =
     let first = c .before .before .well-formed in
     let yes = not-false (first .result) (c .before .if1 .left) in
-    (rw (sym (first .ensures .0) ∙ yes) (c .well-formed2 .ensures .0), λ e. (first .ensures .1 yes, c .well-formed2 .ensures .1 e))
+    (rw (sym (first .ensures .0) ∙ yes) (c .well-formed2 .ensures .0), λ e. (first .ensures .1 .0 yes, c .well-formed2 .ensures .1 .0 e))
 
 pub are-formed-spec : {M : Type 1} → statement M
 are-formed-spec = tie.close (tie.spec well-formed-requires returns well-formed-requires-2 returns-2)

@@ -23,7 +23,7 @@ unfolding setBulkInsert bulkInsert plain
 returns-2 c = rw (sym (c .before .before .before .before .before .before .before .plain .ensures) ∙ not-false _ (c .before .before .before .before .before .before .if1 .left), sym (c .before .well-formed .ensures .0) ∙ not-true _ (c .if2 .taken))
 
 extend-formed-requires : tie.Need-extend-formed-requires
-extend-formed-requires c κs = c .before .before .before .before .before .well-formed .ensures .1 (not-false _ (c .before .before .before .before .if2 .left))
+extend-formed-requires c κs = c .before .before .before .before .before .well-formed .ensures .1 .0 (not-false _ (c .before .before .before .before .if2 .left))
 
 returns-3 : tie.Need-returns-3
 unfolding setBulkInsert bulkInsert plain

@@ -14,7 +14,7 @@ unfolding bulkInsert
 returns c = rw (sym (c .before .well-formed .ensures .0) ∙ not-true _ (c .if1 .taken))
 
 extend-formed-requires : tie.Need-extend-formed-requires
-extend-formed-requires c κs = c .before .before .before .before .before .well-formed .ensures .1 (not-false _ (c .before .before .before .before .if1 .left))
+extend-formed-requires c κs = c .before .before .before .before .before .well-formed .ensures .1 .0 (not-false _ (c .before .before .before .before .if1 .left))
 
 returns-2 : tie.Need-returns-2
 unfolding bulkInsert
