@@ -1,11 +1,12 @@
 -- WRONG ANSWERS: no function that meets insert's or remove's promise always answers one number (2, 4, 5 or any other), or leaves its map untouched; none that
 -- meets the report's calls every day unrecorded; none that meets the reader's always answers 6; none that meets the query's always answers 7.
 -- Each is told of inputs that a caller can give, and so of any function in memory.
-use Prim.Native.Nat.{ℕ, zero, suc, _+_, _<_}
+use Prim.Native.Nat.{ℕ, zero, suc, _+_}
 use native.Mathlib.Omega.{arith}
 use mathlib.Core.Path.{_≡_, refl, sym, ap, _∙_}
 use mathlib.Core.Bool.{Bool, true, _&&_}
 use mathlib.Core.List.{List, [], _∷_}
+use mathlib.Core.Option.{some, none}
 use borrow.Author.Tests.{ltb-true}
 use lib.Dec.{ltb}
 use lib.IntN.{ℤ, pos}
@@ -20,9 +21,9 @@ use Rattle.span.proofs.Tests.{both}
 use Rattle.key.specs.Rank.{aboveLeast, bitRank, keyAt}
 use Rattle.key.specs.Range.{Kind, halfOpen, inclusive}
 use Rattle.key.proofs.Lawful.{Lawful, half-open, inclusive-too}
-use Rattle.outcomes.specs.Stored.{Stored, spans, ranges, filled, storing, zeros, noughts, unused, wellFormed}
+use Rattle.outcomes.specs.Stored.{places, Stored, Sound, spans, ranges, filled, storing, zeros, noughts, unused, wellFormed}
 use Rattle.outcomes.specs.Numbers.{askedInC, countedInC}
-use Rattle.outcomes.specs.Outcomes.{entries, Written, intoLists, Edited, leaving, editSound, edit, insert, remove, clear}
+use Rattle.outcomes.specs.Outcomes.{Entry, entries, Written, intoLists, Edited, leaving, editSound, edit, insert, remove, clear}
 use Rattle.outcomes.specs.Sets.{plain}
 use Rattle.outcomes.specs.declared.Asked.the-variants as Asked
 use Rattle.outcomes.specs.declared.Counted.the-variants as Counted
@@ -33,13 +34,16 @@ use Rattle.byte_form.specs.Layout.{rm01}
 use Rattle.byte_form.specs.Bytes.{bytesOf, rangeBytes, Bytes}
 use Rattle.byte_form.specs.Form.{entriesOf, rangesBytes, formOf, read, InMemory}
 use Rattle.one_map.specs.Events.{Event, insertEvent, afterEvents}
+use Rattle.one_map.proofs.OneMap.{clear-proper}
+use Rattle.one_map.proofs.Histories.{event-proper}
 use Rattle.one_map.proofs.Memory.{history-memory, history-read-back}
 use Rattle.map.specs.declared.RangeMap.{RangeMap}
 use Rattle.map.specs.Map as Map
-use Rattle.map.specs.Promises.{RangeMapInsert, RangeMapRemove}
+use Rattle.map.specs.Promises.{RangeMapInsert, RangeMapRemove, RangeMapInsertUnchecked, RangeMapRemoveUnchecked}
 use Rattle.inclusive_map.specs.declared.RangeInclusiveMap.{RangeInclusiveMap}
 use Rattle.inclusive_map.specs.Map as InclusiveMap
 use Rattle.inclusive_map.specs.Promises.{RangeInclusiveMapInsert, RangeInclusiveMapRemove}
+use Rattle.inclusive_map.specs.Promises.{RangeInclusiveMapInsertUnchecked, RangeInclusiveMapRemoveUnchecked}
 use Rattle.set.specs.declared.RangeSet.{RangeSet}
 use Rattle.set.specs.Set as Set
 use Rattle.set.specs.Promises.{RangeSetInsert, RangeSetRemove}
@@ -57,7 +61,8 @@ use Rattle.query.specs.Answers.{queryRangesSound, queryAtSound, queryRanges, qu
 use Rattle.query.proofs.QueryCases.{Reply}
 use Rattle.map_query.specs.Promises.{RangeMapQuery, RangeMapQueryAt}
 use Rattle.theorems.proofs.Histories.{range-map-of, range-inclusive-map-of, range-set-of, range-inclusive-set-of}
-use Rattle.theorems.specs.Inputs.{RangeInput, DateInput, BytesInput, QueryInput, ListsInput}
+use Rattle.theorems.specs.Shortcuts.{NoShortcut, EntryInput, BoundsInput}
+use Rattle.theorems.specs.Inputs.{DateInput, BytesInput, QueryInput, ListsInput}
 
 -- `unfolding of-maps` and `unfolding of-queries` open every definition that a case computes with
 unfoldable of-spans : Unit {0}
@@ -84,207 +89,146 @@ one-memory : {kind : Kind} → Lawful kind → InMemory (one kind)
 unfolding afterEvents
 one-memory law = history-memory law (insertEvent (pos 0) (pos 8) 0 ∷ []) (omega arith, tt)
 
--- WHAT AN EDIT DOES to a map in memory: 0..8 is taken, 8..0 is refused with 1, and the map that is left is another
-record Tried (does : Stored → ℤ → ℤ → Edited) (m : Stored) : Type 0 where
-  memory : InMemory m
-  taken : does m (pos 0) (pos 8) .answer ≡ 0
-  reversed : does m (pos 8) (pos 0) .answer ≡ 1
-  other : does m (pos 0) (pos 8) .left .count ≡ m .count → ⊥
+-- and what an unchecked door requires
+one-sound : {kind : Kind} → Lawful kind → Sound kind (one kind)
+one-sound law = event-proper law (insertEvent (pos 0) (pos 8) 0) (clear-proper law) .sound
 
--- THE LAW, for any struct and any edit
-module _ {S : Type 0} (held : S → Stored) (does : Stored → ℤ → ℤ → Edited) (m : S) (t : Tried does (held m)) (f : S → ℤ → ℤ → S × ℕ)
-    (meets : (m : S) (start end : ℤ) → RangeInput (held m) start end → leaving (f m start end .1) (held (f m start end .0)) ≡ does (held m) start end) where
-  forward : RangeInput (held m) (pos 0) (pos 8)
-  forward = (t .memory, sfits-lit tt, sfits-lit tt)
+-- AN EDIT, tried on a map: 0..8 is taken, and leaves another map; 8..0 is refused with 1
+record Tried {A : Type 0} (args : ℤ → ℤ → A) (does : Stored → A → Edited) (m : Stored) : Type 0 where
+  taken : does m (args (pos 0) (pos 8)) .answer ≡ 0
+  reversed : does m (args (pos 8) (pos 0)) .answer ≡ 1
+  other : does m (args (pos 0) (pos 8)) .left .count ≡ m .count → ⊥
 
-  backward : RangeInput (held m) (pos 8) (pos 0)
-  backward = (t .memory, sfits-lit tt, sfits-lit tt)
+-- THE LAW, for any struct and any edit that a caller can give these ranges
+no-shortcut : {S A : Type 0} {Input : S → A → Type 0} (held : S → Stored) (args : ℤ → ℤ → A) {does : Stored → A → Edited} (m : S)
+    → ((s e : ℤ) → SFits w64 s → SFits w64 e → Input m (args s e)) → Tried args does (held m)
+    → NoShortcut Input (λ a m m′ r. leaving r (held m′) ≡ does (held m) a)
+no-shortcut {S} {A} {Input} held args {does} m can t = record {
+  not-always = λ f meets n always.
+      let zero-is : n ≡ 0 = sym (always m forth taken) ∙ ap (λ (o : Edited). o .answer) (meets m forth taken) ∙ t .taken in
+      let one-is : n ≡ 1 = sym (always m back refused) ∙ ap (λ (o : Edited). o .answer) (meets m back refused) ∙ t .reversed in
+      omega arith;
+  not-untouched = λ f meets untouched.
+      t .other (ap (λ (o : Edited). o .left .count) (sym (meets m forth taken)) ∙ ap (λ (n : S). held n .count) (untouched m forth taken));
+}
+  where
+    forth : A
+    forth = args (pos 0) (pos 8)
 
-  not-always : (n : ℕ) → ((m : S) (start end : ℤ) → RangeInput (held m) start end → f m start end .1 ≡ n) → ⊥
-  not-always n always =
-      let zero-is : n ≡ 0 = sym (always m (pos 0) (pos 8) forward) ∙ ap (λ (o : Edited). o .answer) (meets m (pos 0) (pos 8) forward) ∙ t .taken in
-      let one-is : n ≡ 1 = sym (always m (pos 8) (pos 0) backward) ∙ ap (λ (o : Edited). o .answer) (meets m (pos 8) (pos 0) backward) ∙ t .reversed in
-      omega arith
+    back : A
+    back = args (pos 8) (pos 0)
 
-  not-untouched : ((m : S) (start end : ℤ) → RangeInput (held m) start end → f m start end .0 ≡ m) → ⊥
-  not-untouched untouched =
-      let does-so : does (held m) (pos 0) (pos 8) .left ≡ held (f m (pos 0) (pos 8) .0) =
-      ap (λ (o : Edited). o .left) (sym (meets m (pos 0) (pos 8) forward)) in
-      t .other (ap (λ (x : Stored). x .count) (does-so ∙ ap held (untouched m (pos 0) (pos 8) forward)))
+    taken : Input m forth
+    taken = can (pos 0) (pos 8) (sfits-lit tt) (sfits-lit tt)
 
--- insert and remove of half-open ranges, of maps and of sets
-half-open-insert : Tried (λ m s e. insert halfOpen m s e 0) (clear halfOpen)
+    refused : Input m back
+    refused = can (pos 8) (pos 0) (sfits-lit tt) (sfits-lit tt)
+
+-- the arguments of an insert, and of an edit that takes a range alone
+abbrev entry : ℤ → ℤ → Entry
+entry s e = record { start = s; end = e; value = 0 }
+
+abbrev bounds : ℤ → ℤ → ℤ × ℤ
+bounds s e = (s, e)
+
+-- INSERT and REMOVE of maps and of sets, of any map and of a sound one, tried; by computation, for each kind
+record TriedEdits (kind : Kind) : Type 0 where
+  insert-tried : Tried entry (λ m a. insert kind m (a .start) (a .end) (a .value)) (clear kind)
+  remove-tried : Tried bounds (λ m a. remove kind m (a .0) (a .1)) (one kind)
+  sound-insert-tried : Tried entry (λ m a. editSound kind places m (a .start) (a .end) (some (a .value))) (clear kind)
+  sound-remove-tried : Tried bounds (λ m a. editSound kind places m (a .0) (a .1) none) (one kind)
+  set-insert-tried : Tried bounds (λ m a. setInsert kind m (a .0) (a .1)) (clear kind)
+  set-remove-tried : Tried bounds (λ m a. setRemove kind m (a .0) (a .1)) (one kind)
+
+half-open-tried : TriedEdits halfOpen
 unfolding of-maps
-half-open-insert = record { memory = new-memory half-open; taken = refl; reversed = refl; other = λ h. omega arith }
+half-open-tried = record {
+  insert-tried = record { taken = refl; reversed = refl; other = λ h. omega arith };
+  remove-tried = record { taken = refl; reversed = refl; other = λ h. omega arith };
+  sound-insert-tried = record { taken = refl; reversed = refl; other = λ h. omega arith };
+  sound-remove-tried = record { taken = refl; reversed = refl; other = λ h. omega arith };
+  set-insert-tried = record { taken = refl; reversed = refl; other = λ h. omega arith };
+  set-remove-tried = record { taken = refl; reversed = refl; other = λ h. omega arith };
+}
 
-half-open-remove : Tried (remove halfOpen) (one halfOpen)
+inclusive-tried : TriedEdits inclusive
 unfolding of-maps
-half-open-remove = record { memory = one-memory half-open; taken = refl; reversed = refl; other = λ h. omega arith }
+inclusive-tried = record {
+  insert-tried = record { taken = refl; reversed = refl; other = λ h. omega arith };
+  remove-tried = record { taken = refl; reversed = refl; other = λ h. omega arith };
+  sound-insert-tried = record { taken = refl; reversed = refl; other = λ h. omega arith };
+  sound-remove-tried = record { taken = refl; reversed = refl; other = λ h. omega arith };
+  set-insert-tried = record { taken = refl; reversed = refl; other = λ h. omega arith };
+  set-remove-tried = record { taken = refl; reversed = refl; other = λ h. omega arith };
+}
 
-half-open-set-insert : Tried (setInsert halfOpen) (clear halfOpen)
-unfolding of-maps
-half-open-set-insert = record { memory = new-memory half-open; taken = refl; reversed = refl; other = λ h. omega arith }
+-- THE HALF-OPEN MAP, through either door
+pub range-map-insert-no-shortcut : NoShortcut (λ m a. EntryInput (Map.held m) a) (λ a m m′ r. RangeMapInsert m m′ (a .start) (a .end) (a .value) r)
+range-map-insert-no-shortcut =
+    no-shortcut Map.held entry (range-map-of (clear halfOpen)) (λ s e x y. ((new-memory half-open, x, y), omega arith)) (half-open-tried .insert-tried)
 
-half-open-set-remove : Tried (setRemove halfOpen) (one halfOpen)
-unfolding of-maps
-half-open-set-remove = record { memory = one-memory half-open; taken = refl; reversed = refl; other = λ h. omega arith }
+pub range-map-remove-no-shortcut : NoShortcut (λ m a. BoundsInput (Map.held m) a) (λ a m m′ r. RangeMapRemove m m′ (a .0) (a .1) r)
+range-map-remove-no-shortcut =
+    no-shortcut Map.held bounds (range-map-of (one halfOpen)) (λ s e x y. (one-memory half-open, x, y)) (half-open-tried .remove-tried)
 
--- insert and remove of inclusive ranges, of maps and of sets
-inclusive-insert : Tried (λ m s e. insert inclusive m s e 0) (clear inclusive)
-unfolding of-maps
-inclusive-insert = record { memory = new-memory inclusive-too; taken = refl; reversed = refl; other = λ h. omega arith }
+pub range-map-insert-unchecked-no-shortcut : NoShortcut (λ m a. Sound halfOpen (Map.held m) × EntryInput (Map.held m) a)
+    (λ a m m′ r. RangeMapInsertUnchecked m m′ (a .start) (a .end) (a .value) r)
+range-map-insert-unchecked-no-shortcut =
+    no-shortcut Map.held entry (range-map-of (clear halfOpen)) (λ s e x y. (clear-proper half-open .sound, ((new-memory half-open, x, y), omega arith)))
+    (half-open-tried .sound-insert-tried)
 
-inclusive-remove : Tried (remove inclusive) (one inclusive)
-unfolding of-maps
-inclusive-remove = record { memory = one-memory inclusive-too; taken = refl; reversed = refl; other = λ h. omega arith }
+pub range-map-remove-unchecked-no-shortcut : NoShortcut (λ m a. Sound halfOpen (Map.held m) × BoundsInput (Map.held m) a)
+    (λ a m m′ r. RangeMapRemoveUnchecked m m′ (a .0) (a .1) r)
+range-map-remove-unchecked-no-shortcut =
+    no-shortcut Map.held bounds (range-map-of (one halfOpen)) (λ s e x y. (one-sound half-open, (one-memory half-open, x, y)))
+    (half-open-tried .sound-remove-tried)
 
-inclusive-set-insert : Tried (setInsert inclusive) (clear inclusive)
-unfolding of-maps
-inclusive-set-insert = record { memory = new-memory inclusive-too; taken = refl; reversed = refl; other = λ h. omega arith }
+-- THE INCLUSIVE MAP, through either door
+pub range-inclusive-map-insert-no-shortcut : NoShortcut (λ m a. EntryInput (InclusiveMap.held m) a)
+    (λ a m m′ r. RangeInclusiveMapInsert m m′ (a .start) (a .end) (a .value) r)
+range-inclusive-map-insert-no-shortcut =
+    no-shortcut InclusiveMap.held entry (range-inclusive-map-of (clear inclusive)) (λ s e x y. ((new-memory inclusive-too, x, y), omega arith))
+    (inclusive-tried .insert-tried)
 
-inclusive-set-remove : Tried (setRemove inclusive) (one inclusive)
-unfolding of-maps
-inclusive-set-remove = record { memory = one-memory inclusive-too; taken = refl; reversed = refl; other = λ h. omega arith }
+pub range-inclusive-map-remove-no-shortcut : NoShortcut (λ m a. BoundsInput (InclusiveMap.held m) a)
+    (λ a m m′ r. RangeInclusiveMapRemove m m′ (a .0) (a .1) r)
+range-inclusive-map-remove-no-shortcut =
+    no-shortcut InclusiveMap.held bounds (range-inclusive-map-of (one inclusive)) (λ s e x y. (one-memory inclusive-too, x, y))
+    (inclusive-tried .remove-tried)
 
--- THE HALF-OPEN MAP: a function meets its insert's promise: the map that it leaves, and its answer
-abbrev pub RangeMapInserter : (RangeMap → ℤ → ℤ → ℕ → RangeMap × ℕ) → Type 0
-RangeMapInserter f = (m : RangeMap) (start end : ℤ) (value : ℕ) → RangeInput (Map.held m) start end → value < 256
-    → RangeMapInsert m (f m start end value .0) start end value (f m start end value .1)
+pub range-inclusive-map-insert-unchecked-no-shortcut : NoShortcut (λ m a. Sound inclusive (InclusiveMap.held m) × EntryInput (InclusiveMap.held m) a)
+    (λ a m m′ r. RangeInclusiveMapInsertUnchecked m m′ (a .start) (a .end) (a .value) r)
+range-inclusive-map-insert-unchecked-no-shortcut =
+    no-shortcut InclusiveMap.held entry (range-inclusive-map-of (clear inclusive))
+    (λ s e x y. (clear-proper inclusive-too .sound, ((new-memory inclusive-too, x, y), omega arith))) (inclusive-tried .sound-insert-tried)
 
--- and its remove's
-abbrev pub RangeMapRemover : (RangeMap → ℤ → ℤ → RangeMap × ℕ) → Type 0
-RangeMapRemover f = (m : RangeMap) (start end : ℤ) → RangeInput (Map.held m) start end
-    → RangeMapRemove m (f m start end .0) start end (f m start end .1)
+pub range-inclusive-map-remove-unchecked-no-shortcut : NoShortcut (λ m a. Sound inclusive (InclusiveMap.held m) × BoundsInput (InclusiveMap.held m) a)
+    (λ a m m′ r. RangeInclusiveMapRemoveUnchecked m m′ (a .0) (a .1) r)
+range-inclusive-map-remove-unchecked-no-shortcut =
+    no-shortcut InclusiveMap.held bounds (range-inclusive-map-of (one inclusive)) (λ s e x y. (one-sound inclusive-too, (one-memory inclusive-too, x, y)))
+    (inclusive-tried .sound-remove-tried)
 
--- INSERT does not always answer one number
-pub range-map-insert-not-always : (f : RangeMap → ℤ → ℤ → ℕ → RangeMap × ℕ) → RangeMapInserter f → (n : ℕ)
-    → ((m : RangeMap) (start end : ℤ) (value : ℕ) → RangeInput (Map.held m) start end → value < 256 → f m start end value .1 ≡ n) → ⊥
-range-map-insert-not-always f meets n always =
-    not-always Map.held (λ m s e. insert halfOpen m s e 0) (range-map-of (clear halfOpen)) half-open-insert
-    (λ m s e. f m s e 0) (λ m s e i. meets m s e 0 i (omega arith)) n (λ m s e i. always m s e 0 i (omega arith))
+-- THE SET OF HALF-OPEN RANGES
+pub range-set-insert-no-shortcut : NoShortcut (λ m a. BoundsInput (Set.held m) a) (λ a m m′ r. RangeSetInsert m m′ (a .0) (a .1) r)
+range-set-insert-no-shortcut =
+    no-shortcut Set.held bounds (range-set-of (clear halfOpen)) (λ s e x y. (new-memory half-open, x, y)) (half-open-tried .set-insert-tried)
 
--- nor leave every map as it was
-pub range-map-insert-not-untouched : (f : RangeMap → ℤ → ℤ → ℕ → RangeMap × ℕ) → RangeMapInserter f
-    → ((m : RangeMap) (start end : ℤ) (value : ℕ) → RangeInput (Map.held m) start end → value < 256 → f m start end value .0 ≡ m) → ⊥
-range-map-insert-not-untouched f meets untouched =
-    not-untouched Map.held (λ m s e. insert halfOpen m s e 0) (range-map-of (clear halfOpen)) half-open-insert
-    (λ m s e. f m s e 0) (λ m s e i. meets m s e 0 i (omega arith)) (λ m s e i. untouched m s e 0 i (omega arith))
+pub range-set-remove-no-shortcut : NoShortcut (λ m a. BoundsInput (Set.held m) a) (λ a m m′ r. RangeSetRemove m m′ (a .0) (a .1) r)
+range-set-remove-no-shortcut =
+    no-shortcut Set.held bounds (range-set-of (one halfOpen)) (λ s e x y. (one-memory half-open, x, y)) (half-open-tried .set-remove-tried)
 
--- REMOVE does not always answer one number
-pub range-map-remove-not-always : (f : RangeMap → ℤ → ℤ → RangeMap × ℕ) → RangeMapRemover f → (n : ℕ)
-    → ((m : RangeMap) (start end : ℤ) → RangeInput (Map.held m) start end → f m start end .1 ≡ n) → ⊥
-range-map-remove-not-always f meets n always =
-    not-always Map.held (remove halfOpen) (range-map-of (one halfOpen)) half-open-remove f meets n always
+-- THE SET OF INCLUSIVE RANGES
+pub range-inclusive-set-insert-no-shortcut : NoShortcut (λ m a. BoundsInput (InclusiveSet.held m) a)
+    (λ a m m′ r. RangeInclusiveSetInsert m m′ (a .0) (a .1) r)
+range-inclusive-set-insert-no-shortcut =
+    no-shortcut InclusiveSet.held bounds (range-inclusive-set-of (clear inclusive)) (λ s e x y. (new-memory inclusive-too, x, y))
+    (inclusive-tried .set-insert-tried)
 
--- nor leave every map as it was
-pub range-map-remove-not-untouched : (f : RangeMap → ℤ → ℤ → RangeMap × ℕ) → RangeMapRemover f
-    → ((m : RangeMap) (start end : ℤ) → RangeInput (Map.held m) start end → f m start end .0 ≡ m) → ⊥
-range-map-remove-not-untouched f meets untouched =
-    not-untouched Map.held (remove halfOpen) (range-map-of (one halfOpen)) half-open-remove f meets untouched
-
--- THE INCLUSIVE MAP: a function meets its insert's promise: the map that it leaves, and its answer
-abbrev pub RangeInclusiveMapInserter : (RangeInclusiveMap → ℤ → ℤ → ℕ → RangeInclusiveMap × ℕ) → Type 0
-RangeInclusiveMapInserter f = (m : RangeInclusiveMap) (start end : ℤ) (value : ℕ) → RangeInput (InclusiveMap.held m) start end → value < 256
-    → RangeInclusiveMapInsert m (f m start end value .0) start end value (f m start end value .1)
-
--- and its remove's
-abbrev pub RangeInclusiveMapRemover : (RangeInclusiveMap → ℤ → ℤ → RangeInclusiveMap × ℕ) → Type 0
-RangeInclusiveMapRemover f = (m : RangeInclusiveMap) (start end : ℤ) → RangeInput (InclusiveMap.held m) start end
-    → RangeInclusiveMapRemove m (f m start end .0) start end (f m start end .1)
-
--- INSERT does not always answer one number
-pub range-inclusive-map-insert-not-always : (f : RangeInclusiveMap → ℤ → ℤ → ℕ → RangeInclusiveMap × ℕ) → RangeInclusiveMapInserter f → (n : ℕ)
-    → ((m : RangeInclusiveMap) (start end : ℤ) (value : ℕ) → RangeInput (InclusiveMap.held m) start end → value < 256 → f m start end value .1 ≡ n) → ⊥
-range-inclusive-map-insert-not-always f meets n always =
-    not-always InclusiveMap.held (λ m s e. insert inclusive m s e 0) (range-inclusive-map-of (clear inclusive)) inclusive-insert
-    (λ m s e. f m s e 0) (λ m s e i. meets m s e 0 i (omega arith)) n (λ m s e i. always m s e 0 i (omega arith))
-
--- nor leave every map as it was
-pub range-inclusive-map-insert-not-untouched : (f : RangeInclusiveMap → ℤ → ℤ → ℕ → RangeInclusiveMap × ℕ) → RangeInclusiveMapInserter f
-    → ((m : RangeInclusiveMap) (start end : ℤ) (value : ℕ) → RangeInput (InclusiveMap.held m) start end → value < 256 → f m start end value .0 ≡ m) → ⊥
-range-inclusive-map-insert-not-untouched f meets untouched =
-    not-untouched InclusiveMap.held (λ m s e. insert inclusive m s e 0) (range-inclusive-map-of (clear inclusive)) inclusive-insert
-    (λ m s e. f m s e 0) (λ m s e i. meets m s e 0 i (omega arith)) (λ m s e i. untouched m s e 0 i (omega arith))
-
--- REMOVE does not always answer one number
-pub range-inclusive-map-remove-not-always : (f : RangeInclusiveMap → ℤ → ℤ → RangeInclusiveMap × ℕ) → RangeInclusiveMapRemover f → (n : ℕ)
-    → ((m : RangeInclusiveMap) (start end : ℤ) → RangeInput (InclusiveMap.held m) start end → f m start end .1 ≡ n) → ⊥
-range-inclusive-map-remove-not-always f meets n always =
-    not-always InclusiveMap.held (remove inclusive) (range-inclusive-map-of (one inclusive)) inclusive-remove f meets n always
-
--- nor leave every map as it was
-pub range-inclusive-map-remove-not-untouched : (f : RangeInclusiveMap → ℤ → ℤ → RangeInclusiveMap × ℕ) → RangeInclusiveMapRemover f
-    → ((m : RangeInclusiveMap) (start end : ℤ) → RangeInput (InclusiveMap.held m) start end → f m start end .0 ≡ m) → ⊥
-range-inclusive-map-remove-not-untouched f meets untouched =
-    not-untouched InclusiveMap.held (remove inclusive) (range-inclusive-map-of (one inclusive)) inclusive-remove f meets untouched
-
--- THE SET OF HALF-OPEN RANGES: a function meets its insert's promise: the set that it leaves, and its answer
-abbrev pub RangeSetInserter : (RangeSet → ℤ → ℤ → RangeSet × ℕ) → Type 0
-RangeSetInserter f = (m : RangeSet) (start end : ℤ) → RangeInput (Set.held m) start end
-    → RangeSetInsert m (f m start end .0) start end (f m start end .1)
-
--- and its remove's
-abbrev pub RangeSetRemover : (RangeSet → ℤ → ℤ → RangeSet × ℕ) → Type 0
-RangeSetRemover f = (m : RangeSet) (start end : ℤ) → RangeInput (Set.held m) start end
-    → RangeSetRemove m (f m start end .0) start end (f m start end .1)
-
--- INSERT does not always answer one number
-pub range-set-insert-not-always : (f : RangeSet → ℤ → ℤ → RangeSet × ℕ) → RangeSetInserter f → (n : ℕ)
-    → ((m : RangeSet) (start end : ℤ) → RangeInput (Set.held m) start end → f m start end .1 ≡ n) → ⊥
-range-set-insert-not-always f meets n always =
-    not-always Set.held (setInsert halfOpen) (range-set-of (clear halfOpen)) half-open-set-insert f meets n always
-
--- nor leave every set as it was
-pub range-set-insert-not-untouched : (f : RangeSet → ℤ → ℤ → RangeSet × ℕ) → RangeSetInserter f
-    → ((m : RangeSet) (start end : ℤ) → RangeInput (Set.held m) start end → f m start end .0 ≡ m) → ⊥
-range-set-insert-not-untouched f meets untouched =
-    not-untouched Set.held (setInsert halfOpen) (range-set-of (clear halfOpen)) half-open-set-insert f meets untouched
-
--- REMOVE does not always answer one number
-pub range-set-remove-not-always : (f : RangeSet → ℤ → ℤ → RangeSet × ℕ) → RangeSetRemover f → (n : ℕ)
-    → ((m : RangeSet) (start end : ℤ) → RangeInput (Set.held m) start end → f m start end .1 ≡ n) → ⊥
-range-set-remove-not-always f meets n always =
-    not-always Set.held (setRemove halfOpen) (range-set-of (one halfOpen)) half-open-set-remove f meets n always
-
--- nor leave every set as it was
-pub range-set-remove-not-untouched : (f : RangeSet → ℤ → ℤ → RangeSet × ℕ) → RangeSetRemover f
-    → ((m : RangeSet) (start end : ℤ) → RangeInput (Set.held m) start end → f m start end .0 ≡ m) → ⊥
-range-set-remove-not-untouched f meets untouched =
-    not-untouched Set.held (setRemove halfOpen) (range-set-of (one halfOpen)) half-open-set-remove f meets untouched
-
--- THE SET OF INCLUSIVE RANGES: a function meets its insert's promise: the set that it leaves, and its answer
-abbrev pub RangeInclusiveSetInserter : (RangeInclusiveSet → ℤ → ℤ → RangeInclusiveSet × ℕ) → Type 0
-RangeInclusiveSetInserter f = (m : RangeInclusiveSet) (start end : ℤ) → RangeInput (InclusiveSet.held m) start end
-    → RangeInclusiveSetInsert m (f m start end .0) start end (f m start end .1)
-
--- and its remove's
-abbrev pub RangeInclusiveSetRemover : (RangeInclusiveSet → ℤ → ℤ → RangeInclusiveSet × ℕ) → Type 0
-RangeInclusiveSetRemover f = (m : RangeInclusiveSet) (start end : ℤ) → RangeInput (InclusiveSet.held m) start end
-    → RangeInclusiveSetRemove m (f m start end .0) start end (f m start end .1)
-
--- INSERT does not always answer one number
-pub range-inclusive-set-insert-not-always : (f : RangeInclusiveSet → ℤ → ℤ → RangeInclusiveSet × ℕ) → RangeInclusiveSetInserter f → (n : ℕ)
-    → ((m : RangeInclusiveSet) (start end : ℤ) → RangeInput (InclusiveSet.held m) start end → f m start end .1 ≡ n) → ⊥
-range-inclusive-set-insert-not-always f meets n always =
-    not-always InclusiveSet.held (setInsert inclusive) (range-inclusive-set-of (clear inclusive)) inclusive-set-insert f meets n always
-
--- nor leave every set as it was
-pub range-inclusive-set-insert-not-untouched : (f : RangeInclusiveSet → ℤ → ℤ → RangeInclusiveSet × ℕ) → RangeInclusiveSetInserter f
-    → ((m : RangeInclusiveSet) (start end : ℤ) → RangeInput (InclusiveSet.held m) start end → f m start end .0 ≡ m) → ⊥
-range-inclusive-set-insert-not-untouched f meets untouched =
-    not-untouched InclusiveSet.held (setInsert inclusive) (range-inclusive-set-of (clear inclusive)) inclusive-set-insert f meets untouched
-
--- REMOVE does not always answer one number
-pub range-inclusive-set-remove-not-always : (f : RangeInclusiveSet → ℤ → ℤ → RangeInclusiveSet × ℕ) → RangeInclusiveSetRemover f → (n : ℕ)
-    → ((m : RangeInclusiveSet) (start end : ℤ) → RangeInput (InclusiveSet.held m) start end → f m start end .1 ≡ n) → ⊥
-range-inclusive-set-remove-not-always f meets n always =
-    not-always InclusiveSet.held (setRemove inclusive) (range-inclusive-set-of (one inclusive)) inclusive-set-remove f meets n always
-
--- nor leave every set as it was
-pub range-inclusive-set-remove-not-untouched : (f : RangeInclusiveSet → ℤ → ℤ → RangeInclusiveSet × ℕ) → RangeInclusiveSetRemover f
-    → ((m : RangeInclusiveSet) (start end : ℤ) → RangeInput (InclusiveSet.held m) start end → f m start end .0 ≡ m) → ⊥
-range-inclusive-set-remove-not-untouched f meets untouched =
-    not-untouched InclusiveSet.held (setRemove inclusive) (range-inclusive-set-of (one inclusive)) inclusive-set-remove f meets untouched
+pub range-inclusive-set-remove-no-shortcut : NoShortcut (λ m a. BoundsInput (InclusiveSet.held m) a)
+    (λ a m m′ r. RangeInclusiveSetRemove m m′ (a .0) (a .1) r)
+range-inclusive-set-remove-no-shortcut =
+    no-shortcut InclusiveSet.held bounds (range-inclusive-set-of (one inclusive)) (λ s e x y. (one-memory inclusive-too, x, y))
+    (inclusive-tried .set-remove-tried)
 
 -- THE REPORT: a function meets its promise
 abbrev pub Reporter : (RangeMap → ℕ → ℕ → ℕ → ℕ → DayReport) → Type 0
