@@ -1,6 +1,6 @@
 -- EQUAL TO THE RUST, of whole histories: for any calls from a new struct, through either door, accepted or refused, what the struct holds then, place by
--- place, is what rangemap's own algorithms hold that made the same changes of an empty map. So the theorems of AsRust and SetsAsRust, which speak of the
--- ranges that a struct holds, speak of what the Rust holds. A refused call made no change, and a clear or a read begins anew.
+-- place, is what rangemap's own algorithms hold that made the same changes of an empty map. So the theorems of AsRust, which speak of the ranges that
+-- a struct holds, speak of what the Rust holds. A refused call made no change, and a clear or a read begins anew.
 use Prim.Native.Nat.{ℕ, _-_, _^_, _≤_}
 use native.Mathlib.Omega.{arith}
 use mathlib.Core.Path.{_≡_, refl, sym, ap, _∙_}
@@ -12,7 +12,7 @@ use Rattle.span.proofs.Tests.{in-no}
 use Rattle.span.proofs.Laws.{only, nothing, history-means}
 use Rattle.key.specs.Rank.{keys}
 use Rattle.key.specs.Range.{Kind, halfOpen, inclusive}
-use Rattle.outcomes.specs.Stored.{places, Stored, ranges, storing}
+use Rattle.outcomes.specs.Stored.{Stored, ranges}
 use Rattle.outcomes.specs.Outcomes.{Change, spanEdits}
 use Rattle.rust_algorithm.specs.InclusiveMap.{StepFns}
 use Rattle.rust_algorithm.specs.Answers.{Functions, halfOpenRust, inclusiveRust}
@@ -30,15 +30,10 @@ use Rattle.set.specs.Set as Set
 use Rattle.inclusive_set.specs.declared.RangeInclusiveSet.{RangeInclusiveSet}
 use Rattle.inclusive_set.specs.Set as InclusiveSet
 use Rattle.theorems.specs.Calls.{Call, callEffect, SetCall, setCallEffect, changesMade}
+use Rattle.theorems.specs.Rust.{HistoryAsRust}
 use Rattle.theorems.specs.Structs.{RangeMapAfter, RangeInclusiveMapAfter, RangeSetAfter, RangeInclusiveSetAfter}
 use Rattle.theorems.proofs.Histories.{last-made, Histories}
 use Rattle.theorems.proofs.Histories.{range-map-histories, range-inclusive-map-histories, range-set-histories, range-inclusive-set-histories}
-
--- THE SAME HISTORY: the Rust, which makes the changes in order of an empty map, panics nowhere and holds then the ranges that m holds; and m is the one map
--- that stores these, unused places included
-pub record HistoryAsRust (kind : Kind) (rust : Functions) (changes : List Change) (m : Stored) : Type 0 where
-  pub holds : rust .history (spanEdits kind changes) [] ≡ some (ranges kind m)
-  pub stores : m ≡ storing kind places (ranges kind m)
 
 -- edits that end by a limit leave nothing past it
 last-past : (limit : ℕ) (es : List Edit) (k : ℕ) → By limit es → limit ≤ k → last es k none ≡ none
@@ -55,7 +50,8 @@ history-as-rust {kind} {rust} same {held = held} {did = did} law proper cs n lef
     let p = proper (held n) (law .good cs n left) in
     let es : List Edit = spanEdits kind (changesMade did cs []) in
     let by : By keys es = by-changes kind rust same (changesMade did cs []) in
-    let at-each = each-instant (same .law) p (λ k. last es k none) (λ k. last-past keys es k by) (λ k fit. law .last cs n k left ∙ last-made kind did cs [] k) in
+    let at-each =
+    each-instant (same .law) p (λ k. last es k none) (λ k. last-past keys es k by) (λ k fit. law .last cs n k left ∙ last-made kind did cs [] k) in
     let is : history es [] ≡ ranges kind (held n) =
     only (history-means es (law .real cs n left) nothing) (record { tidy = proper-tidy p; holds = at-each }) in
     record {

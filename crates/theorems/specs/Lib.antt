@@ -1,5 +1,6 @@
 -- What the theorems over the promises say: Calls (calls one after the other, and the last value that they gave a key), Structs (which promise each call of
--- the four structs meets), Inputs (what a caller can give).
+-- the four structs meets), Inputs (what a caller can give), Rust (what is equal to the Rust).
 pub mod Calls
 pub mod Structs
 pub mod Inputs
+pub mod Rust
