@@ -172,7 +172,7 @@ module _ (kind : Kind) (rust : Functions) (transcribed : Transcribed kind rust) 
           step false h = refl
 
   -- HISTORIES: edits of which none is refused
-  by-changes : (cs : List Change) → By keys (spanEdits kind cs)
+  pub by-changes : (cs : List Change) → By keys (spanEdits kind cs)
   unfolding spanEdits
   by-changes [] = tt
   by-changes (c ∷ cs) = (ends-by (c .end), by-changes cs)

@@ -2,37 +2,39 @@
 -- algorithms do on the ranges that the struct holds. `rust` are these algorithms (`halfOpenRust`, `inclusiveRust`), and `same` is `half-open-equal`,
 -- `inclusive-equal-checked` or `inclusive-equal-wrapping`. An edit answers 1 where the Rust panics, and 2 where it would hold more ranges than
 -- there are places.
-use Prim.Native.Nat.{ℕ, _<_}
+use Prim.Native.Nat.{ℕ}
 use mathlib.Core.Path.{_≡_, refl, sym, ap, subst, _∙_}
+use mathlib.Core.Logic.{_⊎_}
 use mathlib.Core.Bool.{Bool, true, false, cond}
 use mathlib.Core.List.{List, [], _∷_}
 use mathlib.Core.Option.{Option, some, none}
 use lib.Dec.{eqb}
-use lib.ListN.{take, drop}
+use lib.ListN.{take}
 use lib.IntN.{ℤ}
 use borrow.Author.Tests.{eqb-true}
 use Rattle.answers.specs.Answers.{done}
 use Rattle.span.specs.Span.{Span}
-use Rattle.key.specs.Rank.{rank}
 use Rattle.key.specs.Range.{Kind, halfOpen, inclusive}
-use Rattle.key.proofs.Lawful.{half-open, inclusive-too}
-use Rattle.outcomes.specs.Stored.{Stored, ranges}
-use Rattle.outcomes.specs.Outcomes.{Edited, Listed, leaving, edit, edits, intoLists, yesNo, comparedBy}
-use Rattle.outcomes.specs.Outcomes.{Entry, Extended, bulkInsert, bulkInsertSound, entries, extended}
-use Rattle.outcomes.specs.Numbers.{askedInC, foundInC, comparedInC}
-use Rattle.outcomes.specs.Sets.{plain, SoundSet}
+use Rattle.key.proofs.Lawful.{Lawful, half-open, inclusive-too}
+use Rattle.outcomes.specs.Stored.{places, Stored, ranges}
+use Rattle.outcomes.specs.Outcomes.{Edited, Written, Listed, leaving, edit, edits, Entry, Extended, bulkInsert, bulkInsertSound, entries, extended}
+use Rattle.outcomes.specs.Outcomes.{isEmpty, countOf, rangeAt, firstOf, lastOf, lookup, contains, overlaps, overlapping, gaps, equal, order, editSound}
+use Rattle.outcomes.specs.Numbers.{askedInC, countedInC, foundInC, partInC, comparedInC}
+use Rattle.outcomes.specs.Sets.{union, intersection}
 use Rattle.outcomes.specs.declared.Applied.{Applied}
+use Rattle.outcomes.specs.declared.Asked.{Asked}
 use Rattle.outcomes.specs.declared.Count.{Count}
-use Rattle.outcomes.specs.declared.Order.{Order}
-use Rattle.outcomes.specs.declared.Range.{Range}
-use Rattle.outcomes.specs.declared.Stretch.{Stretch}
-use Rattle.outcomes.specs.declared.Told.{Told}
-use Rattle.rust_algorithm.specs.Btree.{nth}
-use Rattle.rust_algorithm.specs.Map.{map-first, map-last, map-len, map-is-empty}
-use Rattle.rust_algorithm.specs.Answers.{Functions, rustFound, rustEdited, rustRun}
-use Rattle.rust_algorithm.specs.Equal.{LentMap, SameOfSets, EqualToTheRust, entrySpans}
+use Rattle.outcomes.specs.declared.Counted.{Counted}
+use Rattle.outcomes.specs.declared.Found.{Found}
+use Rattle.outcomes.specs.declared.Part.{Part}
+use Rattle.set_ops.specs.Answers.{setIsEmpty, setCount, setRangeAt, setFirst, setLast, setLookup, setContains, setOverlaps, setOverlapping, setGaps}
+use Rattle.set_ops.specs.Answers.{setOrder, setEqual, setInsert, setRemove, pairs, setBulkInsert}
+use Rattle.rust_algorithm.specs.Answers.{Functions, rustEdited, rustRun}
+use Rattle.rust_algorithm.specs.Equal.{LentMap, ListGiven, EqualToTheRust, entrySpans}
 use Rattle.one_map.specs.Events.{Proper}
+use Rattle.one_map.specs.SetEvents.{setInsertEvent, setRemoveEvent}
 use Rattle.one_map.proofs.Known.{proper-formed}
+use Rattle.one_map.proofs.SetHistories.{set-as-map}
 use Rattle.map.specs.declared.RangeMap.{RangeMap}
 use Rattle.map.specs.Map as Map
 use Rattle.map.specs.Promises.{RangeMapCmp, RangeMapContainsKey, RangeMapEq, RangeMapFirstRangeValue, RangeMapGaps, RangeMapGetKeyValue, RangeMapIsEmpty}
@@ -41,21 +43,88 @@ use Rattle.inclusive_map.specs.declared.RangeInclusiveMap.{RangeInclusiveMap}
 use Rattle.inclusive_map.specs.Map as InclusiveMap
 use Rattle.inclusive_map.specs.Promises.{RangeInclusiveMapCmp, RangeInclusiveMapContainsKey, RangeInclusiveMapEq, RangeInclusiveMapFirstRangeValue}
 use Rattle.inclusive_map.specs.Promises.{RangeInclusiveMapGaps, RangeInclusiveMapGetKeyValue, RangeInclusiveMapIsEmpty, RangeInclusiveMapLastRangeValue}
-use Rattle.inclusive_map.specs.Promises.{RangeInclusiveMapExtend, RangeInclusiveMapLen, RangeInclusiveMapOverlapping, RangeInclusiveMapOverlaps, RangeInclusiveMapRangeAt}
+use Rattle.inclusive_map.specs.Promises.{RangeInclusiveMapExtend, RangeInclusiveMapLen, RangeInclusiveMapOverlapping, RangeInclusiveMapOverlaps}
+use Rattle.inclusive_map.specs.Promises.{RangeInclusiveMapRangeAt}
 use Rattle.set.specs.declared.RangeSet.{RangeSet}
 use Rattle.set.specs.Set as Set
-use Rattle.set.specs.Promises.{RangeSetIntersection, RangeSetUnion}
+use Rattle.set.specs.Promises.{RangeSetIsEmpty, RangeSetLen, RangeSetRangeAt, RangeSetFirst, RangeSetLast, RangeSetGet, RangeSetContains, RangeSetOverlaps}
+use Rattle.set.specs.Promises.{RangeSetOverlapping, RangeSetGaps, RangeSetEq, RangeSetCmp, RangeSetInsert, RangeSetRemove, RangeSetExtend, RangeSetUnion}
+use Rattle.set.specs.Promises.{RangeSetIntersection}
 use Rattle.inclusive_set.specs.declared.RangeInclusiveSet.{RangeInclusiveSet}
 use Rattle.inclusive_set.specs.Set as InclusiveSet
-use Rattle.inclusive_set.specs.Promises.{RangeInclusiveSetIntersection, RangeInclusiveSetUnion}
+use Rattle.inclusive_set.specs.Promises.{RangeInclusiveSetIsEmpty, RangeInclusiveSetLen, RangeInclusiveSetRangeAt, RangeInclusiveSetFirst}
+use Rattle.inclusive_set.specs.Promises.{RangeInclusiveSetLast, RangeInclusiveSetGet, RangeInclusiveSetContains, RangeInclusiveSetOverlaps}
+use Rattle.inclusive_set.specs.Promises.{RangeInclusiveSetOverlapping, RangeInclusiveSetGaps, RangeInclusiveSetEq, RangeInclusiveSetCmp}
+use Rattle.inclusive_set.specs.Promises.{RangeInclusiveSetInsert, RangeInclusiveSetRemove, RangeInclusiveSetExtend, RangeInclusiveSetUnion}
+use Rattle.inclusive_set.specs.Promises.{RangeInclusiveSetIntersection}
 use Rattle.theorems.specs.Calls.{Call, insertCall, removeCall, SetCall}
 use Rattle.theorems.specs.Structs.{RangeMapCall, RangeMapAfter, RangeInclusiveMapCall, RangeInclusiveMapAfter, RangeSetAfter, RangeInclusiveSetAfter}
-use Rattle.theorems.proofs.Steps.{either-door}
-use Rattle.theorems.proofs.Histories.{range-map-proper, range-inclusive-map-proper, range-set-good, range-inclusive-set-good}
+use Rattle.theorems.specs.Rust.{EditAsRust, ExtendAsRust, LenAsRust, IsEmptyAsRust, RangeAtAsRust, FirstAsRust, LastAsRust, GetAsRust, ContainsAsRust}
+use Rattle.theorems.specs.Rust.{OverlapsAsRust, OverlappingAsRust, GapsAsRust, EqAsRust, CmpAsRust, UnionAsRust, IntersectionAsRust, WrittenAsRust}
+use Rattle.theorems.proofs.Steps.{either-door, as-bulk}
+use Rattle.theorems.proofs.Histories.{range-map-proper, range-inclusive-map-proper, GoodSet, range-set-good, range-inclusive-set-good}
+
+-- WHAT A STRUCT ANSWERS to each question
+record StructAnswers : Type 0 where
+  len : Counted
+  is-empty : Asked
+  range-at : ℕ → Found
+  first : Found
+  last : Found
+  get : ℤ → Found
+  contains : ℤ → Asked
+  overlaps : ℤ → ℤ → Asked
+  overlapping : ℤ → ℤ → Part
+  gaps : ℤ → ℤ → List ℤ → List ℤ → Written
+
+-- THE LAW, for any struct: its answers, as C has them, are the Rust's on the ranges of m
+record AnswersAsRust (kind : Kind) (rust : Functions) (m : Stored) (a : StructAnswers) : Type 0 where
+  len : LenAsRust kind rust m (λ r. r ≡ countedInC (a .len))
+  is-empty : IsEmptyAsRust kind rust m (λ r. r ≡ askedInC (a .is-empty))
+  range-at : RangeAtAsRust kind rust m (λ i r. r ≡ foundInC (a .range-at i))
+  first : FirstAsRust kind rust m (λ r. r ≡ foundInC (a .first))
+  last : LastAsRust kind rust m (λ r. r ≡ foundInC (a .last))
+  get : GetAsRust kind rust m (λ k r. r ≡ foundInC (a .get k))
+  contains : ContainsAsRust kind rust m (λ k r. r ≡ askedInC (a .contains k))
+  overlaps : OverlapsAsRust kind rust m (λ s e r. r ≡ askedInC (a .overlaps s e))
+  overlapping : OverlappingAsRust kind rust m (λ s e r. r ≡ partInC (a .overlapping s e))
+  gaps : GapsAsRust kind rust m (λ s e os os′ oe oe′ r. Listed r os′ oe′ (a .gaps s e os oe))
+
+-- those of two maps
+record MapsAsRust (kind : Kind) (rust : Functions) (m o : Stored) : Type 0 where
+  eq : EqAsRust kind rust m o (λ r. r ≡ askedInC (equal kind m o))
+  cmp : CmpAsRust kind rust m o (λ r. r ≡ comparedInC (order kind m o))
+
+-- and of two sets
+record SetsAsRust (kind : Kind) (rust : Functions) (m o : Stored) : Type 0 where
+  eq : EqAsRust kind rust m o (λ r. r ≡ askedInC (setEqual kind m o))
+  cmp : CmpAsRust kind rust m o (λ r. r ≡ comparedInC (setOrder kind m o))
+  union : UnionAsRust kind rust m o (λ os os′ oe oe′ r. Listed r os′ oe′ (union kind m o os oe))
+  intersection : IntersectionAsRust kind rust m o (λ os os′ oe oe′ r. Listed r os′ oe′ (intersection kind m o os oe))
+
+-- a map's answers
+abbrev map-answers : Kind → Stored → StructAnswers
+map-answers kind m = record {
+  len = countOf kind m;
+  is-empty = isEmpty kind m;
+  range-at = rangeAt kind m;
+  first = firstOf kind m;
+  last = lastOf kind m;
+  get = lookup kind m;
+  contains = contains kind m;
+  overlaps = overlaps kind m;
+  overlapping = overlapping kind m;
+  gaps = gaps kind m;
+}
 
 -- a map that calls leave is lent as the theorem of the Rust wants it
-pub lent : {kind : Kind} {m : Stored} → Proper kind m → LentMap kind m
-lent p = record { sound = p .sound; full-size = p .all-places }
+proper-lent : {kind : Kind} {m : Stored} → Proper kind m → LentMap kind m
+proper-lent p = record { sound = p .sound; full-size = p .all-places }
+
+-- a list that the Rust gave is written
+written-as-rust : {kind : Kind} {given : Option (List Span)} {os os′ oe oe′ : List ℤ} {r : Count} {w : Written} → ListGiven kind given os oe w
+    → Listed r os′ oe′ w → WrittenAsRust kind given os os′ oe oe′ r
+written-as-rust {os′ = os′} {oe′ = oe′} {r = r} g q = (g .list, (g .gave, subst (Listed r os′ oe′) (g .same) q))
 
 -- edits of which there is one
 only-one : (a : Edited) → cond (eqb (a .answer) done) (leaving done (a .left)) a ≡ a
@@ -65,235 +134,328 @@ only-one a = go (eqb (a .answer) done) refl
     go true e = ap (λ (n : ℕ). leaving n (a .left)) (sym (eqb-true (a .answer) done e))
     go false e = refl
 
-pub one-edit : {kind : Kind} (rust : Functions) → EqualToTheRust kind rust → (m : Stored) (s e : ℤ) (new : Option ℕ) → LentMap kind m
-    → edit kind m s e new ≡ rustEdited kind rust m s e new
-unfolding edits rustRun
-one-edit {kind} rust same m s e new l =
-    sym (only-one (edit kind m s e new)) ∙ same .every-edit m (record { start = s; end = e; new = new } ∷ []) l ∙ only-one (rustEdited kind rust m s e new)
+module _ {kind : Kind} {rust : Functions} (same : EqualToTheRust kind rust) {m : Stored} (p : Proper kind m) where
+  -- AN EDIT
+  edit-as-rust : (s e : ℤ) (new : Option ℕ) → edit kind m s e new ≡ rustEdited kind rust m s e new
+  unfolding edits rustRun
+  edit-as-rust s e new =
+      sym (only-one (edit kind m s e new)) ∙ same .every-edit m (record { start = s; end = e; new = new } ∷ []) (proper-lent p)
+      ∙ only-one (rustEdited kind rust m s e new)
+
+  -- through either door
+  through-door : Lawful kind → (s e : ℤ) (new : Option ℕ) {r : ℕ} {m′ : Stored}
+      → (leaving r m′ ≡ edit kind m s e new) ⊎ (leaving r m′ ≡ editSound kind places m s e new) → EditAsRust kind rust m s e new r m′
+  through-door law s e new q = either-door law p s e new q ∙ edit-as-rust s e new
+
+  -- BULK INSERT
+  extend-as-rust : (xs : List Entry) {m′ : Stored} {r : Applied} → extended r m′ ≡ bulkInsert kind m xs
+      → ExtendAsRust kind rust m xs r m′
+  extend-as-rust xs {m′} {r} q =
+      let is : extended r m′ ≡ bulkInsertSound kind m 0 xs = q ∙ (unfold bulkInsert in rw (proper-formed p)) in
+      subst (λ (o : Extended). rust .extend (entrySpans kind (take (o .told .applied) xs)) (ranges kind m) ≡ some (ranges kind (o .left))) (sym is)
+      (same .extend m xs (proper-lent p))
+
+  -- EACH QUESTION
+  map-as-rust : AnswersAsRust kind rust m (map-answers kind m)
+  map-as-rust =
+      let a = same .questions m (proper-lent p) in
+      record {
+        len = λ r q. q ∙ ap countedInC (a .len);
+        is-empty = λ r q. q ∙ ap askedInC (a .is-empty);
+        range-at = λ i r q. q ∙ ap foundInC (a .iter i);
+        first = λ r q. q ∙ ap foundInC (a .first);
+        last = λ r q. q ∙ ap foundInC (a .last);
+        get = λ k r q. q ∙ ap foundInC (a .get-key-value k);
+        contains = λ k r q. q ∙ ap askedInC (a .contains-key k);
+        overlaps = λ s e r h q. q ∙ ap askedInC (a .overlaps s e h);
+        overlapping = λ s e r h q. let g = a .overlapping s e h in rw (q ∙ ap partInC (g .told)) (refl, g .same);
+        gaps = λ s e os os′ oe oe′ r h q. written-as-rust (a .gaps s e h os oe) q;
+      }
+
+  -- EQUALITY and ORDER
+  maps-as-rust : {o : Stored} → Proper kind o → MapsAsRust kind rust m o
+  maps-as-rust {o} p₂ =
+      let a = same .order m o (proper-lent p) (proper-lent p₂) in
+      record { eq = λ r q. q ∙ ap askedInC (a .eq); cmp = λ r q. q ∙ ap comparedInC (a .cmp) }
+
+-- a set's answers
+abbrev set-answers : Kind → Stored → StructAnswers
+set-answers kind m = record {
+  len = setCount kind m;
+  is-empty = setIsEmpty kind m;
+  range-at = λ i. setRangeAt kind m i;
+  first = setFirst kind m;
+  last = setLast kind m;
+  get = λ k. setLookup kind m k;
+  contains = λ k. setContains kind m k;
+  overlaps = λ s e. setOverlaps kind m s e;
+  overlapping = λ s e. setOverlapping kind m s e;
+  gaps = λ s e os oe. setGaps kind m s e os oe;
+}
+
+-- A SET'S FUNCTIONS ARE THE MAP'S where all values are 0
+module _ {kind : Kind} {rust : Functions} (same : EqualToTheRust kind rust) {m : Stored} (g : GoodSet kind m) where
+  -- insert
+  set-insert-as-rust : (s e : ℤ) → setInsert kind m s e ≡ rustEdited kind rust m s e (some 0)
+  set-insert-as-rust s e = set-as-map kind (setInsertEvent s e) m (g .1) ∙ edit-as-rust same (g .0) s e (some 0)
+
+  -- remove
+  set-remove-as-rust : (s e : ℤ) → setRemove kind m s e ≡ rustEdited kind rust m s e none
+  set-remove-as-rust s e = set-as-map kind (setRemoveEvent s e) m (g .1) ∙ edit-as-rust same (g .0) s e none
+
+  -- bulk insert
+  set-extend-as-rust : (xs : List Entry) {m′ : Stored} {r : Applied} → extended r m′ ≡ setBulkInsert kind m xs
+      → ExtendAsRust kind rust m xs r m′
+  set-extend-as-rust xs q = extend-as-rust same (g .0) xs (q ∙ as-bulk kind m xs (g .1))
+
+  -- each question
+  set-as-rust : AnswersAsRust kind rust m (set-answers kind m)
+  unfolding setIsEmpty setCount setRangeAt setFirst setLast setLookup setContains setOverlaps setOverlapping setGaps
+  set-as-rust = rw (g .1) (map-as-rust same (g .0))
+
+  -- of two
+  sets-as-rust : {o : Stored} → GoodSet kind o → SetsAsRust kind rust m o
+  unfolding setEqual setOrder
+  sets-as-rust {o} h =
+      let a = maps-as-rust same (g .0) (h .0) in
+      let b = same .sets m o (record { sound = g .0 .sound; plain-too = g .1 }) (record { sound = h .0 .sound; plain-too = h .1 })
+      (proper-lent (g .0)) (proper-lent (h .0)) in
+      record {
+        eq = rw (g .1, h .1) (a .eq);
+        cmp = rw (g .1, h .1) (a .cmp);
+        union = λ os os′ oe oe′ r q. written-as-rust (b .union os oe) q;
+        intersection = λ os os′ oe oe′ r q. written-as-rust (b .intersection os oe) q;
+      }
 
 -- THE HALF-OPEN MAP
 module _ (rust : Functions) (same : EqualToTheRust halfOpen rust) (cs : List Call) (n : RangeMap) (left : RangeMapAfter cs n) where
-  abbrev range-map-held : List Span
-  range-map-held = ranges halfOpen (Map.held n)
-
-  range-map-lent : LentMap halfOpen (Map.held n)
-  range-map-lent = lent (range-map-proper cs n left)
-
   -- INSERT and REMOVE, through either door: what they answer, and every place that they leave
   pub range-map-insert-as-rust : (n′ : RangeMap) (s e : ℤ) (v r : ℕ) → RangeMapCall (insertCall s e v r) n n′
-      → leaving r (Map.held n′) ≡ rustEdited halfOpen rust (Map.held n) s e (some v)
-  range-map-insert-as-rust n′ s e v r q =
-      either-door half-open (range-map-proper cs n left) s e (some v) q ∙ one-edit rust same (Map.held n) s e (some v) range-map-lent
+      → EditAsRust halfOpen rust (Map.held n) s e (some v) r (Map.held n′)
+  range-map-insert-as-rust n′ s e v r q = through-door same (range-map-proper cs n left) half-open s e (some v) q
 
   pub range-map-remove-as-rust : (n′ : RangeMap) (s e : ℤ) (r : ℕ) → RangeMapCall (removeCall s e r) n n′
-      → leaving r (Map.held n′) ≡ rustEdited halfOpen rust (Map.held n) s e none
-  range-map-remove-as-rust n′ s e r q =
-      either-door half-open (range-map-proper cs n left) s e none q ∙ one-edit rust same (Map.held n) s e none range-map-lent
+      → EditAsRust halfOpen rust (Map.held n) s e none r (Map.held n′)
+  range-map-remove-as-rust n′ s e r q = through-door same (range-map-proper cs n left) half-open s e none q
 
-  -- LEN and IS EMPTY
-  pub range-map-len-as-rust : (r : Count) → RangeMapLen n r → r ≡ record { answer = done; count = map-len range-map-held }
-  range-map-len-as-rust r q = rw q (rw (same .questions (Map.held n) range-map-lent .len))
-
-  pub range-map-is-empty-as-rust : (r : Told) → RangeMapIsEmpty n r → r ≡ askedInC (yesNo (map-is-empty range-map-held))
-  range-map-is-empty-as-rust r q = q ∙ ap askedInC (same .questions (Map.held n) range-map-lent .is-empty)
-
-  -- A PLACE, as the iterator's nth; FIRST and LAST
-  pub range-map-range-at-as-rust : (i : ℕ) (r : Range) → RangeMapRangeAt n i r → r ≡ foundInC (rustFound halfOpen (nth i range-map-held))
-  range-map-range-at-as-rust i r q = q ∙ ap foundInC (same .questions (Map.held n) range-map-lent .iter i)
-
-  pub range-map-first-as-rust : (r : Range) → RangeMapFirstRangeValue n r → r ≡ foundInC (rustFound halfOpen (map-first range-map-held))
-  range-map-first-as-rust r q = q ∙ ap foundInC (same .questions (Map.held n) range-map-lent .first)
-
-  pub range-map-last-as-rust : (r : Range) → RangeMapLastRangeValue n r → r ≡ foundInC (rustFound halfOpen (map-last range-map-held))
-  range-map-last-as-rust r q = q ∙ ap foundInC (same .questions (Map.held n) range-map-lent .last)
-
-  -- GET and CONTAINS
-  pub range-map-get-as-rust : (k : ℤ) (r : Range) → RangeMapGetKeyValue n k r → r ≡ foundInC (rustFound halfOpen (rust .get-key-value (rank k) range-map-held))
-  range-map-get-as-rust k r q = q ∙ ap foundInC (same .questions (Map.held n) range-map-lent .get-key-value k)
-
-  pub range-map-contains-as-rust : (k : ℤ) (r : Told) → RangeMapContainsKey n k r → r ≡ askedInC (yesNo (rust .contains-key (rank k) range-map-held))
-  range-map-contains-as-rust k r q = q ∙ ap askedInC (same .questions (Map.held n) range-map-lent .contains-key k)
-
-  -- OVERLAPS and OVERLAPPING, of a query that is not empty: the places that are told hold what the Rust's iterator gives
-  pub range-map-overlaps-as-rust : (s e : ℤ) (r : Told) → rank s < halfOpen .past e → RangeMapOverlaps n s e r
-      → r ≡ askedInC (yesNo (rust .overlaps (rank s) (halfOpen .past e) range-map-held))
-  range-map-overlaps-as-rust s e r h q = q ∙ ap askedInC (same .questions (Map.held n) range-map-lent .overlaps s e h)
-
-  pub range-map-overlapping-as-rust : (s e : ℤ) (r : Stretch) → rank s < halfOpen .past e → RangeMapOverlapping n s e r
-      → (r .answer ≡ done) × (take (r .count) (drop (r .place) range-map-held) ≡ rust .overlapping (rank s) (halfOpen .past e) range-map-held)
-  range-map-overlapping-as-rust s e r h q =
-      let g = same .questions (Map.held n) range-map-lent .overlapping s e h in
-      rw q (rw (g .told) (refl, g .same))
-
-  -- GAPS: the Rust's iterator ends, and what it gave is written
-  pub range-map-gaps-as-rust : (s e : ℤ) (os os′ oe oe′ : List ℤ) (r : Count) → rank s < halfOpen .past e → RangeMapGaps n s e os os′ oe oe′ r
-      → (list : List Span) × ((rust .gaps (rank s) (halfOpen .past e) range-map-held ≡ some list) × Listed r os′ oe′ (intoLists halfOpen list os oe))
-  range-map-gaps-as-rust s e os os′ oe oe′ r h q =
-      let g = same .questions (Map.held n) range-map-lent .gaps s e h os oe in
-      (g .list, (g .gave, subst (Listed r os′ oe′) (g .same) q))
-
-  -- EQUALITY and ORDER of two
-  pub range-map-eq-as-rust : (ds : List Call) (o : RangeMap) (r : Told) → RangeMapAfter ds o → RangeMapEq n o r
-      → r ≡ askedInC (yesNo (rust .eq range-map-held (ranges halfOpen (Map.held o))))
-  range-map-eq-as-rust ds o r other q = q ∙ ap askedInC (same .order (Map.held n) (Map.held o) range-map-lent (lent (range-map-proper ds o other)) .eq)
-
-  pub range-map-cmp-as-rust : (ds : List Call) (o : RangeMap) (r : Order) → RangeMapAfter ds o → RangeMapCmp n o r
-      → r ≡ comparedInC (comparedBy (rust .cmp range-map-held (ranges halfOpen (Map.held o))))
-  range-map-cmp-as-rust ds o r other q = q ∙ ap comparedInC (same .order (Map.held n) (Map.held o) range-map-lent (lent (range-map-proper ds o other)) .cmp)
-
-  -- BULK INSERT: the Rust's extend of as many entries as were applied leaves what the map holds then
+  -- BULK INSERT
   pub range-map-extend-as-rust : (n′ : RangeMap) (ss es : List ℤ) (vs : List ℕ) (r : Applied) → RangeMapExtend n n′ ss es vs r
-      → rust .extend (entrySpans halfOpen (take (r .applied) (entries ss es vs))) range-map-held ≡ some (ranges halfOpen (Map.held n′))
-  range-map-extend-as-rust n′ ss es vs r q =
-      let xs : List Entry = entries ss es vs in
-      let is : extended r (Map.held n′) ≡ bulkInsertSound halfOpen (Map.held n) 0 xs =
-      q ∙ (unfold bulkInsert in rw (proper-formed (range-map-proper cs n left))) in
-      subst (λ (o : Extended). rust .extend (entrySpans halfOpen (take (o .told .applied) xs)) range-map-held ≡ some (ranges halfOpen (o .left))) (sym is)
-      (same .extend (Map.held n) xs range-map-lent)
+      → ExtendAsRust halfOpen rust (Map.held n) (entries ss es vs) r (Map.held n′)
+  range-map-extend-as-rust n′ ss es vs r q = extend-as-rust same (range-map-proper cs n left) (entries ss es vs) q
+
+  -- EACH QUESTION
+  pub range-map-len-as-rust : LenAsRust halfOpen rust (Map.held n) (RangeMapLen n)
+  range-map-len-as-rust = map-as-rust same (range-map-proper cs n left) .len
+
+  pub range-map-is-empty-as-rust : IsEmptyAsRust halfOpen rust (Map.held n) (RangeMapIsEmpty n)
+  range-map-is-empty-as-rust = map-as-rust same (range-map-proper cs n left) .is-empty
+
+  pub range-map-range-at-as-rust : RangeAtAsRust halfOpen rust (Map.held n) (RangeMapRangeAt n)
+  range-map-range-at-as-rust = map-as-rust same (range-map-proper cs n left) .range-at
+
+  pub range-map-first-as-rust : FirstAsRust halfOpen rust (Map.held n) (RangeMapFirstRangeValue n)
+  range-map-first-as-rust = map-as-rust same (range-map-proper cs n left) .first
+
+  pub range-map-last-as-rust : LastAsRust halfOpen rust (Map.held n) (RangeMapLastRangeValue n)
+  range-map-last-as-rust = map-as-rust same (range-map-proper cs n left) .last
+
+  pub range-map-get-as-rust : GetAsRust halfOpen rust (Map.held n) (RangeMapGetKeyValue n)
+  range-map-get-as-rust = map-as-rust same (range-map-proper cs n left) .get
+
+  pub range-map-contains-as-rust : ContainsAsRust halfOpen rust (Map.held n) (RangeMapContainsKey n)
+  range-map-contains-as-rust = map-as-rust same (range-map-proper cs n left) .contains
+
+  pub range-map-overlaps-as-rust : OverlapsAsRust halfOpen rust (Map.held n) (RangeMapOverlaps n)
+  range-map-overlaps-as-rust = map-as-rust same (range-map-proper cs n left) .overlaps
+
+  pub range-map-overlapping-as-rust : OverlappingAsRust halfOpen rust (Map.held n) (RangeMapOverlapping n)
+  range-map-overlapping-as-rust = map-as-rust same (range-map-proper cs n left) .overlapping
+
+  pub range-map-gaps-as-rust : GapsAsRust halfOpen rust (Map.held n) (RangeMapGaps n)
+  range-map-gaps-as-rust = map-as-rust same (range-map-proper cs n left) .gaps
+
+  -- OF TWO
+  module _ (ds : List Call) (o : RangeMap) (other : RangeMapAfter ds o) where
+    pub range-map-eq-as-rust : EqAsRust halfOpen rust (Map.held n) (Map.held o) (RangeMapEq n o)
+    range-map-eq-as-rust = maps-as-rust same (range-map-proper cs n left) (range-map-proper ds o other) .eq
+
+    pub range-map-cmp-as-rust : CmpAsRust halfOpen rust (Map.held n) (Map.held o) (RangeMapCmp n o)
+    range-map-cmp-as-rust = maps-as-rust same (range-map-proper cs n left) (range-map-proper ds o other) .cmp
 
 -- THE INCLUSIVE MAP
 module _ (rust : Functions) (same : EqualToTheRust inclusive rust) (cs : List Call) (n : RangeInclusiveMap) (left : RangeInclusiveMapAfter cs n) where
-  abbrev range-inclusive-map-held : List Span
-  range-inclusive-map-held = ranges inclusive (InclusiveMap.held n)
-
-  range-inclusive-map-lent : LentMap inclusive (InclusiveMap.held n)
-  range-inclusive-map-lent = lent (range-inclusive-map-proper cs n left)
-
   -- INSERT and REMOVE, through either door: what they answer, and every place that they leave
   pub range-inclusive-map-insert-as-rust : (n′ : RangeInclusiveMap) (s e : ℤ) (v r : ℕ) → RangeInclusiveMapCall (insertCall s e v r) n n′
-      → leaving r (InclusiveMap.held n′) ≡ rustEdited inclusive rust (InclusiveMap.held n) s e (some v)
-  range-inclusive-map-insert-as-rust n′ s e v r q =
-      either-door inclusive-too (range-inclusive-map-proper cs n left) s e (some v) q
-      ∙ one-edit rust same (InclusiveMap.held n) s e (some v) range-inclusive-map-lent
+      → EditAsRust inclusive rust (InclusiveMap.held n) s e (some v) r (InclusiveMap.held n′)
+  range-inclusive-map-insert-as-rust n′ s e v r q = through-door same (range-inclusive-map-proper cs n left) inclusive-too s e (some v) q
 
   pub range-inclusive-map-remove-as-rust : (n′ : RangeInclusiveMap) (s e : ℤ) (r : ℕ) → RangeInclusiveMapCall (removeCall s e r) n n′
-      → leaving r (InclusiveMap.held n′) ≡ rustEdited inclusive rust (InclusiveMap.held n) s e none
-  range-inclusive-map-remove-as-rust n′ s e r q =
-      either-door inclusive-too (range-inclusive-map-proper cs n left) s e none q ∙ one-edit rust same (InclusiveMap.held n) s e none range-inclusive-map-lent
+      → EditAsRust inclusive rust (InclusiveMap.held n) s e none r (InclusiveMap.held n′)
+  range-inclusive-map-remove-as-rust n′ s e r q = through-door same (range-inclusive-map-proper cs n left) inclusive-too s e none q
 
-  -- LEN and IS EMPTY
-  pub range-inclusive-map-len-as-rust : (r : Count) → RangeInclusiveMapLen n r → r ≡ record { answer = done; count = map-len range-inclusive-map-held }
-  range-inclusive-map-len-as-rust r q = rw q (rw (same .questions (InclusiveMap.held n) range-inclusive-map-lent .len))
-
-  pub range-inclusive-map-is-empty-as-rust : (r : Told) → RangeInclusiveMapIsEmpty n r → r ≡ askedInC (yesNo (map-is-empty range-inclusive-map-held))
-  range-inclusive-map-is-empty-as-rust r q = q ∙ ap askedInC (same .questions (InclusiveMap.held n) range-inclusive-map-lent .is-empty)
-
-  -- A PLACE, as the iterator's nth; FIRST and LAST
-  pub range-inclusive-map-range-at-as-rust : (i : ℕ) (r : Range) → RangeInclusiveMapRangeAt n i r
-      → r ≡ foundInC (rustFound inclusive (nth i range-inclusive-map-held))
-  range-inclusive-map-range-at-as-rust i r q = q ∙ ap foundInC (same .questions (InclusiveMap.held n) range-inclusive-map-lent .iter i)
-
-  pub range-inclusive-map-first-as-rust : (r : Range) → RangeInclusiveMapFirstRangeValue n r
-      → r ≡ foundInC (rustFound inclusive (map-first range-inclusive-map-held))
-  range-inclusive-map-first-as-rust r q = q ∙ ap foundInC (same .questions (InclusiveMap.held n) range-inclusive-map-lent .first)
-
-  pub range-inclusive-map-last-as-rust : (r : Range) → RangeInclusiveMapLastRangeValue n r
-      → r ≡ foundInC (rustFound inclusive (map-last range-inclusive-map-held))
-  range-inclusive-map-last-as-rust r q = q ∙ ap foundInC (same .questions (InclusiveMap.held n) range-inclusive-map-lent .last)
-
-  -- GET and CONTAINS
-  pub range-inclusive-map-get-as-rust : (k : ℤ) (r : Range) → RangeInclusiveMapGetKeyValue n k r
-      → r ≡ foundInC (rustFound inclusive (rust .get-key-value (rank k) range-inclusive-map-held))
-  range-inclusive-map-get-as-rust k r q = q ∙ ap foundInC (same .questions (InclusiveMap.held n) range-inclusive-map-lent .get-key-value k)
-
-  pub range-inclusive-map-contains-as-rust : (k : ℤ) (r : Told) → RangeInclusiveMapContainsKey n k r
-      → r ≡ askedInC (yesNo (rust .contains-key (rank k) range-inclusive-map-held))
-  range-inclusive-map-contains-as-rust k r q = q ∙ ap askedInC (same .questions (InclusiveMap.held n) range-inclusive-map-lent .contains-key k)
-
-  -- OVERLAPS and OVERLAPPING, of a query that is not empty: the places that are told hold what the Rust's iterator gives
-  pub range-inclusive-map-overlaps-as-rust : (s e : ℤ) (r : Told) → rank s < inclusive .past e → RangeInclusiveMapOverlaps n s e r
-      → r ≡ askedInC (yesNo (rust .overlaps (rank s) (inclusive .past e) range-inclusive-map-held))
-  range-inclusive-map-overlaps-as-rust s e r h q = q ∙ ap askedInC (same .questions (InclusiveMap.held n) range-inclusive-map-lent .overlaps s e h)
-
-  pub range-inclusive-map-overlapping-as-rust : (s e : ℤ) (r : Stretch) → rank s < inclusive .past e → RangeInclusiveMapOverlapping n s e r
-      → (r .answer ≡ done)
-      × (take (r .count) (drop (r .place) range-inclusive-map-held) ≡ rust .overlapping (rank s) (inclusive .past e) range-inclusive-map-held)
-  range-inclusive-map-overlapping-as-rust s e r h q =
-      let g = same .questions (InclusiveMap.held n) range-inclusive-map-lent .overlapping s e h in
-      rw q (rw (g .told) (refl, g .same))
-
-  -- GAPS: the Rust's iterator ends, and what it gave is written
-  pub range-inclusive-map-gaps-as-rust : (s e : ℤ) (os os′ oe oe′ : List ℤ) (r : Count) → rank s < inclusive .past e
-      → RangeInclusiveMapGaps n s e os os′ oe oe′ r
-      → (list : List Span) × ((rust .gaps (rank s) (inclusive .past e) range-inclusive-map-held ≡ some list)
-      × Listed r os′ oe′ (intoLists inclusive list os oe))
-  range-inclusive-map-gaps-as-rust s e os os′ oe oe′ r h q =
-      let g = same .questions (InclusiveMap.held n) range-inclusive-map-lent .gaps s e h os oe in
-      (g .list, (g .gave, subst (Listed r os′ oe′) (g .same) q))
-
-  -- EQUALITY and ORDER of two
-  pub range-inclusive-map-eq-as-rust : (ds : List Call) (o : RangeInclusiveMap) (r : Told) → RangeInclusiveMapAfter ds o → RangeInclusiveMapEq n o r
-      → r ≡ askedInC (yesNo (rust .eq range-inclusive-map-held (ranges inclusive (InclusiveMap.held o))))
-  range-inclusive-map-eq-as-rust ds o r other q =
-      q ∙ ap askedInC (same .order (InclusiveMap.held n) (InclusiveMap.held o) range-inclusive-map-lent (lent (range-inclusive-map-proper ds o other)) .eq)
-
-  pub range-inclusive-map-cmp-as-rust : (ds : List Call) (o : RangeInclusiveMap) (r : Order) → RangeInclusiveMapAfter ds o → RangeInclusiveMapCmp n o r
-      → r ≡ comparedInC (comparedBy (rust .cmp range-inclusive-map-held (ranges inclusive (InclusiveMap.held o))))
-  range-inclusive-map-cmp-as-rust ds o r other q =
-      q ∙ ap comparedInC (same .order (InclusiveMap.held n) (InclusiveMap.held o) range-inclusive-map-lent (lent (range-inclusive-map-proper ds o other)) .cmp)
-
-  -- BULK INSERT: the Rust's extend of as many entries as were applied leaves what the map holds then
+  -- BULK INSERT
   pub range-inclusive-map-extend-as-rust : (n′ : RangeInclusiveMap) (ss es : List ℤ) (vs : List ℕ) (r : Applied) → RangeInclusiveMapExtend n n′ ss es vs r
-      → rust .extend (entrySpans inclusive (take (r .applied) (entries ss es vs))) range-inclusive-map-held ≡ some (ranges inclusive (InclusiveMap.held n′))
-  range-inclusive-map-extend-as-rust n′ ss es vs r q =
-      let xs : List Entry = entries ss es vs in
-      let is : extended r (InclusiveMap.held n′) ≡ bulkInsertSound inclusive (InclusiveMap.held n) 0 xs =
-      q ∙ (unfold bulkInsert in rw (proper-formed (range-inclusive-map-proper cs n left))) in
-      subst (λ (o : Extended). rust .extend (entrySpans inclusive (take (o .told .applied) xs)) range-inclusive-map-held ≡ some (ranges inclusive (o .left))) (sym is)
-      (same .extend (InclusiveMap.held n) xs range-inclusive-map-lent)
+      → ExtendAsRust inclusive rust (InclusiveMap.held n) (entries ss es vs) r (InclusiveMap.held n′)
+  range-inclusive-map-extend-as-rust n′ ss es vs r q = extend-as-rust same (range-inclusive-map-proper cs n left) (entries ss es vs) q
 
--- a set that calls leave is sound
-sound-set : {kind : Kind} {m : Stored} → Proper kind m × (plain m ≡ true) → SoundSet kind m
-sound-set (p, z) = record { sound = p .sound; plain-too = z }
+  -- EACH QUESTION
+  pub range-inclusive-map-len-as-rust : LenAsRust inclusive rust (InclusiveMap.held n) (RangeInclusiveMapLen n)
+  range-inclusive-map-len-as-rust = map-as-rust same (range-inclusive-map-proper cs n left) .len
 
--- SETS OF HALF-OPEN RANGES: union and intersection of two. A set's other functions are the map's, with value 0
-module _ (rust : Functions) (same : EqualToTheRust halfOpen rust) (cs ds : List SetCall) (a b : RangeSet)
-    (left : RangeSetAfter cs a) (other : RangeSetAfter ds b) where
-  -- what the Rust's functions of these two sets answer
-  range-set-two : SameOfSets halfOpen rust (Set.held a) (Set.held b)
-  range-set-two =
-      let first = range-set-good cs a left in
-      let second = range-set-good ds b other in
-      same .sets (Set.held a) (Set.held b) (sound-set first) (sound-set second) (lent (first .0)) (lent (second .0))
+  pub range-inclusive-map-is-empty-as-rust : IsEmptyAsRust inclusive rust (InclusiveMap.held n) (RangeInclusiveMapIsEmpty n)
+  range-inclusive-map-is-empty-as-rust = map-as-rust same (range-inclusive-map-proper cs n left) .is-empty
 
-  -- UNION: the Rust's iterator ends, and what it gave is written
-  pub range-set-union-as-rust : (os os′ oe oe′ : List ℤ) (r : Count) → RangeSetUnion a b os os′ oe oe′ r
-      → (list : List Span) × ((rust .union (ranges halfOpen (Set.held a)) (ranges halfOpen (Set.held b)) ≡ some list)
-      × Listed r os′ oe′ (intoLists halfOpen list os oe))
-  range-set-union-as-rust os os′ oe oe′ r q =
-      let g = range-set-two .union os oe in
-      (g .list, (g .gave, subst (Listed r os′ oe′) (g .same) q))
+  pub range-inclusive-map-range-at-as-rust : RangeAtAsRust inclusive rust (InclusiveMap.held n) (RangeInclusiveMapRangeAt n)
+  range-inclusive-map-range-at-as-rust = map-as-rust same (range-inclusive-map-proper cs n left) .range-at
 
-  -- INTERSECTION: the Rust's iterator ends, and what it gave is written
-  pub range-set-intersection-as-rust : (os os′ oe oe′ : List ℤ) (r : Count) → RangeSetIntersection a b os os′ oe oe′ r
-      → (list : List Span) × ((rust .intersection (ranges halfOpen (Set.held a)) (ranges halfOpen (Set.held b)) ≡ some list)
-      × Listed r os′ oe′ (intoLists halfOpen list os oe))
-  range-set-intersection-as-rust os os′ oe oe′ r q =
-      let g = range-set-two .intersection os oe in
-      (g .list, (g .gave, subst (Listed r os′ oe′) (g .same) q))
+  pub range-inclusive-map-first-as-rust : FirstAsRust inclusive rust (InclusiveMap.held n) (RangeInclusiveMapFirstRangeValue n)
+  range-inclusive-map-first-as-rust = map-as-rust same (range-inclusive-map-proper cs n left) .first
 
--- SETS OF INCLUSIVE RANGES
-module _ (rust : Functions) (same : EqualToTheRust inclusive rust) (cs ds : List SetCall) (a b : RangeInclusiveSet)
-    (left : RangeInclusiveSetAfter cs a) (other : RangeInclusiveSetAfter ds b) where
-  -- what the Rust's functions of these two sets answer
-  range-inclusive-set-two : SameOfSets inclusive rust (InclusiveSet.held a) (InclusiveSet.held b)
-  range-inclusive-set-two =
-      let first = range-inclusive-set-good cs a left in
-      let second = range-inclusive-set-good ds b other in
-      same .sets (InclusiveSet.held a) (InclusiveSet.held b) (sound-set first) (sound-set second) (lent (first .0)) (lent (second .0))
+  pub range-inclusive-map-last-as-rust : LastAsRust inclusive rust (InclusiveMap.held n) (RangeInclusiveMapLastRangeValue n)
+  range-inclusive-map-last-as-rust = map-as-rust same (range-inclusive-map-proper cs n left) .last
 
-  -- UNION: the Rust's iterator ends, and what it gave is written
-  pub range-inclusive-set-union-as-rust : (os os′ oe oe′ : List ℤ) (r : Count) → RangeInclusiveSetUnion a b os os′ oe oe′ r
-      → (list : List Span) × ((rust .union (ranges inclusive (InclusiveSet.held a)) (ranges inclusive (InclusiveSet.held b)) ≡ some list)
-      × Listed r os′ oe′ (intoLists inclusive list os oe))
-  range-inclusive-set-union-as-rust os os′ oe oe′ r q =
-      let g = range-inclusive-set-two .union os oe in
-      (g .list, (g .gave, subst (Listed r os′ oe′) (g .same) q))
+  pub range-inclusive-map-get-as-rust : GetAsRust inclusive rust (InclusiveMap.held n) (RangeInclusiveMapGetKeyValue n)
+  range-inclusive-map-get-as-rust = map-as-rust same (range-inclusive-map-proper cs n left) .get
 
-  -- INTERSECTION: the Rust's iterator ends, and what it gave is written
-  pub range-inclusive-set-intersection-as-rust : (os os′ oe oe′ : List ℤ) (r : Count) → RangeInclusiveSetIntersection a b os os′ oe oe′ r
-      → (list : List Span) × ((rust .intersection (ranges inclusive (InclusiveSet.held a)) (ranges inclusive (InclusiveSet.held b)) ≡ some list)
-      × Listed r os′ oe′ (intoLists inclusive list os oe))
-  range-inclusive-set-intersection-as-rust os os′ oe oe′ r q =
-      let g = range-inclusive-set-two .intersection os oe in
-      (g .list, (g .gave, subst (Listed r os′ oe′) (g .same) q))
+  pub range-inclusive-map-contains-as-rust : ContainsAsRust inclusive rust (InclusiveMap.held n) (RangeInclusiveMapContainsKey n)
+  range-inclusive-map-contains-as-rust = map-as-rust same (range-inclusive-map-proper cs n left) .contains
+
+  pub range-inclusive-map-overlaps-as-rust : OverlapsAsRust inclusive rust (InclusiveMap.held n) (RangeInclusiveMapOverlaps n)
+  range-inclusive-map-overlaps-as-rust = map-as-rust same (range-inclusive-map-proper cs n left) .overlaps
+
+  pub range-inclusive-map-overlapping-as-rust : OverlappingAsRust inclusive rust (InclusiveMap.held n) (RangeInclusiveMapOverlapping n)
+  range-inclusive-map-overlapping-as-rust = map-as-rust same (range-inclusive-map-proper cs n left) .overlapping
+
+  pub range-inclusive-map-gaps-as-rust : GapsAsRust inclusive rust (InclusiveMap.held n) (RangeInclusiveMapGaps n)
+  range-inclusive-map-gaps-as-rust = map-as-rust same (range-inclusive-map-proper cs n left) .gaps
+
+  -- OF TWO
+  module _ (ds : List Call) (o : RangeInclusiveMap) (other : RangeInclusiveMapAfter ds o) where
+    pub range-inclusive-map-eq-as-rust : EqAsRust inclusive rust (InclusiveMap.held n) (InclusiveMap.held o) (RangeInclusiveMapEq n o)
+    range-inclusive-map-eq-as-rust = maps-as-rust same (range-inclusive-map-proper cs n left) (range-inclusive-map-proper ds o other) .eq
+
+    pub range-inclusive-map-cmp-as-rust : CmpAsRust inclusive rust (InclusiveMap.held n) (InclusiveMap.held o) (RangeInclusiveMapCmp n o)
+    range-inclusive-map-cmp-as-rust = maps-as-rust same (range-inclusive-map-proper cs n left) (range-inclusive-map-proper ds o other) .cmp
+
+-- THE SET OF HALF-OPEN RANGES
+module _ (rust : Functions) (same : EqualToTheRust halfOpen rust) (cs : List SetCall) (n : RangeSet) (left : RangeSetAfter cs n) where
+  -- INSERT and REMOVE: what they answer, and every place that they leave
+  pub range-set-insert-as-rust : (n′ : RangeSet) (s e : ℤ) (r : ℕ) → RangeSetInsert n n′ s e r
+      → EditAsRust halfOpen rust (Set.held n) s e (some 0) r (Set.held n′)
+  range-set-insert-as-rust n′ s e r q = q ∙ set-insert-as-rust same (range-set-good cs n left) s e
+
+  pub range-set-remove-as-rust : (n′ : RangeSet) (s e : ℤ) (r : ℕ) → RangeSetRemove n n′ s e r
+      → EditAsRust halfOpen rust (Set.held n) s e none r (Set.held n′)
+  range-set-remove-as-rust n′ s e r q = q ∙ set-remove-as-rust same (range-set-good cs n left) s e
+
+  -- BULK INSERT
+  pub range-set-extend-as-rust : (n′ : RangeSet) (ss es : List ℤ) (r : Applied) → RangeSetExtend n n′ ss es r
+      → ExtendAsRust halfOpen rust (Set.held n) (pairs ss es) r (Set.held n′)
+  range-set-extend-as-rust n′ ss es r q = set-extend-as-rust same (range-set-good cs n left) (pairs ss es) q
+
+  -- EACH QUESTION
+  pub range-set-len-as-rust : LenAsRust halfOpen rust (Set.held n) (RangeSetLen n)
+  range-set-len-as-rust = set-as-rust same (range-set-good cs n left) .len
+
+  pub range-set-is-empty-as-rust : IsEmptyAsRust halfOpen rust (Set.held n) (RangeSetIsEmpty n)
+  range-set-is-empty-as-rust = set-as-rust same (range-set-good cs n left) .is-empty
+
+  pub range-set-range-at-as-rust : RangeAtAsRust halfOpen rust (Set.held n) (RangeSetRangeAt n)
+  range-set-range-at-as-rust = set-as-rust same (range-set-good cs n left) .range-at
+
+  pub range-set-first-as-rust : FirstAsRust halfOpen rust (Set.held n) (RangeSetFirst n)
+  range-set-first-as-rust = set-as-rust same (range-set-good cs n left) .first
+
+  pub range-set-last-as-rust : LastAsRust halfOpen rust (Set.held n) (RangeSetLast n)
+  range-set-last-as-rust = set-as-rust same (range-set-good cs n left) .last
+
+  pub range-set-get-as-rust : GetAsRust halfOpen rust (Set.held n) (RangeSetGet n)
+  range-set-get-as-rust = set-as-rust same (range-set-good cs n left) .get
+
+  pub range-set-contains-as-rust : ContainsAsRust halfOpen rust (Set.held n) (RangeSetContains n)
+  range-set-contains-as-rust = set-as-rust same (range-set-good cs n left) .contains
+
+  pub range-set-overlaps-as-rust : OverlapsAsRust halfOpen rust (Set.held n) (RangeSetOverlaps n)
+  range-set-overlaps-as-rust = set-as-rust same (range-set-good cs n left) .overlaps
+
+  pub range-set-overlapping-as-rust : OverlappingAsRust halfOpen rust (Set.held n) (RangeSetOverlapping n)
+  range-set-overlapping-as-rust = set-as-rust same (range-set-good cs n left) .overlapping
+
+  pub range-set-gaps-as-rust : GapsAsRust halfOpen rust (Set.held n) (RangeSetGaps n)
+  range-set-gaps-as-rust = set-as-rust same (range-set-good cs n left) .gaps
+
+  -- OF TWO
+  module _ (ds : List SetCall) (o : RangeSet) (other : RangeSetAfter ds o) where
+    pub range-set-eq-as-rust : EqAsRust halfOpen rust (Set.held n) (Set.held o) (RangeSetEq n o)
+    range-set-eq-as-rust = sets-as-rust same (range-set-good cs n left) (range-set-good ds o other) .eq
+
+    pub range-set-cmp-as-rust : CmpAsRust halfOpen rust (Set.held n) (Set.held o) (RangeSetCmp n o)
+    range-set-cmp-as-rust = sets-as-rust same (range-set-good cs n left) (range-set-good ds o other) .cmp
+
+    pub range-set-union-as-rust : UnionAsRust halfOpen rust (Set.held n) (Set.held o) (RangeSetUnion n o)
+    range-set-union-as-rust = sets-as-rust same (range-set-good cs n left) (range-set-good ds o other) .union
+
+    pub range-set-intersection-as-rust : IntersectionAsRust halfOpen rust (Set.held n) (Set.held o) (RangeSetIntersection n o)
+    range-set-intersection-as-rust = sets-as-rust same (range-set-good cs n left) (range-set-good ds o other) .intersection
+
+-- THE SET OF INCLUSIVE RANGES
+module _ (rust : Functions) (same : EqualToTheRust inclusive rust) (cs : List SetCall) (n : RangeInclusiveSet) (left : RangeInclusiveSetAfter cs n) where
+  -- INSERT and REMOVE: what they answer, and every place that they leave
+  pub range-inclusive-set-insert-as-rust : (n′ : RangeInclusiveSet) (s e : ℤ) (r : ℕ) → RangeInclusiveSetInsert n n′ s e r
+      → EditAsRust inclusive rust (InclusiveSet.held n) s e (some 0) r (InclusiveSet.held n′)
+  range-inclusive-set-insert-as-rust n′ s e r q = q ∙ set-insert-as-rust same (range-inclusive-set-good cs n left) s e
+
+  pub range-inclusive-set-remove-as-rust : (n′ : RangeInclusiveSet) (s e : ℤ) (r : ℕ) → RangeInclusiveSetRemove n n′ s e r
+      → EditAsRust inclusive rust (InclusiveSet.held n) s e none r (InclusiveSet.held n′)
+  range-inclusive-set-remove-as-rust n′ s e r q = q ∙ set-remove-as-rust same (range-inclusive-set-good cs n left) s e
+
+  -- BULK INSERT
+  pub range-inclusive-set-extend-as-rust : (n′ : RangeInclusiveSet) (ss es : List ℤ) (r : Applied) → RangeInclusiveSetExtend n n′ ss es r
+      → ExtendAsRust inclusive rust (InclusiveSet.held n) (pairs ss es) r (InclusiveSet.held n′)
+  range-inclusive-set-extend-as-rust n′ ss es r q = set-extend-as-rust same (range-inclusive-set-good cs n left) (pairs ss es) q
+
+  -- EACH QUESTION
+  pub range-inclusive-set-len-as-rust : LenAsRust inclusive rust (InclusiveSet.held n) (RangeInclusiveSetLen n)
+  range-inclusive-set-len-as-rust = set-as-rust same (range-inclusive-set-good cs n left) .len
+
+  pub range-inclusive-set-is-empty-as-rust : IsEmptyAsRust inclusive rust (InclusiveSet.held n) (RangeInclusiveSetIsEmpty n)
+  range-inclusive-set-is-empty-as-rust = set-as-rust same (range-inclusive-set-good cs n left) .is-empty
+
+  pub range-inclusive-set-range-at-as-rust : RangeAtAsRust inclusive rust (InclusiveSet.held n) (RangeInclusiveSetRangeAt n)
+  range-inclusive-set-range-at-as-rust = set-as-rust same (range-inclusive-set-good cs n left) .range-at
+
+  pub range-inclusive-set-first-as-rust : FirstAsRust inclusive rust (InclusiveSet.held n) (RangeInclusiveSetFirst n)
+  range-inclusive-set-first-as-rust = set-as-rust same (range-inclusive-set-good cs n left) .first
+
+  pub range-inclusive-set-last-as-rust : LastAsRust inclusive rust (InclusiveSet.held n) (RangeInclusiveSetLast n)
+  range-inclusive-set-last-as-rust = set-as-rust same (range-inclusive-set-good cs n left) .last
+
+  pub range-inclusive-set-get-as-rust : GetAsRust inclusive rust (InclusiveSet.held n) (RangeInclusiveSetGet n)
+  range-inclusive-set-get-as-rust = set-as-rust same (range-inclusive-set-good cs n left) .get
+
+  pub range-inclusive-set-contains-as-rust : ContainsAsRust inclusive rust (InclusiveSet.held n) (RangeInclusiveSetContains n)
+  range-inclusive-set-contains-as-rust = set-as-rust same (range-inclusive-set-good cs n left) .contains
+
+  pub range-inclusive-set-overlaps-as-rust : OverlapsAsRust inclusive rust (InclusiveSet.held n) (RangeInclusiveSetOverlaps n)
+  range-inclusive-set-overlaps-as-rust = set-as-rust same (range-inclusive-set-good cs n left) .overlaps
+
+  pub range-inclusive-set-overlapping-as-rust : OverlappingAsRust inclusive rust (InclusiveSet.held n) (RangeInclusiveSetOverlapping n)
+  range-inclusive-set-overlapping-as-rust = set-as-rust same (range-inclusive-set-good cs n left) .overlapping
+
+  pub range-inclusive-set-gaps-as-rust : GapsAsRust inclusive rust (InclusiveSet.held n) (RangeInclusiveSetGaps n)
+  range-inclusive-set-gaps-as-rust = set-as-rust same (range-inclusive-set-good cs n left) .gaps
+
+  -- OF TWO
+  module _ (ds : List SetCall) (o : RangeInclusiveSet) (other : RangeInclusiveSetAfter ds o) where
+    pub range-inclusive-set-eq-as-rust : EqAsRust inclusive rust (InclusiveSet.held n) (InclusiveSet.held o) (RangeInclusiveSetEq n o)
+    range-inclusive-set-eq-as-rust = sets-as-rust same (range-inclusive-set-good cs n left) (range-inclusive-set-good ds o other) .eq
+
+    pub range-inclusive-set-cmp-as-rust : CmpAsRust inclusive rust (InclusiveSet.held n) (InclusiveSet.held o) (RangeInclusiveSetCmp n o)
+    range-inclusive-set-cmp-as-rust = sets-as-rust same (range-inclusive-set-good cs n left) (range-inclusive-set-good ds o other) .cmp
+
+    pub range-inclusive-set-union-as-rust : UnionAsRust inclusive rust (InclusiveSet.held n) (InclusiveSet.held o) (RangeInclusiveSetUnion n o)
+    range-inclusive-set-union-as-rust = sets-as-rust same (range-inclusive-set-good cs n left) (range-inclusive-set-good ds o other) .union
+
+    pub range-inclusive-set-intersection-as-rust
+        : IntersectionAsRust inclusive rust (InclusiveSet.held n) (InclusiveSet.held o) (RangeInclusiveSetIntersection n o)
+    range-inclusive-set-intersection-as-rust = sets-as-rust same (range-inclusive-set-good cs n left) (range-inclusive-set-good ds o other) .intersection

@@ -2,21 +2,23 @@
 -- calls that agree on this leave the same struct; and a refused call leaves the struct as it was.
 use Prim.Native.Nat.{ℕ}
 use mathlib.Core.Path.{_≡_, refl, sym, ap, subst, _∙_}
-use mathlib.Core.Bool.{true}
-use mathlib.Core.List.{List, [], _∷_}
+use mathlib.Core.Bool.{Bool, true, false, cond}
+use mathlib.Core.List.{List, [], _∷_, _++_}
 use mathlib.Core.Option.{Option, some, none}
 use lib.IntN.{ℤ}
 use mir.Syntax.{w64}
 use mir.Val.{SFits}
+use Rattle.span.specs.Span.{Real, last}
+use Rattle.key.specs.Rank.{rank}
 use Rattle.key.specs.Range.{Kind, halfOpen, inclusive}
 use Rattle.key.proofs.Lawful.{Lawful, half-open, inclusive-too}
 use Rattle.outcomes.specs.Stored.{Stored}
-use Rattle.outcomes.specs.Outcomes.{entries, lookup, clear}
+use Rattle.outcomes.specs.Outcomes.{entries, lookup, clear, Change, spanEdits}
 use Rattle.outcomes.specs.Numbers.{foundInC}
 use Rattle.outcomes.specs.Sets.{plain}
 use Rattle.outcomes.specs.declared.Range.{Range}
 use Rattle.set_ops.specs.Answers.{setLookup}
-use Rattle.one_map.specs.Events.{Proper, valueAt, Effect}
+use Rattle.one_map.specs.Events.{Proper, valueAt, Effect, leftAt}
 use Rattle.one_map.proofs.Known.{some-found, lookup-found, none-found, same-lookups}
 use Rattle.one_map.proofs.OneMap.{clear-proper, clear-holds}
 use Rattle.one_map.proofs.Refusals.{read-unchanged}
@@ -38,6 +40,7 @@ use Rattle.inclusive_set.specs.Set as InclusiveSet
 use Rattle.inclusive_set.specs.Promises.{RangeInclusiveSetGet}
 use Rattle.inclusive_set.proofs.Held as OneInclusiveSet
 use Rattle.theorems.specs.Calls.{Call, insertCall, removeCall, extendCall, clearCall, readCall, callEffect, RefusedCall, Calls, After, lastGiven, Says}
+use Rattle.theorems.specs.Calls.{changesMade}
 use Rattle.theorems.specs.Calls.{SetCall, setInsertCall, setRemoveCall, setExtendCall, setClearCall, setCallEffect, RefusedSetCall}
 use Rattle.theorems.specs.Structs.{RangeMapCall, RangeMapAfter, RangeInclusiveMapCall, RangeInclusiveMapAfter}
 use Rattle.theorems.specs.Structs.{RangeSetCall, RangeSetAfter, RangeInclusiveSetCall, RangeInclusiveSetAfter}
@@ -45,13 +48,44 @@ use Rattle.theorems.proofs.Steps.{Step, insert-step, remove-step, eithe
 use Rattle.theorems.proofs.Steps.{SetStep, set-insert-step, set-remove-step, set-extend-step, set-clear-step}
 use Rattle.theorems.proofs.Steps.{refused-same, either-refused, set-insert-refused, set-remove-refused}
 
+-- WHAT CHANGES LEAVE, one after the other
+module _ (kind : Kind) where
+  -- changes behind others
+  last-behind : (xs ys : List Change) (k : ℕ) (old : Option ℕ)
+      → last (spanEdits kind ys) k (last (spanEdits kind xs) k old) ≡ last (spanEdits kind (xs ++ ys)) k old
+  unfolding last spanEdits
+  last-behind [] ys k old = refl
+  last-behind (x ∷ xs) ys k old = last-behind xs ys k _
+
+  -- and where those before may be gone
+  last-both : (gone : Bool) (xs ys : List Change) (k : ℕ)
+      → last (spanEdits kind ys) k (cond gone none (last (spanEdits kind xs) k none)) ≡ last (spanEdits kind (cond gone [] xs ++ ys)) k none
+  last-both true xs ys k = refl
+  last-both false xs ys k = last-behind xs ys k none
+
+  -- the last value that calls gave a key is what the last of their changes over it gave
+  pub last-made : {C : Type 0} (did : C → Effect) (cs : List C) (before : List Change) (k : ℤ)
+      → lastGiven kind did cs k (last (spanEdits kind before) (rank k) none) ≡ last (spanEdits kind (changesMade did cs before)) (rank k) none
+  unfolding lastGiven changesMade leftAt
+  last-made did [] before k = refl
+  last-made did (c ∷ cs) before k =
+      ap (lastGiven kind did cs k) (last-both (did c .fresh) before (did c .made) (rank k)) ∙ last-made did cs (cond (did c .fresh) [] before ++ did c .made) k
+
+  -- no change is empty where none is of those before and of those behind
+  real-both : (gone : Bool) (xs ys : List Change) → Real (spanEdits kind xs) → Real (spanEdits kind ys) → Real (spanEdits kind (cond gone [] xs ++ ys))
+  unfolding spanEdits
+  real-both true xs ys r s = s
+  real-both false [] ys r s = s
+  real-both false (x ∷ xs) ys r s = (r .0, real-both false xs ys (r .1) s)
+
 -- THE LAW, for any struct: what calls leave of a new one. Good is what a struct keeps from call to call
-record Histories {S C : Type 0} (kind : Kind) (held : S → Stored) (Left : List C → S → Type 0) (did : C → Effect) (Good : Stored → Type 0) : Type 0 where
-  good : (cs : List C) (n : S) → Left cs n → Good (held n)
-  last : (cs : List C) (n : S) (k : ℤ) → Left cs n → valueAt kind (held n) k ≡ lastGiven kind did cs k none
-  say : (cs : List C) (n : S) (k : ℤ) (r : Range) → Left cs n → r ≡ foundInC (lookup kind (held n) k) → Says r (lastGiven kind did cs k none)
-  same : (cs ds : List C) (n o : S) → Left cs n → Left ds o → ((k : ℤ) → SFits w64 k → lastGiven kind did cs k none ≡ lastGiven kind did ds k none)
+pub record Histories {S C : Type 0} (kind : Kind) (held : S → Stored) (Left : List C → S → Type 0) (did : C → Effect) (Good : Stored → Type 0) : Type 0 where
+  pub good : (cs : List C) (n : S) → Left cs n → Good (held n)
+  pub last : (cs : List C) (n : S) (k : ℤ) → Left cs n → valueAt kind (held n) k ≡ lastGiven kind did cs k none
+  pub say : (cs : List C) (n : S) (k : ℤ) (r : Range) → Left cs n → r ≡ foundInC (lookup kind (held n) k) → Says r (lastGiven kind did cs k none)
+  pub same : (cs ds : List C) (n o : S) → Left cs n → Left ds o → ((k : ℤ) → SFits w64 k → lastGiven kind did cs k none ≡ lastGiven kind did ds k none)
       → held n ≡ held o
+  pub real : (cs : List C) (n : S) → Left cs n → Real (spanEdits kind (changesMade did cs []))
 
 -- of a new struct, which holds nothing
 abbrev Empty : {S : Type 0} → Kind → (S → Stored) → S → Type 0
@@ -93,8 +127,23 @@ module _ {kind : Kind} (law : Lawful kind) {S C : Type 0} (held : S → Stored) 
       same-lookups law (good-proper (held n) (calls-good cs n left)) (good-proper (held o) (calls-good ds o left₂))
       (λ k fit. calls-last cs n k left ∙ agree k fit ∙ sym (calls-last ds o k left₂))
 
+  -- no change that they made is of an empty range
+  calls-real : (cs : List C) (m n : S) (before : List Change) → Good (held m) → Real (spanEdits kind before) → Calls Promise cs m n
+      → Real (spanEdits kind (changesMade did cs before))
+  unfolding Calls changesMade
+  calls-real [] m n before g r q = r
+  calls-real (c ∷ cs) m n before g r (next, (q, qs)) =
+      let one = step c m next g q in
+      calls-real cs next n (cond (did c .fresh) [] before ++ did c .made) (one .0) (real-both kind (did c .fresh) before (did c .made) r (one .1 .real)) qs
+
   histories : Histories kind held (After (Empty kind held) Promise) did Good
-  histories = record { good = calls-good; last = calls-last; say = calls-say; same = calls-same }
+  histories = record {
+    good = calls-good;
+    last = calls-last;
+    say = calls-say;
+    same = calls-same;
+    real = λ cs n (m, (new, q)). calls-real cs m n [] (subst Good (sym new) good-new) (unfold spanEdits in tt) q;
+  }
 
 -- a step of a map
 of-map : {kind : Kind} {did : Effect} {m m′ : Stored} → Step kind did m m′ → Proper kind m′ × Step kind did m m′
@@ -121,7 +170,8 @@ range-map-step (extendCall ss es vs t) m m′ p q = of-map (extend-step half-ope
 range-map-step clearCall m m′ p q = of-map (clear-step half-open p q)
 range-map-step (readCall bs fit r) m m′ p q = of-map (read-step p bs fit q)
 
-range-map-histories : Histories halfOpen Map.held RangeMapAfter callEffect (Proper halfOpen)
+-- the law of it
+pub range-map-histories : Histories halfOpen Map.held RangeMapAfter callEffect (Proper halfOpen)
 range-map-histories = histories half-open Map.held RangeMapCall callEffect (Proper halfOpen) (λ m p. p) (clear-proper half-open) range-map-step
 
 -- after any calls from a new map, lookup answers of each key the last value given it, or 5 where there is none
@@ -165,7 +215,8 @@ range-inclusive-map-step (extendCall ss es vs t) m m′ p q = of-map (extend-ste
 range-inclusive-map-step clearCall m m′ p q = of-map (clear-step inclusive-too p q)
 range-inclusive-map-step (readCall bs fit r) m m′ p q = absurd q
 
-range-inclusive-map-histories : Histories inclusive InclusiveMap.held RangeInclusiveMapAfter callEffect (Proper inclusive)
+-- the law of it
+pub range-inclusive-map-histories : Histories inclusive InclusiveMap.held RangeInclusiveMapAfter callEffect (Proper inclusive)
 range-inclusive-map-histories =
     histories inclusive-too InclusiveMap.held RangeInclusiveMapCall callEffect (Proper inclusive) (λ m p. p) (clear-proper inclusive-too)
     range-inclusive-map-step
@@ -206,7 +257,8 @@ range-set-step (setRemoveCall s e r) m m′ (p, z) q = of-set (set-remove-step h
 range-set-step (setExtendCall ss es t) m m′ (p, z) q = of-set (set-extend-step half-open p z ss es q)
 range-set-step setClearCall m m′ (p, z) q = of-set (set-clear-step half-open p z q)
 
-range-set-histories : Histories halfOpen Set.held RangeSetAfter setCallEffect (GoodSet halfOpen)
+-- the law of it
+pub range-set-histories : Histories halfOpen Set.held RangeSetAfter setCallEffect (GoodSet halfOpen)
 range-set-histories =
     histories half-open Set.held RangeSetCall setCallEffect (GoodSet halfOpen) (λ m g. g .0) (clear-proper half-open, new-set half-open) range-set-step
 
@@ -241,7 +293,8 @@ range-inclusive-set-step (setRemoveCall s e r) m m′ (p, z) q = of-set (set-rem
 range-inclusive-set-step (setExtendCall ss es t) m m′ (p, z) q = of-set (set-extend-step inclusive-too p z ss es q)
 range-inclusive-set-step setClearCall m m′ (p, z) q = of-set (set-clear-step inclusive-too p z q)
 
-range-inclusive-set-histories : Histories inclusive InclusiveSet.held RangeInclusiveSetAfter setCallEffect (GoodSet inclusive)
+-- the law of it
+pub range-inclusive-set-histories : Histories inclusive InclusiveSet.held RangeInclusiveSetAfter setCallEffect (GoodSet inclusive)
 range-inclusive-set-histories =
     histories inclusive-too InclusiveSet.held RangeInclusiveSetCall setCallEffect (GoodSet inclusive) (λ m g. g .0)
     (clear-proper inclusive-too, new-set inclusive-too) range-inclusive-set-step

@@ -2,7 +2,7 @@
 -- Days: the hours add up, and days meet. DayKept: what changes nothing in a day leaves its report. Bytes: both round trips.
 -- Events: calls are events of `one_map`; what calls leave is read back. Refused, ListsKept: on any number but 0 all else is 0 or as it was.
 -- Orders: the order of refusals of a query and of a report. WrongAnswers: functions that meet no promise.
--- AsRust, SetsAsRust: equal to the Rust, of the promises. Formed: what a yes of `well_formed` gives.
+-- AsRust, HistoriesAsRust: equal to the Rust, of the promises. Formed: what a yes of `well_formed` gives.
 pub mod Steps
 pub mod Histories
 pub mod Bulk
@@ -15,5 +15,5 @@ pub mod ListsKept
 pub mod Orders
 pub mod WrongAnswers
 pub mod AsRust
-pub mod SetsAsRust
+pub mod HistoriesAsRust
 pub mod Formed

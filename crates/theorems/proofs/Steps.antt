@@ -1,22 +1,26 @@
 -- ONE CALL: what each shape of promise, of a map or of a set of either kind, says of the stored map that is left.
-use Prim.Native.Nat.{ℕ}
+use Prim.Native.Nat.{ℕ, _<_}
 use mathlib.Core.Path.{_≡_, refl, sym, ap, subst, _∙_}
 use mathlib.Core.Bool.{Bool, true, false, cond}
 use mathlib.Core.Logic.{_⊎_, inl, inr}
-use mathlib.Core.List.{List, [], map}
+use mathlib.Core.List.{List, [], _∷_, map}
 use mathlib.Core.Option.{Option, some, none}
-use lib.Dec.{ltb}
+use lib.Dec.{eqb, ltb}
+use borrow.Author.Tests.{eqb-true}
 use lib.ListN.{length, take}
 use lib.IntN.{ℤ}
 use Rattle.answers.specs.Answers.{done, emptyRange, tooMany}
-use Rattle.span.specs.Span.{Span, given}
+use Rattle.span.specs.Span.{Span, Ordered, given, Real}
+use Rattle.span.proofs.Tests.{cases}
 use Rattle.key.specs.Rank.{rank}
 use Rattle.key.specs.Range.{Kind, halfOpen, spanOf, empty}
 use Rattle.key.proofs.Lawful.{Lawful, half-open}
 use Rattle.outcomes.specs.Stored.{places, Stored, ranges, storing}
-use Rattle.outcomes.specs.Outcomes.{Entry, Edited, leaving, Extended, extended, editSound, edit, bulkInsert, clear}
+use Rattle.outcomes.specs.Outcomes.{Entry, Edited, leaving, Extended, extended, editSound, edit, bulkInsert, clear, Change, edits, spanEdits}
 use Rattle.outcomes.specs.declared.Applied.{Applied}
 use Rattle.outcomes.specs.Sets.{plain}
+use Rattle.outcomes.proofs.Edits.{edit-accepted, none-refused}
+use Rattle.outcomes.proofs.Bulk.{range, entries-ranges}
 use Rattle.set_ops.specs.Answers.{pairs, setInsert, setRemove, setBulkInsert}
 use Rattle.byte_form.specs.Bytes.{Bytes}
 use Rattle.byte_form.specs.Layout.{rm01}
@@ -24,22 +28,64 @@ use Rattle.byte_form.specs.Form.{entriesOf, mapIn, read}
 use Rattle.one_map.specs.Events.{Proper, valueAt, Event, insertEvent, removeEvent, bulkEvent, clearEvent, readEvent, happens}
 use Rattle.one_map.specs.Events.{Effect, changed, anew, ifAccepted, entryChange, effect, leftAt}
 use Rattle.one_map.specs.SetEvents.{SetEvent, setInsertEvent, setRemoveEvent, setBulkEvent, setClearEvent, setHappens}
-use Rattle.one_map.proofs.OneMap.{unchecked-same}
-use Rattle.one_map.proofs.Histories.{event-proper, event-holds}
+use Rattle.one_map.proofs.Known.{proper-tidy}
+use Rattle.one_map.proofs.OneMap.{unchecked-same, edit-proper, read-proper}
+use Rattle.one_map.proofs.Histories.{event-proper, event-holds, bulk-leaves, read-done}
 use Rattle.one_map.proofs.Refusals.{edit-unchanged}
 use Rattle.one_map.proofs.SetRefusals.{set-insert-unchanged, set-remove-unchanged}
 use Rattle.one_map.proofs.SetHistories.{set-as-map, set-stays}
 use Rattle.theorems.specs.Calls.{ifDone, gave}
 
--- a proper map is left, which tells of each key what was given it, or else what was held
+-- a proper map is left, which tells of each key what was given it, or else what was held; and no change that was made is of an empty range
 pub record Step (kind : Kind) (did : Effect) (m m′ : Stored) : Type 0 where
   pub proper : Proper kind m′
   pub holds : (k : ℤ) → valueAt kind m′ k ≡ leftAt kind did k (valueAt kind m k)
+  pub real : Real (spanEdits kind (did .made))
+
+-- NO CHANGE IS EMPTY: what was accepted is not, as its answer says
+accepted-real : (kind : Kind) (o : Edited) (x : Effect) → (o .answer ≡ 0 → Real (spanEdits kind (x .made))) → Real (spanEdits kind (ifAccepted o x .made))
+unfolding spanEdits
+accepted-real kind o x f = cases (eqb (o .answer) 0) (λ (y : Effect). Real (spanEdits kind (y .made))) (λ t. f (eqb-true (o .answer) 0 t)) (λ t. tt)
+
+-- nor is a range of a well-formed map
+entries-real : (kind : Kind) (b : ℕ) (xs : List Entry) → Ordered b (map (range kind) xs) → Real (spanEdits kind (map entryChange xs))
+unfolding spanEdits
+entries-real kind b [] o = tt
+entries-real kind b (x ∷ xs) o = (o .1, entries-real kind (kind .past (x .end)) xs (o .2))
+
+read-real : (m : Stored) (bs : List ℕ) → Bytes bs → read rm01 m bs .answer ≡ 0 → Real (spanEdits halfOpen (map entryChange (entriesOf (mapIn rm01 bs))))
+unfolding ranges entriesOf
+read-real m bs fit z =
+    let n : Stored = mapIn rm01 bs in
+    let tidy = proper-tidy (read-proper m bs fit (read-done m bs z) .0) in
+    entries-real halfOpen 0 (entriesOf n) (subst (Ordered 0) (entries-ranges halfOpen (n .count) (n .starts) (n .ends) (n .values)) (tidy .ordered))
+
+module _ {kind : Kind} (law : Lawful kind) where
+  edit-real : {m : Stored} → Proper kind m → (s e : ℤ) (new : Option ℕ) → edit kind m s e new .answer ≡ 0 → rank s < kind .past e
+  edit-real {m} p s e new z = edit-accepted kind places m s e new (ap (λ (o : Edited). o .answer) (unchecked-same p s e new) ∙ z) .real
+
+  edits-real : (cs : List Change) {m : Stored} → Proper kind m → edits kind m cs .answer ≡ 0 → Real (spanEdits kind cs)
+  unfolding edits spanEdits
+  edits-real [] p z = tt
+  edits-real (c ∷ cs) {m} p z =
+      let one = edit kind m (c .start) (c .end) (c .new) in
+      let (first, others) = none-refused one (edits kind (one .left) cs) z in
+      (edit-real p (c .start) (c .end) (c .new) first, edits-real cs (edit-proper law p (c .start) (c .end) (c .new) first) others)
+
+  event-real : (x : Event kind) {m : Stored} → Proper kind m → Real (spanEdits kind (effect x m .made))
+  unfolding spanEdits
+  event-real (insertEvent s e v) {m} p = accepted-real kind (edit kind m s e (some v)) (gave s e (some v)) (λ z. (edit-real p s e (some v) z, tt))
+  event-real (removeEvent s e) {m} p = accepted-real kind (edit kind m s e none) (gave s e none) (λ z. (edit-real p s e none z, tt))
+  event-real (bulkEvent xs) p = edits-real _ p (ap (λ (o : Edited). o .answer) (bulk-leaves law p xs))
+  event-real clearEvent p = tt
+  event-real (readEvent is bs fit) {m} p =
+      let cs : List Change = map entryChange (entriesOf (mapIn rm01 bs)) in
+      accepted-real kind (read rm01 m bs) (anew cs) (λ z. subst (λ (k : Kind). Real (spanEdits k cs)) (sym is) (read-real m bs fit z))
 
 module _ {kind : Kind} (law : Lawful kind) {m m′ : Stored} (p : Proper kind m) where
   -- a promise that says what an event leaves
   event-step : (x : Event kind) → m′ ≡ happens x m .left → Step kind (effect x m) m m′
-  event-step x q = subst (Step kind (effect x m) m) (sym q) (record { proper = event-proper law x p; holds = event-holds law x p })
+  event-step x q = subst (Step kind (effect x m) m) (sym q) (record { proper = event-proper law x p; holds = event-holds law x p; real = event-real law x p })
 
   -- insert
   pub insert-step : (s e : ℤ) (v : ℕ) {r : ℕ} → leaving r m′ ≡ edit kind m s e (some v) → Step kind (ifDone r (gave s e (some v))) m m′

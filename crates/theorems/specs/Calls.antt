@@ -2,14 +2,14 @@
 use Prim.Native.Nat.{ℕ}
 use mathlib.Core.Path.{_≡_}
 use mathlib.Core.Bool.{cond}
-use mathlib.Core.List.{List, [], _∷_, map}
+use mathlib.Core.List.{List, [], _∷_, _++_, map}
 use mathlib.Core.Option.{Option, some, none}
 use lib.Dec.{eqb}
 use lib.ListN.{take}
 use lib.IntN.{ℤ}
 use Rattle.answers.specs.Answers.{done, noneThere}
 use Rattle.key.specs.Range.{Kind}
-use Rattle.outcomes.specs.Outcomes.{entries}
+use Rattle.outcomes.specs.Outcomes.{Change, entries}
 use Rattle.outcomes.specs.declared.Applied.{Applied}
 use Rattle.outcomes.specs.declared.Range.{Range}
 use Rattle.set_ops.specs.Answers.{pairs}
@@ -85,6 +85,11 @@ After {S} New Promise cs n = (new : S) × (New new × Calls Promise cs new n)
 unfoldable pub lastGiven : {C : Type 0} → Kind → (C → Effect) → List C → ℤ → Option ℕ → Option ℕ
 lastGiven kind did [] k old = old
 lastGiven kind did (c ∷ cs) k old = lastGiven kind did cs k (leftAt kind (did c) k old)
+
+-- THE CHANGES that calls made, in order, behind those made before: a refused call made none, and a clear or a read begins anew
+unfoldable pub changesMade : {C : Type 0} → (C → Effect) → List C → List Change → List Change
+changesMade did [] before = before
+changesMade did (c ∷ cs) before = changesMade did cs (cond (did c .fresh) [] before ++ did c .made)
 
 -- what the answer of a lookup says of a key: 0 with the value that is held there, or 5
 abbrev pub Says : Range → Option ℕ → Type 0
