@@ -13,9 +13,9 @@ use Rattle.key.proofs.Lawful.{Lawful, half-open, inclusive-too}
 use Rattle.outcomes.specs.Stored.{Stored}
 use Rattle.outcomes.specs.Outcomes.{entries, lookup, clear}
 use Rattle.outcomes.specs.Numbers.{foundInC}
-use Rattle.outcomes.specs.Sets.{plain}
+use Rattle.outcomes.specs.Sets.{plain, ifSet}
+use Rattle.outcomes.specs.declared.Found.the-variants as Found
 use Rattle.outcomes.specs.declared.Range.{Range}
-use Rattle.set_ops.specs.Answers.{setLookup}
 use Rattle.one_map.specs.Events.{Proper, valueAt, Effect}
 use Rattle.one_map.proofs.Known.{some-found, lookup-found, none-found, same-lookups}
 use Rattle.one_map.proofs.OneMap.{clear-proper, clear-holds}
@@ -108,8 +108,7 @@ of-set : {kind : Kind} {did : Effect} {m m′ : Stored} → SetStep kind did m m
 of-set t = ((t .as-map .proper, t .set-again), t .as-map)
 
 -- its lookup is the map's
-as-lookup : (kind : Kind) (m : Stored) (k : ℤ) → plain m ≡ true → setLookup kind m k ≡ lookup kind m k
-unfolding setLookup
+as-lookup : (kind : Kind) (m : Stored) (k : ℤ) → plain m ≡ true → ifSet m (lookup kind m k) Found.Refused ≡ lookup kind m k
 as-lookup kind m k z = rw z
 
 -- THE HALF-OPEN MAP, call by call

@@ -15,15 +15,17 @@ use Rattle.outcomes.specs.Stored.{Stored, ranges}
 use Rattle.outcomes.specs.Outcomes.{Listed, leaving, intoLists, yesNo, comparedBy}
 use Rattle.outcomes.specs.Outcomes.{isEmpty, countOf, rangeAt, firstOf, lastOf, lookup, contains, overlaps, overlapping, gaps, equal, order, insert, remove}
 use Rattle.outcomes.specs.Numbers.{askedInC, countedInC, foundInC, partInC, comparedInC}
-use Rattle.outcomes.specs.Sets.{plain}
+use Rattle.outcomes.specs.Sets.{plain, ifSet, ifSets, notWritten}
+use Rattle.outcomes.specs.declared.Asked.the-variants as Asked
+use Rattle.outcomes.specs.declared.Compared.the-variants as Compared
 use Rattle.outcomes.specs.declared.Count.{Count}
 use Rattle.outcomes.specs.declared.Counted.the-variants as Counted
+use Rattle.outcomes.specs.declared.Found.the-variants as Found
 use Rattle.outcomes.specs.declared.Order.{Order}
+use Rattle.outcomes.specs.declared.Part.the-variants as Part
 use Rattle.outcomes.specs.declared.Range.{Range}
 use Rattle.outcomes.specs.declared.Stretch.{Stretch}
 use Rattle.outcomes.specs.declared.Told.{Told}
-use Rattle.set_ops.specs.Answers.{setIsEmpty, setCount, setRangeAt, setFirst, setLast, setLookup, setContains, setOverlaps, setOverlapping, setGaps}
-use Rattle.set_ops.specs.Answers.{setOrder, setEqual, setInsert, setRemove}
 use Rattle.rust_algorithm.specs.Btree.{nth}
 use Rattle.rust_algorithm.specs.Map.{map-first, map-last, map-len, map-is-empty}
 use Rattle.rust_algorithm.specs.Answers.{Functions, rustFound, rustEdited}
@@ -45,61 +47,47 @@ use Rattle.theorems.proofs.AsRust.{lent, one-edit}
 
 -- a set's functions are the map's where all values are 0
 module _ (kind : Kind) (m : Stored) (z : plain m ≡ true) where
-  as-is-empty : setIsEmpty kind m ≡ isEmpty kind m
-  unfolding setIsEmpty
+  as-is-empty : ifSet m (isEmpty kind m) Asked.Refused ≡ isEmpty kind m
   as-is-empty = rw z
 
-  as-count : setCount kind m ≡ countOf kind m
-  unfolding setCount
+  as-count : ifSet m (countOf kind m) Counted.Refused ≡ countOf kind m
   as-count = rw z
 
-  as-range-at : (i : ℕ) → setRangeAt kind m i ≡ rangeAt kind m i
-  unfolding setRangeAt
+  as-range-at : (i : ℕ) → ifSet m (rangeAt kind m i) Found.Refused ≡ rangeAt kind m i
   as-range-at i = rw z
 
-  as-first : setFirst kind m ≡ firstOf kind m
-  unfolding setFirst
+  as-first : ifSet m (firstOf kind m) Found.Refused ≡ firstOf kind m
   as-first = rw z
 
-  as-last : setLast kind m ≡ lastOf kind m
-  unfolding setLast
+  as-last : ifSet m (lastOf kind m) Found.Refused ≡ lastOf kind m
   as-last = rw z
 
-  as-lookup : (k : ℤ) → setLookup kind m k ≡ lookup kind m k
-  unfolding setLookup
+  as-lookup : (k : ℤ) → ifSet m (lookup kind m k) Found.Refused ≡ lookup kind m k
   as-lookup k = rw z
 
-  as-contains : (k : ℤ) → setContains kind m k ≡ contains kind m k
-  unfolding setContains
+  as-contains : (k : ℤ) → ifSet m (contains kind m k) Asked.Refused ≡ contains kind m k
   as-contains k = rw z
 
-  as-overlaps : (s e : ℤ) → setOverlaps kind m s e ≡ overlaps kind m s e
-  unfolding setOverlaps
+  as-overlaps : (s e : ℤ) → ifSet m (overlaps kind m s e) Asked.Refused ≡ overlaps kind m s e
   as-overlaps s e = rw z
 
-  as-overlapping : (s e : ℤ) → setOverlapping kind m s e ≡ overlapping kind m s e
-  unfolding setOverlapping
+  as-overlapping : (s e : ℤ) → ifSet m (overlapping kind m s e) Part.Refused ≡ overlapping kind m s e
   as-overlapping s e = rw z
 
-  as-gaps : (s e : ℤ) (starts ends : List ℤ) → setGaps kind m s e starts ends ≡ gaps kind m s e starts ends
-  unfolding setGaps
+  as-gaps : (s e : ℤ) (starts ends : List ℤ) → ifSet m (gaps kind m s e starts ends) (λ n. notWritten n starts ends) ≡ gaps kind m s e starts ends
   as-gaps s e starts ends = rw z
 
-  as-insert : (s e : ℤ) → setInsert kind m s e ≡ insert kind m s e 0
-  unfolding setInsert
+  as-insert : (s e : ℤ) → ifSet m (insert kind m s e 0) (λ n. leaving n m) ≡ insert kind m s e 0
   as-insert s e = rw z
 
-  as-remove : (s e : ℤ) → setRemove kind m s e ≡ remove kind m s e
-  unfolding setRemove
+  as-remove : (s e : ℤ) → ifSet m (remove kind m s e) (λ n. leaving n m) ≡ remove kind m s e
   as-remove s e = rw z
 
 module _ (kind : Kind) (a b : Stored) (y : plain a ≡ true) (z : plain b ≡ true) where
-  as-equal : setEqual kind a b ≡ equal kind a b
-  unfolding setEqual
+  as-equal : ifSets a b (equal kind a b) Asked.Refused ≡ equal kind a b
   as-equal = rw (y, z)
 
-  as-order : setOrder kind a b ≡ order kind a b
-  unfolding setOrder
+  as-order : ifSets a b (order kind a b) Compared.Refused ≡ order kind a b
   as-order = rw (y, z)
 
 -- SETS OF HALF-OPEN RANGES
