@@ -1,3 +1,3 @@
--- What a reader must believe of the inclusive set: how a struct in memory is a set. What each function answers is in `sets` and `outcomes`.
+-- What a reader must believe of the inclusive set: how a struct in memory is a set. What each function answers is in `outcomes`.
 pub mod Set
 pub mod Promises

@@ -7,17 +7,21 @@ use mathlib.Core.Bool.{Bool, true}
 use lib.ListN.{length}
 use lib.IntN.{ℤ}
 use Rattle.key.specs.Range.{inclusive}
-use Rattle.outcomes.specs.Outcomes.{clear, Listed, leaving, extended}
+use Rattle.outcomes.specs.Outcomes.{clear, Listed, leaving, extended, isEmpty, countOf, rangeAt, firstOf, lastOf, lookup, contains, overlaps, overlapping}
+use Rattle.outcomes.specs.Outcomes.{gaps, equal, order, insert, remove, bulkInsert}
 use Rattle.inclusive_set.specs.Set.{held}
 use Rattle.outcomes.specs.Numbers.{askedInC, countedInC, foundInC, partInC, comparedInC, totalledInC}
-use Rattle.set_ops.specs.Answers.{setIsEmpty, setCount, setRangeAt, setFirst, setLast, setLookup, setContains, setOverlaps, setOverlapping, setGaps}
-use Rattle.set_ops.specs.Answers.{setEqual, setOrder, setInsert, setRemove, pairs, setBulkInsert}
 use Rattle.outcomes.specs.Stored.{places}
-use Rattle.outcomes.specs.Sets.{formedSet, SoundSet, intersection, union, totalOf}
+use Rattle.outcomes.specs.Sets.{ifSet, ifSets, pairs, notWritten, formedSet, SoundSet, intersection, union, totalOf}
 use Rattle.inclusive_set.specs.declared.RangeInclusiveSet.{RangeInclusiveSet}
 use Rattle.outcomes.specs.declared.Applied.{Applied}
+use Rattle.outcomes.specs.declared.Asked.the-variants as Asked
+use Rattle.outcomes.specs.declared.Compared.the-variants as Compared
 use Rattle.outcomes.specs.declared.Count.{Count}
+use Rattle.outcomes.specs.declared.Counted.the-variants as Counted
+use Rattle.outcomes.specs.declared.Found.the-variants as Found
 use Rattle.outcomes.specs.declared.Order.{Order}
+use Rattle.outcomes.specs.declared.Part.the-variants as Part
 use Rattle.outcomes.specs.declared.Range.{Range}
 use Rattle.outcomes.specs.declared.Stretch.{Stretch}
 use Rattle.outcomes.specs.declared.Told.{Told}
@@ -29,64 +33,65 @@ RangeInclusiveSetNew r = held r ≡ clear inclusive
 
 -- `range_inclusive_set_is_empty`: whether nothing is held.
 abbrev pub RangeInclusiveSetIsEmpty : RangeInclusiveSet → Told → Type 0
-RangeInclusiveSetIsEmpty m r = r ≡ askedInC (setIsEmpty inclusive (held m))
+RangeInclusiveSetIsEmpty m r = r ≡ askedInC (ifSet (held m) (isEmpty inclusive (held m)) Asked.Refused)
 
 -- `range_inclusive_set_len`: how many ranges are held.
 abbrev pub RangeInclusiveSetLen : RangeInclusiveSet → Count → Type 0
-RangeInclusiveSetLen m r = r ≡ countedInC (setCount inclusive (held m))
+RangeInclusiveSetLen m r = r ≡ countedInC (ifSet (held m) (countOf inclusive (held m)) Counted.Refused)
 
 -- `range_inclusive_set_range_at`: the range at a place.
 abbrev pub RangeInclusiveSetRangeAt : RangeInclusiveSet → ℕ → Range → Type 0
-RangeInclusiveSetRangeAt m place r = r ≡ foundInC (setRangeAt inclusive (held m) place)
+RangeInclusiveSetRangeAt m place r = r ≡ foundInC (ifSet (held m) (rangeAt inclusive (held m) place) Found.Refused)
 
 -- `range_inclusive_set_first`: the first range.
 abbrev pub RangeInclusiveSetFirst : RangeInclusiveSet → Range → Type 0
-RangeInclusiveSetFirst m r = r ≡ foundInC (setFirst inclusive (held m))
+RangeInclusiveSetFirst m r = r ≡ foundInC (ifSet (held m) (firstOf inclusive (held m)) Found.Refused)
 
 -- `range_inclusive_set_last`: the last range.
 abbrev pub RangeInclusiveSetLast : RangeInclusiveSet → Range → Type 0
-RangeInclusiveSetLast m r = r ≡ foundInC (setLast inclusive (held m))
+RangeInclusiveSetLast m r = r ≡ foundInC (ifSet (held m) (lastOf inclusive (held m)) Found.Refused)
 
 -- `range_inclusive_set_get`: the range that holds the key.
 abbrev pub RangeInclusiveSetGet : RangeInclusiveSet → ℤ → Range → Type 0
-RangeInclusiveSetGet m key r = r ≡ foundInC (setLookup inclusive (held m) key)
+RangeInclusiveSetGet m key r = r ≡ foundInC (ifSet (held m) (lookup inclusive (held m) key) Found.Refused)
 
 -- `range_inclusive_set_contains`: whether some range holds the key.
 abbrev pub RangeInclusiveSetContains : RangeInclusiveSet → ℤ → Told → Type 0
-RangeInclusiveSetContains m key r = r ≡ askedInC (setContains inclusive (held m) key)
+RangeInclusiveSetContains m key r = r ≡ askedInC (ifSet (held m) (contains inclusive (held m) key) Asked.Refused)
 
 -- `range_inclusive_set_overlaps`: whether some range has a key of the query.
 abbrev pub RangeInclusiveSetOverlaps : RangeInclusiveSet → ℤ → ℤ → Told → Type 0
-RangeInclusiveSetOverlaps m start end r = r ≡ askedInC (setOverlaps inclusive (held m) start end)
+RangeInclusiveSetOverlaps m start end r = r ≡ askedInC (ifSet (held m) (overlaps inclusive (held m) start end) Asked.Refused)
 
 -- `range_inclusive_set_overlapping`: which consecutive stored part meets the query.
 abbrev pub RangeInclusiveSetOverlapping : RangeInclusiveSet → ℤ → ℤ → Stretch → Type 0
-RangeInclusiveSetOverlapping m start end r = r ≡ partInC (setOverlapping inclusive (held m) start end)
+RangeInclusiveSetOverlapping m start end r = r ≡ partInC (ifSet (held m) (overlapping inclusive (held m) start end) Part.Refused)
 
 -- `range_inclusive_set_gaps`: the maximal uncovered ranges inside start..=end, into the first places of two lent lists.
 abbrev pub RangeInclusiveSetGaps : RangeInclusiveSet → ℤ → ℤ → List ℤ → List ℤ → List ℤ → List ℤ → Count → Type 0
 RangeInclusiveSetGaps m start end outStarts outStarts′ outEnds outEnds′ r =
-    Listed r outStarts′ outEnds′ (setGaps inclusive (held m) start end outStarts outEnds)
+    Listed r outStarts′ outEnds′ (ifSet (held m) (gaps inclusive (held m) start end outStarts outEnds) (λ n. notWritten n outStarts outEnds))
 
 -- `range_inclusive_set_eq`: whether two sets hold the same ranges.
 abbrev pub RangeInclusiveSetEq : RangeInclusiveSet → RangeInclusiveSet → Told → Type 0
-RangeInclusiveSetEq a b r = r ≡ askedInC (setEqual inclusive (held a) (held b))
+RangeInclusiveSetEq a b r = r ≡ askedInC (ifSets (held a) (held b) (equal inclusive (held a) (held b)) Asked.Refused)
 
 -- `range_inclusive_set_cmp`: which of two sets comes first: -1, 0 or 1.
 abbrev pub RangeInclusiveSetCmp : RangeInclusiveSet → RangeInclusiveSet → Order → Type 0
-RangeInclusiveSetCmp a b r = r ≡ comparedInC (setOrder inclusive (held a) (held b))
+RangeInclusiveSetCmp a b r = r ≡ comparedInC (ifSets (held a) (held b) (order inclusive (held a) (held b)) Compared.Refused)
 
 -- `range_inclusive_set_insert`: covers each instant of start..=end, and no other.
 abbrev pub RangeInclusiveSetInsert : RangeInclusiveSet → RangeInclusiveSet → ℤ → ℤ → ℕ → Type 0
-RangeInclusiveSetInsert m m′ start end r = leaving r (held m′) ≡ setInsert inclusive (held m) start end
+RangeInclusiveSetInsert m m′ start end r = leaving r (held m′) ≡ ifSet (held m) (insert inclusive (held m) start end 0) (λ n. leaving n (held m))
 
 -- `range_inclusive_set_remove`: uncovers exactly the instants of start..=end.
 abbrev pub RangeInclusiveSetRemove : RangeInclusiveSet → RangeInclusiveSet → ℤ → ℤ → ℕ → Type 0
-RangeInclusiveSetRemove m m′ start end r = leaving r (held m′) ≡ setRemove inclusive (held m) start end
+RangeInclusiveSetRemove m m′ start end r = leaving r (held m′) ≡ ifSet (held m) (remove inclusive (held m) start end) (λ n. leaving n (held m))
 
 -- `range_inclusive_set_extend`: inserts the ranges of two lent lists in order, up to the first refusal.
 abbrev pub RangeInclusiveSetExtend : RangeInclusiveSet → RangeInclusiveSet → List ℤ → List ℤ → Applied → Type 0
-RangeInclusiveSetExtend m m′ starts ends r = extended r (held m′) ≡ setBulkInsert inclusive (held m) (pairs starts ends)
+RangeInclusiveSetExtend m m′ starts ends r =
+    extended r (held m′) ≡ ifSet (held m) (bulkInsert inclusive (held m) (pairs starts ends)) (λ n. extended (record { answer = n; applied = 0 }) (held m))
 
 -- `range_inclusive_set_clear`: leaves nothing covered, whatever the set was.
 abbrev pub RangeInclusiveSetClear : RangeInclusiveSet → RangeInclusiveSet → Type 0

@@ -15,11 +15,9 @@ use Rattle.key.specs.Range.{Kind}
 use Rattle.key.proofs.Lawful.{Lawful}
 use Rattle.outcomes.specs.Stored.{places, Stored, ranges}
 use Rattle.outcomes.specs.Outcomes.{Edited, insert, remove, clear, bulkInsert}
-use Rattle.outcomes.specs.Sets.{plain}
+use Rattle.outcomes.specs.Sets.{plain, pairs}
 use Rattle.outcomes.proofs.Formed.{all-noughts}
-use Rattle.outcomes.proofs.Sets.{plain-ranges}
-use Rattle.set_ops.specs.Answers.{pairs, setInsert, setRemove, setBulkInsert, setLookup}
-use Rattle.set_ops.proofs.Laws.{plain-storing}
+use Rattle.outcomes.proofs.Sets.{plain-ranges, plain-storing}
 use Rattle.one_map.specs.Events.{Proper, valueAt, happens, afterEvents, lastValue, entryChange, effect}
 use Rattle.one_map.specs.SetEvents.{SetEvent, setInsertEvent, setRemoveEvent, setBulkEvent, setClearEvent, setHappens, afterSetEvents, ofMap, setValueAt}
 use Rattle.one_map.proofs.OneMap.{clear-proper}
@@ -55,7 +53,6 @@ event-zero kind setClearEvent m = tt
 
 -- of a set, what happens is what happens to the map
 pub set-as-map : (kind : Kind) (x : SetEvent) (m : Stored) → plain m ≡ true → setHappens kind x m ≡ happens (ofMap kind x) m
-unfolding setInsert setRemove setBulkInsert
 set-as-map kind (setInsertEvent s e) m z = rw z
 set-as-map kind (setRemoveEvent s e) m z = rw z
 set-as-map kind (setBulkEvent ss es) m z = rw z
@@ -86,7 +83,6 @@ module _ {kind : Kind} (law : Lawful kind) where
   -- HISTORIES OF SETS: after any events from a new set, each key is covered exactly where the last event over it covered it
   pub set-last-value-held : (xs : List SetEvent) (k : ℤ)
       → setValueAt kind (afterSetEvents kind xs (clear kind)) k ≡ lastValue (map (ofMap kind) xs) (clear kind) k none
-  unfolding setLookup
   set-last-value-held xs k =
       let (is, z) = sets-as-maps xs (clear-proper law) new-set in
       rw z (ap (λ (m : Stored). valueAt kind m k) is ∙ last-value-held law (map (ofMap kind) xs) k)

@@ -6,8 +6,9 @@ use lib.IntN.{ℤ}
 use Rattle.answers.specs.Answers.{done}
 use Rattle.key.specs.Range.{Kind}
 use Rattle.outcomes.specs.Stored.{Stored}
-use Rattle.outcomes.specs.Outcomes.{Edited, leaving, clear}
-use Rattle.set_ops.specs.Answers.{pairs, setInsert, setRemove, setBulkInsert, setLookup}
+use Rattle.outcomes.specs.Outcomes.{Edited, leaving, extended, lookup, clear, insert, remove, bulkInsert}
+use Rattle.outcomes.specs.Sets.{ifSet, pairs}
+use Rattle.outcomes.specs.declared.Found.the-variants as Found
 use Rattle.one_map.specs.Events.{Event, insertEvent, removeEvent, bulkEvent, clearEvent, valueOf}
 
 -- AN EVENT OF A SET: insert of a range, remove of a range, bulk insert of two lent lists of starts and ends, and clear. No set is read from bytes
@@ -19,9 +20,10 @@ pub data SetEvent : Type 0 where
 
 -- what an event answers, and the set that it leaves, accepted or refused
 abbrev pub setHappens : Kind → SetEvent → Stored → Edited
-setHappens kind (setInsertEvent s e) m = setInsert kind m s e
-setHappens kind (setRemoveEvent s e) m = setRemove kind m s e
-setHappens kind (setBulkEvent ss es) m = leaving (setBulkInsert kind m (pairs ss es) .told .answer) (setBulkInsert kind m (pairs ss es) .left)
+setHappens kind (setInsertEvent s e) m = ifSet m (insert kind m s e 0) (λ n. leaving n m)
+setHappens kind (setRemoveEvent s e) m = ifSet m (remove kind m s e) (λ n. leaving n m)
+setHappens kind (setBulkEvent ss es) m =
+    let o = ifSet m (bulkInsert kind m (pairs ss es)) (λ n. extended (record { answer = n; applied = 0 }) m) in leaving (o .told .answer) (o .left)
 setHappens kind setClearEvent m = leaving done (clear kind)
 
 -- the set after some events
@@ -38,4 +40,4 @@ ofMap kind setClearEvent = clearEvent
 
 -- what a set's lookup tells of a key: 0 where it is covered, or none
 abbrev pub setValueAt : Kind → Stored → ℤ → Option ℕ
-setValueAt kind m k = valueOf (setLookup kind m k)
+setValueAt kind m k = valueOf (ifSet m (lookup kind m k) Found.Refused)

@@ -1,14 +1,14 @@
--- What the outcomes of sets mean, for both kinds, of any two sound sets: the points of a union and of an intersection, their totals,
--- and that neither depends on the order.
+-- Of a set a function answers as of a map; what stores ranges of value 0 is a set. And what the outcomes of sets mean, for both kinds, of any two
+-- sound sets: the points of a union and of an intersection, their totals, and that neither depends on the order.
 use Prim.Native.Nat.{ℕ, zero, suc, _+_, _-_, _≤_}
 use native.Mathlib.Omega.{arith}
 use mathlib.Core.Path.{_≡_, refl, sym, ap, _∙_}
 use mathlib.Core.Bool.{Bool, true, false, _&&_, _||_, cond}
-use mathlib.Core.List.{List, [], _∷_}
+use mathlib.Core.List.{List, [], _∷_, _++_, map}
 use mathlib.Core.Option.{Option, some, none}
 use borrow.Author.Tests.{eqb-true}
 use lib.Dec.{eqb}
-use lib.ListN.{length, take}
+use lib.ListN.{length, take, replicate}
 use lib.IntN.{ℤ}
 use Rattle.span.specs.Span.{Span, Ordered}
 use Rattle.span.specs.Operations.{Plain, common, when, united, any, holds, links, spanTotal}
@@ -19,11 +19,19 @@ use Rattle.span.proofs.Walks.{Spaced, tidy-spaced, common-swap, united-swap, le
 use Rattle.span.proofs.Total.{total-both}
 use Rattle.key.specs.Range.{Kind}
 use Rattle.key.proofs.Answers.{one-answer}
-use Rattle.outcomes.specs.Stored.{Stored, spans, ranges, noughts}
+use Rattle.outcomes.specs.Stored.{Stored, spans, ranges, filled, storing, noughts}
 use Rattle.outcomes.specs.Outcomes.{Written}
-use Rattle.outcomes.specs.Sets.{plain, SoundSet, intersectionSound}
+use Rattle.outcomes.specs.Sets.{plain, ifSet, ifSets, SoundSet, intersectionSound}
 use Rattle.outcomes.specs.declared.Counted.{Counted}
 use Rattle.outcomes.proofs.Formed.{Formed, formed, length-ranges}
+
+-- OF A SET a function answers as of a map
+pub if-set : {A : Type 0} (m : Stored) (refused : ℕ → A) {answer : A} → plain m ≡ true → ifSet m answer refused ≡ answer
+if-set m refused z = rw z
+
+-- and so of two sets
+pub if-sets : {A : Type 0} (a b : Stored) (refused : ℕ → A) {answer : A} → plain a ≡ true → plain b ≡ true → ifSets a b answer refused ≡ answer
+if-sets a b refused y z = rw (y, z)
 
 -- the ranges of a set have value 0
 plain-spans : (kind : Kind) (ss es : List ℤ) (vs : List ℕ) → noughts vs ≡ true → Plain (spans kind ss es vs)
@@ -42,6 +50,21 @@ plain-take (suc n) (x ∷ xs) p = (p .0, plain-take n xs (p .1))
 pub plain-ranges : (kind : Kind) (m : Stored) → plain m ≡ true → Plain (ranges kind m)
 unfolding ranges plain
 plain-ranges kind m h = plain-take (m .count) (spans kind (m .starts) (m .ends) (m .values)) (plain-spans kind (m .starts) (m .ends) (m .values) h)
+
+-- and ranges of value 0 are stored as a set
+noughts-replicate : (n : ℕ) → noughts (replicate n 0) ≡ true
+unfolding noughts
+noughts-replicate zero = refl
+noughts-replicate (suc n) = noughts-replicate n
+
+noughts-labels : (xs : List Span) (ys : List ℕ) → Plain xs → noughts ys ≡ true → noughts (map (λ (x : Span). x .label) xs ++ ys) ≡ true
+unfolding noughts
+noughts-labels [] ys p h = h
+noughts-labels (x ∷ xs) ys p h = rw (p .0) (noughts-labels xs ys (p .1) h)
+
+pub plain-storing : (kind : Kind) (n : ℕ) (xs : List Span) → Plain xs → plain (storing kind n xs) ≡ true
+unfolding plain storing filled
+plain-storing kind n xs p = noughts-labels xs _ p (noughts-replicate (n - length (map (λ (x : Span). x .label) xs)))
 
 module _ (kind : Kind) {m : Stored} (set : SoundSet kind m) where
   set-plain : Plain (ranges kind m)

@@ -1,13 +1,13 @@
 -- THE THEOREM: for both kinds of map and of set, at both ends of i64, the ledger is equal to the Rust on every input not refused.
-use Prim.Native.Nat.{ℕ, zero, suc, _-_, _≤_, _<_}
+use Prim.Native.Nat.{ℕ, _-_, _≤_, _<_}
 use native.Mathlib.Omega.{arith}
 use native.Mathlib.Decide.{decLt}
 use mathlib.Core.Path.{_≡_, refl, ap, sym, subst, _∙_}
 use mathlib.Core.Bool.{Bool, true, false, cond}
-use mathlib.Core.List.{List, [], _∷_, _++_, map}
+use mathlib.Core.List.{List, [], _∷_, map}
 use mathlib.Core.Option.{Option, some, none}
 use lib.Dec.{leb, eqb}
-use lib.ListN.{length, replicate, take}
+use lib.ListN.{length, take}
 use lib.IntN.{ℤ}
 use mir.Syntax.{w64}
 use mir.Val.{SFits}
@@ -25,7 +25,7 @@ use Rattle.key.proofs.Laws.{key-rank, rank-greater, lesser-fits, greater-fits}
 use Rattle.key.proofs.Lawful.{Lawful}
 use Rattle.relations.specs.Relations as relations
 use Rattle.relations.specs.declared.Common.{Common}
-use Rattle.outcomes.specs.Stored.{places, Stored, ranges, filled, storing, noughts, wellFormed}
+use Rattle.outcomes.specs.Stored.{places, Stored, ranges, storing, wellFormed}
 use Rattle.outcomes.specs.Outcomes.{Edited, leaving, editSound, edit, clear, Change, edits, spanEdits, firstPlace, rangeAtSound}
 use Rattle.outcomes.specs.Outcomes.{yesNo, lookupSound, containsSound, overlapsSound, overlappingSound, gapsSound, orderSound}
 use Rattle.outcomes.specs.Outcomes.{isEmpty, countOf, rangeAt, lookup, contains, overlaps, overlapping, gaps, equal, order, bulkInsertSound, Entry}
@@ -35,7 +35,7 @@ use Rattle.outcomes.proofs.Formed.{formed, shape, length-ranges, getD-ranges, s
 use Rattle.outcomes.proofs.Storing.{upto-ranges, sound-storing, length-storing}
 use Rattle.outcomes.proofs.Edits.{edit-accepted, edit-ranges, edit-sound, edit-length, ranges-cleared}
 use Rattle.outcomes.proofs.Bulk.{single, bulk-singles}
-use Rattle.outcomes.proofs.Sets.{plain-ranges}
+use Rattle.outcomes.proofs.Sets.{plain-ranges, plain-storing}
 use Rattle.rust_algorithm.specs.Btree.{next-back, nth}
 use Rattle.rust_algorithm.specs.InclusiveMap.{add-one-checked, sub-one-checked, add-one-wrapping, sub-one-wrapping}
 use Rattle.rust_algorithm.specs.Operations.{range-intersect}
@@ -45,21 +45,6 @@ use Rattle.rust_algorithm.specs.Equal.{applied, EqualToTheRust}
 use Rattle.rust_algorithm.proofs.InclusiveHistory.{By, checked, wrapping}
 use Rattle.rust_algorithm.proofs.Places.{nth-here, nth-past, nth-zero, nth-last, nth-first, part-gives}
 use Rattle.rust_algorithm.proofs.Same.{Kept, KeptSet, Same, Transcribed, half-open-map, inclusive-map}
-
--- the map that stores a set is a set
-noughts-none : (n : ℕ) → noughts (replicate n 0) ≡ true
-unfolding noughts
-noughts-none zero = refl
-noughts-none (suc n) = noughts-none n
-
-noughts-labels : (xs : List Span) (rest : List ℕ) → Plain xs → noughts rest ≡ true → noughts (map (λ (x : Span). x .label) xs ++ rest) ≡ true
-unfolding noughts
-noughts-labels [] rest p e = e
-noughts-labels (x ∷ xs) rest p e = rw (eq-eqb (x .label) 0 (p .0)) (noughts-labels xs rest (p .1) e)
-
-plain-storing : (kind : Kind) (n : ℕ) (xs : List Span) → Plain xs → plain (storing kind n xs) ≡ true
-unfolding plain storing filled
-plain-storing kind n xs p = noughts-labels xs _ p (noughts-none (n - length (map (λ (x : Span). x .label) xs)))
 
 module _ (kind : Kind) (rust : Functions) (transcribed : Transcribed kind rust) where
   abbrev law : Lawful kind

@@ -24,10 +24,15 @@ ghost use Rattle.lent.specs.Moments.{was, becomes};
 ghost use Rattle.key.specs.Range.{kindOf};
 ghost use Rattle.outcomes.specs.Stored.{places, atEntry, atExit};
 ghost use Rattle.outcomes.specs.Numbers.{askedInC, countedInC, foundInC, partInC, comparedInC, totalledInC};
-ghost use Rattle.outcomes.specs.Outcomes.{Listed, leaving};
-ghost use Rattle.outcomes.specs.Sets.{formedSet, SoundSet, totalOf};
+ghost use Rattle.outcomes.specs.Outcomes.{Listed, leaving, isEmpty, countOf, rangeAt, firstOf, lastOf, lookup, contains, overlaps, overlapping, gaps};
+ghost use Rattle.outcomes.specs.Outcomes.{equal, order, insert, remove};
+ghost use Rattle.outcomes.specs.Sets.{ifSet, ifSets, notWritten, formedSet, SoundSet, totalOf};
+ghost use Rattle.outcomes.specs.declared.Asked.the-variants as Asked;
+ghost use Rattle.outcomes.specs.declared.Compared.the-variants as Compared;
+ghost use Rattle.outcomes.specs.declared.Counted.the-variants as Counted;
+ghost use Rattle.outcomes.specs.declared.Found.the-variants as Found;
+ghost use Rattle.outcomes.specs.declared.Part.the-variants as Part;
 ghost use Rattle.operations.specs.InnerOperation.{combinedAny};
-ghost use Rattle.set_ops.specs.Answers.{setContains, setCount, setEqual, setFirst, setGaps, setInsert, setIsEmpty, setLast, setLookup, setOverlaps, setOrder, setOverlapping, setRangeAt, setRemove};
 
 pub fn is_empty(
     kind: RangeKind,
@@ -36,7 +41,7 @@ pub fn is_empty(
     ends: &[i64; PLACES],
     values: &[Value; PLACES],
 ) -> Told
-    ensures { λ r. ⌜ r ≡ askedInC (setIsEmpty (kindOf kind) (atEntry count starts ends values)) ⌝ }
+    ensures { λ r. ⌜ r ≡ askedInC (ifSet (atEntry count starts ends values) (isEmpty (kindOf kind) (atEntry count starts ends values)) Asked.Refused) ⌝ }
 {
     told_of(set_ops::stored::is_empty(kind, count, starts, ends, values))
 }
@@ -48,7 +53,7 @@ pub fn len(
     ends: &[i64; PLACES],
     values: &[Value; PLACES],
 ) -> Count
-    ensures { λ r. ⌜ r ≡ countedInC (setCount (kindOf kind) (atEntry count starts ends values)) ⌝ }
+    ensures { λ r. ⌜ r ≡ countedInC (ifSet (atEntry count starts ends values) (countOf (kindOf kind) (atEntry count starts ends values)) Counted.Refused) ⌝ }
 {
     count_of(set_ops::stored::len(kind, count, starts, ends, values))
 }
@@ -61,7 +66,7 @@ pub fn range_at(
     values: &[Value; PLACES],
     place: usize,
 ) -> Range
-    ensures { λ r. ⌜ r ≡ foundInC (setRangeAt (kindOf kind) (atEntry count starts ends values) place) ⌝ }
+    ensures { λ r. ⌜ r ≡ foundInC (ifSet (atEntry count starts ends values) (rangeAt (kindOf kind) (atEntry count starts ends values) place) Found.Refused) ⌝ }
 {
     range_of(set_ops::stored::range_at(kind, count, starts, ends, values, place))
 }
@@ -73,7 +78,7 @@ pub fn first(
     ends: &[i64; PLACES],
     values: &[Value; PLACES],
 ) -> Range
-    ensures { λ r. ⌜ r ≡ foundInC (setFirst (kindOf kind) (atEntry count starts ends values)) ⌝ }
+    ensures { λ r. ⌜ r ≡ foundInC (ifSet (atEntry count starts ends values) (firstOf (kindOf kind) (atEntry count starts ends values)) Found.Refused) ⌝ }
 {
     range_of(set_ops::stored::first(kind, count, starts, ends, values))
 }
@@ -85,7 +90,7 @@ pub fn last(
     ends: &[i64; PLACES],
     values: &[Value; PLACES],
 ) -> Range
-    ensures { λ r. ⌜ r ≡ foundInC (setLast (kindOf kind) (atEntry count starts ends values)) ⌝ }
+    ensures { λ r. ⌜ r ≡ foundInC (ifSet (atEntry count starts ends values) (lastOf (kindOf kind) (atEntry count starts ends values)) Found.Refused) ⌝ }
 {
     range_of(set_ops::stored::last(kind, count, starts, ends, values))
 }
@@ -98,7 +103,7 @@ pub fn get(
     values: &[Value; PLACES],
     key: i64,
 ) -> Range
-    ensures { λ r. ⌜ r ≡ foundInC (setLookup (kindOf kind) (atEntry count starts ends values) key) ⌝ }
+    ensures { λ r. ⌜ r ≡ foundInC (ifSet (atEntry count starts ends values) (lookup (kindOf kind) (atEntry count starts ends values) key) Found.Refused) ⌝ }
 {
     range_of(set_ops::found::get(kind, count, starts, ends, values, key))
 }
@@ -111,7 +116,7 @@ pub fn contains(
     values: &[Value; PLACES],
     key: i64,
 ) -> Told
-    ensures { λ r. ⌜ r ≡ askedInC (setContains (kindOf kind) (atEntry count starts ends values) key) ⌝ }
+    ensures { λ r. ⌜ r ≡ askedInC (ifSet (atEntry count starts ends values) (contains (kindOf kind) (atEntry count starts ends values) key) Asked.Refused) ⌝ }
 {
     told_of(set_ops::found::contains(kind, count, starts, ends, values, key))
 }
@@ -125,7 +130,8 @@ pub fn overlaps(
     start: i64,
     end: i64,
 ) -> Told
-    ensures { λ r. ⌜ r ≡ askedInC (setOverlaps (kindOf kind) (atEntry count starts ends values) start end) ⌝ }
+    ensures { λ r. ⌜ r ≡ askedInC (ifSet (atEntry count starts ends values)
+        (overlaps (kindOf kind) (atEntry count starts ends values) start end) Asked.Refused) ⌝ }
 {
     told_of(set_ops::found::overlaps(kind, count, starts, ends, values, start, end))
 }
@@ -139,7 +145,8 @@ pub fn overlapping(
     start: i64,
     end: i64,
 ) -> Stretch
-    ensures { λ r. ⌜ r ≡ partInC (setOverlapping (kindOf kind) (atEntry count starts ends values) start end) ⌝ }
+    ensures { λ r. ⌜ r ≡ partInC (ifSet (atEntry count starts ends values)
+        (overlapping (kindOf kind) (atEntry count starts ends values) start end) Part.Refused) ⌝ }
 {
     stretch_of(set_ops::found::overlapping(kind, count, starts, ends, values, start, end))
 }
@@ -156,7 +163,8 @@ pub fn gaps(
     out_ends: &mut [i64],
 ) -> Count
     ensures { λ r. ⌜ Listed r (becomes «out_starts») (becomes «out_ends»)
-        (setGaps (kindOf kind) (atEntry count starts ends values) start end (was «out_starts») (was «out_ends»)) ⌝ }
+        (ifSet (atEntry count starts ends values) (gaps (kindOf kind) (atEntry count starts ends values) start end (was «out_starts») (was «out_ends»))
+        (λ n. notWritten n (was «out_starts») (was «out_ends»))) ⌝ }
 {
     count_of(set_ops::found::gaps(
         kind,
@@ -182,7 +190,8 @@ pub fn eq(
     ends2: &[i64; PLACES],
     values2: &[Value; PLACES],
 ) -> Told
-    ensures { λ r. ⌜ r ≡ askedInC (setEqual (kindOf kind) (atEntry count starts ends values) (atEntry count2 starts2 ends2 values2)) ⌝ }
+    ensures { λ r. ⌜ r ≡ askedInC (ifSets (atEntry count starts ends values) (atEntry count2 starts2 ends2 values2)
+        (equal (kindOf kind) (atEntry count starts ends values) (atEntry count2 starts2 ends2 values2)) Asked.Refused) ⌝ }
 {
     told_of(set_ops::stored::eq(
         kind,
@@ -208,7 +217,8 @@ pub fn cmp(
     ends2: &[i64; PLACES],
     values2: &[Value; PLACES],
 ) -> Order
-    ensures { λ r. ⌜ r ≡ comparedInC (setOrder (kindOf kind) (atEntry count starts ends values) (atEntry count2 starts2 ends2 values2)) ⌝ }
+    ensures { λ r. ⌜ r ≡ comparedInC (ifSets (atEntry count starts ends values) (atEntry count2 starts2 ends2 values2)
+        (order (kindOf kind) (atEntry count starts ends values) (atEntry count2 starts2 ends2 values2)) Compared.Refused) ⌝ }
 {
     order_of(set_ops::stored::cmp(
         kind,
@@ -232,7 +242,9 @@ pub fn insert(
     start: i64,
     end: i64,
 ) -> u8
-    ensures { λ r. ⌜ leaving r (atExit count starts ends values) ≡ setInsert (kindOf kind) (atEntry count starts ends values) start end ⌝ }
+    ensures { λ r. ⌜ leaving r (atExit count starts ends values)
+        ≡ ifSet (atEntry count starts ends values) (insert (kindOf kind) (atEntry count starts ends values) start end 0)
+        (λ n. leaving n (atEntry count starts ends values)) ⌝ }
 {
     number_of(set_ops::changed::insert(kind, count, starts, ends, values, start, end))
 }
@@ -246,7 +258,9 @@ pub fn remove(
     start: i64,
     end: i64,
 ) -> u8
-    ensures { λ r. ⌜ leaving r (atExit count starts ends values) ≡ setRemove (kindOf kind) (atEntry count starts ends values) start end ⌝ }
+    ensures { λ r. ⌜ leaving r (atExit count starts ends values)
+        ≡ ifSet (atEntry count starts ends values) (remove (kindOf kind) (atEntry count starts ends values) start end)
+        (λ n. leaving n (atEntry count starts ends values)) ⌝ }
 {
     number_of(set_ops::changed::remove(kind, count, starts, ends, values, start, end))
 }

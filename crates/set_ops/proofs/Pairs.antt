@@ -6,7 +6,7 @@ use mathlib.Core.List.{List, [], _∷_}
 use lib.ListN.{length, getD}
 use lib.IntN.{ℤ, pos}
 use Rattle.outcomes.specs.Outcomes.{Entry}
-use Rattle.set_ops.specs.Answers.{pairs}
+use Rattle.outcomes.specs.Sets.{pairs}
 
 abbrev entry : ℤ → ℤ → Entry
 entry s e = record { start = s; end = e; value = 0 }

@@ -13,8 +13,8 @@ ghost use mathlib.Core.Path.{_≡_};
 ghost use Rattle.lent.specs.Moments.{was};
 ghost use Rattle.key.specs.Range.{kindOf};
 ghost use Rattle.outcomes.specs.Stored.{lent, Sound, atEntry, atExit};
-ghost use Rattle.outcomes.specs.Outcomes.{bulkInsertSound, extended};
-ghost use Rattle.set_ops.specs.Answers.{pairs, setBulkInsert};
+ghost use Rattle.outcomes.specs.Outcomes.{bulkInsert, bulkInsertSound, extended};
+ghost use Rattle.outcomes.specs.Sets.{ifSet, pairs};
 
 // The ranges of two lent lists, into a set that is well formed.
 fn extend_formed(
@@ -68,7 +68,8 @@ pub fn extend(
     new_ends: &[i64],
 ) -> Applied
     ensures { λ r. ⌜ extended r (atExit count starts ends values)
-        ≡ setBulkInsert (kindOf kind) (atEntry count starts ends values) (pairs (was «new_starts») (was «new_ends»)) ⌝ }
+        ≡ ifSet (atEntry count starts ends values) (bulkInsert (kindOf kind) (atEntry count starts ends values) (pairs (was «new_starts») (was «new_ends»)))
+        (λ n. extended (record { answer = n; applied = 0 }) (atEntry count starts ends values)) ⌝ }
 {
     if !plain(values) {
         return Applied {

@@ -7,8 +7,9 @@ use outcomes::PLACES;
 use store::plain::plain;
 ghost use Rattle.key.specs.Range.{kindOf};
 ghost use Rattle.outcomes.specs.Stored.{atEntry, atExit};
+ghost use Rattle.outcomes.specs.Outcomes.{insert, leaving, remove};
+ghost use Rattle.outcomes.specs.Sets.{ifSet};
 ghost use Rattle.outcomes.specs.InnerOutcome.{Leaves};
-ghost use Rattle.set_ops.specs.Answers.{setInsert, setRemove};
 
 // Covers each instant of the range, and no other.
 pub fn insert(
@@ -21,7 +22,8 @@ pub fn insert(
     end: i64,
 ) -> Outcome
     ensures { λ r. ⌜ Leaves r (atExit count starts ends values)
-        (setInsert (kindOf kind) (atEntry count starts ends values) start end) ⌝ }
+        (ifSet (atEntry count starts ends values) (insert (kindOf kind) (atEntry count starts ends values) start end 0)
+        (λ n. leaving n (atEntry count starts ends values))) ⌝ }
 {
     if !plain(values) {
         return Outcome::Refused(NOT_FORMED);
@@ -40,7 +42,8 @@ pub fn remove(
     end: i64,
 ) -> Outcome
     ensures { λ r. ⌜ Leaves r (atExit count starts ends values)
-        (setRemove (kindOf kind) (atEntry count starts ends values) start end) ⌝ }
+        (ifSet (atEntry count starts ends values) (remove (kindOf kind) (atEntry count starts ends values) start end)
+        (λ n. leaving n (atEntry count starts ends values))) ⌝ }
 {
     if !plain(values) {
         return Outcome::Refused(NOT_FORMED);

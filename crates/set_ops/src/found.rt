@@ -12,8 +12,9 @@ ghost use mathlib.Core.Path.{_≡_};
 ghost use Rattle.lent.specs.Moments.{was, becomes};
 ghost use Rattle.key.specs.Range.{kindOf};
 ghost use Rattle.outcomes.specs.Stored.{lent, atEntry};
+ghost use Rattle.outcomes.specs.Outcomes.{contains, gaps, lookup, overlaps, overlapping};
+ghost use Rattle.outcomes.specs.Sets.{ifSet, notWritten};
 ghost use Rattle.range_list.specs.InnerLists.{wrote};
-ghost use Rattle.set_ops.specs.Answers.{setContains, setGaps, setLookup, setOverlaps, setOverlapping};
 
 // The range that holds the key.
 pub fn get(
@@ -24,7 +25,7 @@ pub fn get(
     values: &[Value; PLACES],
     key: i64,
 ) -> Found
-    ensures { λ r. ⌜ r ≡ setLookup (kindOf kind) (atEntry count starts ends values) key ⌝ }
+    ensures { λ r. ⌜ r ≡ ifSet (atEntry count starts ends values) (lookup (kindOf kind) (atEntry count starts ends values) key) Found.Refused ⌝ }
 {
     if !plain(values) {
         return Found::Refused(NOT_FORMED);
@@ -41,7 +42,7 @@ pub fn contains(
     values: &[Value; PLACES],
     key: i64,
 ) -> Asked
-    ensures { λ r. ⌜ r ≡ setContains (kindOf kind) (atEntry count starts ends values) key ⌝ }
+    ensures { λ r. ⌜ r ≡ ifSet (atEntry count starts ends values) (contains (kindOf kind) (atEntry count starts ends values) key) Asked.Refused ⌝ }
 {
     if !plain(values) {
         return Asked::Refused(NOT_FORMED);
@@ -59,7 +60,7 @@ pub fn overlaps(
     start: i64,
     end: i64,
 ) -> Asked
-    ensures { λ r. ⌜ r ≡ setOverlaps (kindOf kind) (atEntry count starts ends values) start end ⌝ }
+    ensures { λ r. ⌜ r ≡ ifSet (atEntry count starts ends values) (overlaps (kindOf kind) (atEntry count starts ends values) start end) Asked.Refused ⌝ }
 {
     if !plain(values) {
         return Asked::Refused(NOT_FORMED);
@@ -77,7 +78,7 @@ pub fn overlapping(
     start: i64,
     end: i64,
 ) -> Part
-    ensures { λ r. ⌜ r ≡ setOverlapping (kindOf kind) (atEntry count starts ends values) start end ⌝ }
+    ensures { λ r. ⌜ r ≡ ifSet (atEntry count starts ends values) (overlapping (kindOf kind) (atEntry count starts ends values) start end) Part.Refused ⌝ }
 {
     if !plain(values) {
         return Part::Refused(NOT_FORMED);
@@ -98,7 +99,8 @@ pub fn gaps(
     out_ends: &mut [i64],
 ) -> Counted
     ensures { λ r. ⌜ wrote r (becomes «out_starts») (becomes «out_ends»)
-        ≡ setGaps (kindOf kind) (atEntry count starts ends values) start end (was «out_starts») (was «out_ends») ⌝ }
+        ≡ ifSet (atEntry count starts ends values) (gaps (kindOf kind) (atEntry count starts ends values) start end (was «out_starts») (was «out_ends»))
+        (λ n. notWritten n (was «out_starts») (was «out_ends»)) ⌝ }
 {
     if !plain(values) {
         return Counted::Refused(NOT_FORMED);

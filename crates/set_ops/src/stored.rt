@@ -11,7 +11,8 @@ use store::plain::plain;
 ghost use mathlib.Core.Path.{_≡_};
 ghost use Rattle.key.specs.Range.{kindOf};
 ghost use Rattle.outcomes.specs.Stored.{atEntry};
-ghost use Rattle.set_ops.specs.Answers.{setCount, setEqual, setFirst, setIsEmpty, setLast, setOrder, setRangeAt};
+ghost use Rattle.outcomes.specs.Outcomes.{countOf, equal, firstOf, isEmpty, lastOf, order, rangeAt};
+ghost use Rattle.outcomes.specs.Sets.{ifSet, ifSets};
 
 // Whether nothing is held.
 pub fn is_empty(
@@ -21,7 +22,7 @@ pub fn is_empty(
     ends: &[i64; PLACES],
     values: &[Value; PLACES],
 ) -> Asked
-    ensures { λ r. ⌜ r ≡ setIsEmpty (kindOf kind) (atEntry count starts ends values) ⌝ }
+    ensures { λ r. ⌜ r ≡ ifSet (atEntry count starts ends values) (isEmpty (kindOf kind) (atEntry count starts ends values)) Asked.Refused ⌝ }
 {
     if !plain(values) {
         return Asked::Refused(NOT_FORMED);
@@ -37,7 +38,7 @@ pub fn len(
     ends: &[i64; PLACES],
     values: &[Value; PLACES],
 ) -> Counted
-    ensures { λ r. ⌜ r ≡ setCount (kindOf kind) (atEntry count starts ends values) ⌝ }
+    ensures { λ r. ⌜ r ≡ ifSet (atEntry count starts ends values) (countOf (kindOf kind) (atEntry count starts ends values)) Counted.Refused ⌝ }
 {
     if !plain(values) {
         return Counted::Refused(NOT_FORMED);
@@ -54,7 +55,7 @@ pub fn range_at(
     values: &[Value; PLACES],
     place: usize,
 ) -> Found
-    ensures { λ r. ⌜ r ≡ setRangeAt (kindOf kind) (atEntry count starts ends values) place ⌝ }
+    ensures { λ r. ⌜ r ≡ ifSet (atEntry count starts ends values) (rangeAt (kindOf kind) (atEntry count starts ends values) place) Found.Refused ⌝ }
 {
     if !plain(values) {
         return Found::Refused(NOT_FORMED);
@@ -70,7 +71,7 @@ pub fn first(
     ends: &[i64; PLACES],
     values: &[Value; PLACES],
 ) -> Found
-    ensures { λ r. ⌜ r ≡ setFirst (kindOf kind) (atEntry count starts ends values) ⌝ }
+    ensures { λ r. ⌜ r ≡ ifSet (atEntry count starts ends values) (firstOf (kindOf kind) (atEntry count starts ends values)) Found.Refused ⌝ }
 {
     if !plain(values) {
         return Found::Refused(NOT_FORMED);
@@ -86,7 +87,7 @@ pub fn last(
     ends: &[i64; PLACES],
     values: &[Value; PLACES],
 ) -> Found
-    ensures { λ r. ⌜ r ≡ setLast (kindOf kind) (atEntry count starts ends values) ⌝ }
+    ensures { λ r. ⌜ r ≡ ifSet (atEntry count starts ends values) (lastOf (kindOf kind) (atEntry count starts ends values)) Found.Refused ⌝ }
 {
     if !plain(values) {
         return Found::Refused(NOT_FORMED);
@@ -106,7 +107,8 @@ pub fn cmp(
     ends2: &[i64; PLACES],
     values2: &[Value; PLACES],
 ) -> Compared
-    ensures { λ r. ⌜ r ≡ setOrder (kindOf kind) (atEntry count starts ends values) (atEntry count2 starts2 ends2 values2) ⌝ }
+    ensures { λ r. ⌜ r ≡ ifSets (atEntry count starts ends values) (atEntry count2 starts2 ends2 values2)
+        (order (kindOf kind) (atEntry count starts ends values) (atEntry count2 starts2 ends2 values2)) Compared.Refused ⌝ }
 {
     if !plain(values) {
         return Compared::Refused(NOT_FORMED);
@@ -139,7 +141,8 @@ pub fn eq(
     ends2: &[i64; PLACES],
     values2: &[Value; PLACES],
 ) -> Asked
-    ensures { λ r. ⌜ r ≡ setEqual (kindOf kind) (atEntry count starts ends values) (atEntry count2 starts2 ends2 values2) ⌝ }
+    ensures { λ r. ⌜ r ≡ ifSets (atEntry count starts ends values) (atEntry count2 starts2 ends2 values2)
+        (equal (kindOf kind) (atEntry count starts ends values) (atEntry count2 starts2 ends2 values2)) Asked.Refused ⌝ }
 {
     if !plain(values) {
         return Asked::Refused(NOT_FORMED);

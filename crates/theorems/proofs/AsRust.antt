@@ -18,17 +18,21 @@ use Rattle.key.specs.Range.{Kind, halfOpen, inclusive}
 use Rattle.key.proofs.Lawful.{Lawful, half-open, inclusive-too}
 use Rattle.outcomes.specs.Stored.{places, Stored, ranges}
 use Rattle.outcomes.specs.Outcomes.{Edited, Written, Listed, leaving, edit, edits, Entry, Extended, bulkInsert, bulkInsertSound, entries, extended}
-use Rattle.outcomes.specs.Outcomes.{isEmpty, countOf, rangeAt, firstOf, lastOf, lookup, contains, overlaps, overlapping, gaps, equal, order, editSound}
+use Rattle.outcomes.specs.Outcomes.{isEmpty, countOf, rangeAt, firstOf, lastOf, lookup, contains, overlaps, overlapping, gaps, equal, order, insert, remove}
+use Rattle.outcomes.specs.Outcomes.{editSound}
 use Rattle.outcomes.specs.Numbers.{askedInC, countedInC, foundInC, partInC, comparedInC}
-use Rattle.outcomes.specs.Sets.{union, intersection}
+use Rattle.outcomes.specs.Sets.{ifSet, ifSets, pairs, notWritten, union, intersection}
 use Rattle.outcomes.specs.declared.Applied.{Applied}
 use Rattle.outcomes.specs.declared.Asked.{Asked}
+use Rattle.outcomes.specs.declared.Asked.the-variants as Asked
+use Rattle.outcomes.specs.declared.Compared.the-variants as Compared
 use Rattle.outcomes.specs.declared.Count.{Count}
 use Rattle.outcomes.specs.declared.Counted.{Counted}
+use Rattle.outcomes.specs.declared.Counted.the-variants as Counted
 use Rattle.outcomes.specs.declared.Found.{Found}
+use Rattle.outcomes.specs.declared.Found.the-variants as Found
 use Rattle.outcomes.specs.declared.Part.{Part}
-use Rattle.set_ops.specs.Answers.{setIsEmpty, setCount, setRangeAt, setFirst, setLast, setLookup, setContains, setOverlaps, setOverlapping, setGaps}
-use Rattle.set_ops.specs.Answers.{setOrder, setEqual, setInsert, setRemove, pairs, setBulkInsert}
+use Rattle.outcomes.specs.declared.Part.the-variants as Part
 use Rattle.rust_algorithm.specs.Answers.{Functions, rustEdited, rustRun}
 use Rattle.rust_algorithm.specs.Equal.{LentMap, ListGiven, EqualToTheRust, entrySpans}
 use Rattle.one_map.specs.Events.{Proper}
@@ -97,8 +101,8 @@ record MapsAsRust (kind : Kind) (rust : Functions) (m o : Stored) : Type 0 where
 
 -- and of two sets
 record SetsAsRust (kind : Kind) (rust : Functions) (m o : Stored) : Type 0 where
-  eq : EqAsRust kind rust m o (λ r. r ≡ askedInC (setEqual kind m o))
-  cmp : CmpAsRust kind rust m o (λ r. r ≡ comparedInC (setOrder kind m o))
+  eq : EqAsRust kind rust m o (λ r. r ≡ askedInC (ifSets m o (equal kind m o) Asked.Refused))
+  cmp : CmpAsRust kind rust m o (λ r. r ≡ comparedInC (ifSets m o (order kind m o) Compared.Refused))
   union : UnionAsRust kind rust m o (λ os os′ oe oe′ r. Listed r os′ oe′ (union kind m o os oe))
   intersection : IntersectionAsRust kind rust m o (λ os os′ oe oe′ r. Listed r os′ oe′ (intersection kind m o os oe))
 
@@ -181,41 +185,39 @@ module _ {kind : Kind} {rust : Functions} (same : EqualToTheRust kind rust) {m :
 -- a set's answers
 abbrev set-answers : Kind → Stored → StructAnswers
 set-answers kind m = record {
-  len = setCount kind m;
-  is-empty = setIsEmpty kind m;
-  range-at = λ i. setRangeAt kind m i;
-  first = setFirst kind m;
-  last = setLast kind m;
-  get = λ k. setLookup kind m k;
-  contains = λ k. setContains kind m k;
-  overlaps = λ s e. setOverlaps kind m s e;
-  overlapping = λ s e. setOverlapping kind m s e;
-  gaps = λ s e os oe. setGaps kind m s e os oe;
+  len = ifSet m (countOf kind m) Counted.Refused;
+  is-empty = ifSet m (isEmpty kind m) Asked.Refused;
+  range-at = λ i. ifSet m (rangeAt kind m i) Found.Refused;
+  first = ifSet m (firstOf kind m) Found.Refused;
+  last = ifSet m (lastOf kind m) Found.Refused;
+  get = λ k. ifSet m (lookup kind m k) Found.Refused;
+  contains = λ k. ifSet m (contains kind m k) Asked.Refused;
+  overlaps = λ s e. ifSet m (overlaps kind m s e) Asked.Refused;
+  overlapping = λ s e. ifSet m (overlapping kind m s e) Part.Refused;
+  gaps = λ s e os oe. ifSet m (gaps kind m s e os oe) (λ n. notWritten n os oe);
 }
 
 -- A SET'S FUNCTIONS ARE THE MAP'S where all values are 0
 module _ {kind : Kind} {rust : Functions} (same : EqualToTheRust kind rust) {m : Stored} (g : GoodSet kind m) where
   -- insert
-  set-insert-as-rust : (s e : ℤ) → setInsert kind m s e ≡ rustEdited kind rust m s e (some 0)
+  set-insert-as-rust : (s e : ℤ) → ifSet m (insert kind m s e 0) (λ n. leaving n m) ≡ rustEdited kind rust m s e (some 0)
   set-insert-as-rust s e = set-as-map kind (setInsertEvent s e) m (g .1) ∙ edit-as-rust same (g .0) s e (some 0)
 
   -- remove
-  set-remove-as-rust : (s e : ℤ) → setRemove kind m s e ≡ rustEdited kind rust m s e none
+  set-remove-as-rust : (s e : ℤ) → ifSet m (remove kind m s e) (λ n. leaving n m) ≡ rustEdited kind rust m s e none
   set-remove-as-rust s e = set-as-map kind (setRemoveEvent s e) m (g .1) ∙ edit-as-rust same (g .0) s e none
 
   -- bulk insert
-  set-extend-as-rust : (xs : List Entry) {m′ : Stored} {r : Applied} → extended r m′ ≡ setBulkInsert kind m xs
+  set-extend-as-rust : (xs : List Entry) {m′ : Stored} {r : Applied} → extended r m′ ≡ ifSet m (bulkInsert kind m xs) (λ n. extended (record { answer = n; applied = 0 }) m)
       → ExtendAsRust kind rust m xs r m′
   set-extend-as-rust xs q = extend-as-rust same (g .0) xs (q ∙ as-bulk kind m xs (g .1))
 
   -- each question
   set-as-rust : AnswersAsRust kind rust m (set-answers kind m)
-  unfolding setIsEmpty setCount setRangeAt setFirst setLast setLookup setContains setOverlaps setOverlapping setGaps
   set-as-rust = rw (g .1) (map-as-rust same (g .0))
 
   -- of two
   sets-as-rust : {o : Stored} → GoodSet kind o → SetsAsRust kind rust m o
-  unfolding setEqual setOrder
   sets-as-rust {o} h =
       let a = maps-as-rust same (g .0) (h .0) in
       let b = same .sets m o (record { sound = g .0 .sound; plain-too = g .1 }) (record { sound = h .0 .sound; plain-too = h .1 })

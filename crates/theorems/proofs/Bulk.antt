@@ -13,11 +13,10 @@ use Rattle.answers.specs.Answers.{done}
 use Rattle.key.specs.Range.{Kind, halfOpen, inclusive}
 use Rattle.key.proofs.Lawful.{Lawful, half-open, inclusive-too}
 use Rattle.outcomes.specs.Stored.{Stored}
-use Rattle.outcomes.specs.Outcomes.{Entry, Edited, leaving, Extended, extended, entries, edit, edits, bulkInsert}
+use Rattle.outcomes.specs.Outcomes.{Entry, Edited, leaving, Extended, extended, entries, edit, edits, insert, bulkInsert}
 use Rattle.outcomes.specs.declared.Applied.{Applied}
-use Rattle.outcomes.specs.Sets.{plain}
+use Rattle.outcomes.specs.Sets.{plain, ifSet, pairs}
 use Rattle.outcomes.proofs.Edits.{none-refused}
-use Rattle.set_ops.specs.Answers.{pairs, setInsert}
 use Rattle.one_map.specs.Events.{Proper, happens, entryChange}
 use Rattle.one_map.specs.SetEvents.{setInsertEvent, ofMap}
 use Rattle.one_map.proofs.OneMap.{edit-proper}
@@ -129,7 +128,7 @@ pairs-zero (suc n) (s ∷ ss) (e ∷ es) = (refl, pairs-zero n ss es)
 
 -- the insert of a range into a set, answered with 0
 set-inserted : {kind : Kind} → Lawful kind → (x : Entry) (m : Stored) → IsZero x → GoodSet kind m → inserting kind m x .answer ≡ 0
-    → (leaving done (inserting kind m x .left) ≡ setInsert kind m (x .start) (x .end)) × GoodSet kind (inserting kind m x .left)
+    → (leaving done (inserting kind m x .left) ≡ ifSet m (insert kind m (x .start) (x .end) 0) (λ n. leaving n m)) × GoodSet kind (inserting kind m x .left)
 set-inserted {kind} law x m v (p, z) done-is =
     let event = setInsertEvent (x .start) (x .end) in
     let is : inserting kind m x ≡ happens (ofMap kind event) m = ap (λ (k : ℕ). edit kind m (x .start) (x .end) (some k)) v in

@@ -16,8 +16,9 @@ use Rattle.outcomes.specs.Stored.{Stored}
 use Rattle.outcomes.specs.Outcomes.{entries, lookup, clear, Change, spanEdits}
 use Rattle.outcomes.specs.Numbers.{foundInC}
 use Rattle.outcomes.specs.Sets.{plain}
+use Rattle.outcomes.specs.declared.Found.the-variants as Found
 use Rattle.outcomes.specs.declared.Range.{Range}
-use Rattle.set_ops.specs.Answers.{setLookup}
+use Rattle.outcomes.proofs.Sets.{if-set}
 use Rattle.one_map.specs.Events.{Proper, valueAt, Effect, leftAt}
 use Rattle.one_map.proofs.Known.{some-found, lookup-found, none-found, same-lookups}
 use Rattle.one_map.proofs.OneMap.{clear-proper, clear-holds}
@@ -156,11 +157,6 @@ GoodSet kind m = Proper kind m × (plain m ≡ true)
 of-set : {kind : Kind} {did : Effect} {m m′ : Stored} → SetStep kind did m m′ → GoodSet kind m′ × Step kind did m m′
 of-set t = ((t .as-map .proper, t .set-again), t .as-map)
 
--- its lookup is the map's
-as-lookup : (kind : Kind) (m : Stored) (k : ℤ) → plain m ≡ true → setLookup kind m k ≡ lookup kind m k
-unfolding setLookup
-as-lookup kind m k z = rw z
-
 -- THE HALF-OPEN MAP, call by call
 pub range-map-step : (c : Call) (m m′ : RangeMap) → Proper halfOpen (Map.held m) → RangeMapCall c m m′
     → Proper halfOpen (Map.held m′) × Step halfOpen (callEffect c) (Map.held m) (Map.held m′)
@@ -271,7 +267,7 @@ pub range-set-last-value : (cs : List SetCall) (n : RangeSet) (k : ℤ) (r : Ran
     → Says r (lastGiven halfOpen setCallEffect cs k none)
 range-set-last-value cs n k r left look =
     let set = range-set-histories .good cs n left .1 in
-    range-set-histories .say cs n k r left (look ∙ ap foundInC (as-lookup halfOpen (Set.held n) k set))
+    range-set-histories .say cs n k r left (look ∙ ap foundInC (if-set (Set.held n) Found.Refused set))
 
 -- two histories that agree at every key leave the same struct
 pub range-set-same-struct : (cs ds : List SetCall) (n o : RangeSet) → RangeSetAfter cs n → RangeSetAfter ds o
@@ -309,7 +305,7 @@ pub range-inclusive-set-last-value : (cs : List SetCall) (n : RangeInclusiveSet)
     → Says r (lastGiven inclusive setCallEffect cs k none)
 range-inclusive-set-last-value cs n k r left look =
     let set = range-inclusive-set-histories .good cs n left .1 in
-    range-inclusive-set-histories .say cs n k r left (look ∙ ap foundInC (as-lookup inclusive (InclusiveSet.held n) k set))
+    range-inclusive-set-histories .say cs n k r left (look ∙ ap foundInC (if-set (InclusiveSet.held n) Found.Refused set))
 
 -- two histories that agree at every key leave the same struct
 pub range-inclusive-set-same-struct : (cs ds : List SetCall) (n o : RangeInclusiveSet) → RangeInclusiveSetAfter cs n → RangeInclusiveSetAfter ds o

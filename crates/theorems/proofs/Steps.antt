@@ -16,12 +16,12 @@ use Rattle.key.specs.Rank.{rank}
 use Rattle.key.specs.Range.{Kind, halfOpen, spanOf, empty}
 use Rattle.key.proofs.Lawful.{Lawful, half-open}
 use Rattle.outcomes.specs.Stored.{places, Stored, ranges, storing}
-use Rattle.outcomes.specs.Outcomes.{Entry, Edited, leaving, Extended, extended, editSound, edit, bulkInsert, clear, Change, edits, spanEdits}
+use Rattle.outcomes.specs.Outcomes.{Entry, Edited, leaving, Extended, extended, editSound, edit, insert, remove, bulkInsert, clear, Change, edits}
+use Rattle.outcomes.specs.Outcomes.{spanEdits}
 use Rattle.outcomes.specs.declared.Applied.{Applied}
-use Rattle.outcomes.specs.Sets.{plain}
+use Rattle.outcomes.specs.Sets.{plain, ifSet, pairs}
 use Rattle.outcomes.proofs.Edits.{edit-accepted, none-refused}
 use Rattle.outcomes.proofs.Bulk.{range, entries-ranges}
-use Rattle.set_ops.specs.Answers.{pairs, setInsert, setRemove, setBulkInsert}
 use Rattle.byte_form.specs.Bytes.{Bytes}
 use Rattle.byte_form.specs.Layout.{rm01}
 use Rattle.byte_form.specs.Form.{entriesOf, mapIn, read}
@@ -126,8 +126,8 @@ pub record SetStep (kind : Kind) (did : Effect) (m m′ : Stored) : Type 0 where
   pub set-again : plain m′ ≡ true
 
 -- bulk insert of a set is that of the map
-pub as-bulk : (kind : Kind) (m : Stored) (xs : List Entry) → plain m ≡ true → setBulkInsert kind m xs ≡ bulkInsert kind m xs
-unfolding setBulkInsert
+pub as-bulk : (kind : Kind) (m : Stored) (xs : List Entry) → plain m ≡ true
+    → ifSet m (bulkInsert kind m xs) (λ n. extended (record { answer = n; applied = 0 }) m) ≡ bulkInsert kind m xs
 as-bulk kind m xs z = rw z
 
 module _ {kind : Kind} (law : Lawful kind) {m m′ : Stored} (p : Proper kind m) (z : plain m ≡ true) where
@@ -136,21 +136,22 @@ module _ {kind : Kind} (law : Lawful kind) {m m′ : Stored} (p : Proper kind m)
   set-left x q = ap plain (q ∙ ap (λ (o : Edited). o .left) (set-as-map kind x m z)) ∙ set-stays law x p z
 
   -- insert
-  pub set-insert-step : (s e : ℤ) {r : ℕ} → leaving r m′ ≡ setInsert kind m s e → SetStep kind (ifDone r (gave s e (some 0))) m m′
+  pub set-insert-step : (s e : ℤ) {r : ℕ} → leaving r m′ ≡ ifSet m (insert kind m s e 0) (λ n. leaving n m) → SetStep kind (ifDone r (gave s e (some 0))) m m′
   set-insert-step s e q = record {
     as-map = insert-step law p s e 0 (q ∙ set-as-map kind (setInsertEvent s e) m z);
     set-again = set-left (setInsertEvent s e) (ap (λ (o : Edited). o .left) q);
   }
 
   -- remove
-  pub set-remove-step : (s e : ℤ) {r : ℕ} → leaving r m′ ≡ setRemove kind m s e → SetStep kind (ifDone r (gave s e none)) m m′
+  pub set-remove-step : (s e : ℤ) {r : ℕ} → leaving r m′ ≡ ifSet m (remove kind m s e) (λ n. leaving n m) → SetStep kind (ifDone r (gave s e none)) m m′
   set-remove-step s e q = record {
     as-map = remove-step law p s e (q ∙ set-as-map kind (setRemoveEvent s e) m z);
     set-again = set-left (setRemoveEvent s e) (ap (λ (o : Edited). o .left) q);
   }
 
   -- bulk insert
-  pub set-extend-step : (ss es : List ℤ) {t : Applied} → extended t m′ ≡ setBulkInsert kind m (pairs ss es)
+  pub set-extend-step : (ss es : List ℤ) {t : Applied}
+      → extended t m′ ≡ ifSet m (bulkInsert kind m (pairs ss es)) (λ n. extended (record { answer = n; applied = 0 }) m)
       → SetStep kind (changed (map entryChange (take (t .applied) (pairs ss es)))) m m′
   set-extend-step ss es q = record {
     as-map = extend-step law p (pairs ss es) (q ∙ as-bulk kind m (pairs ss es) z);
@@ -187,9 +188,9 @@ module _ (kind : Kind) (m : Stored) (s e : ℤ) where
   either-refused new (inr q) n = refused-same (sound-unchanged new) q n
 
   -- insert of a set
-  pub set-insert-refused : {r : ℕ} {m′ : Stored} → leaving r m′ ≡ setInsert kind m s e → (r ≡ done → ⊥) → m′ ≡ m
+  pub set-insert-refused : {r : ℕ} {m′ : Stored} → leaving r m′ ≡ ifSet m (insert kind m s e 0) (λ n. leaving n m) → (r ≡ done → ⊥) → m′ ≡ m
   set-insert-refused q n = refused-same (set-insert-unchanged kind m s e) q n
 
   -- remove of a set
-  pub set-remove-refused : {r : ℕ} {m′ : Stored} → leaving r m′ ≡ setRemove kind m s e → (r ≡ done → ⊥) → m′ ≡ m
+  pub set-remove-refused : {r : ℕ} {m′ : Stored} → leaving r m′ ≡ ifSet m (remove kind m s e) (λ n. leaving n m) → (r ≡ done → ⊥) → m′ ≡ m
   set-remove-refused q n = refused-same (set-remove-unchanged kind m s e) q n

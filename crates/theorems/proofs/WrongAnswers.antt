@@ -24,12 +24,11 @@ use Rattle.key.proofs.Lawful.{Lawful, half-open, inclusive-too}
 use Rattle.outcomes.specs.Stored.{places, Stored, Sound, spans, ranges, filled, storing, zeros, noughts, unused, wellFormed}
 use Rattle.outcomes.specs.Numbers.{askedInC, countedInC}
 use Rattle.outcomes.specs.Outcomes.{Entry, entries, Written, intoLists, Edited, leaving, editSound, edit, insert, remove, clear}
-use Rattle.outcomes.specs.Sets.{plain}
+use Rattle.outcomes.specs.Sets.{plain, ifSet}
 use Rattle.outcomes.specs.declared.Asked.the-variants as Asked
 use Rattle.outcomes.specs.declared.Counted.the-variants as Counted
 use Rattle.outcomes.specs.declared.Count.{Count}
 use Rattle.outcomes.specs.declared.Told.{Told}
-use Rattle.set_ops.specs.Answers.{setInsert, setRemove}
 use Rattle.byte_form.specs.Layout.{rm01}
 use Rattle.byte_form.specs.Bytes.{bytesOf, rangeBytes, Bytes}
 use Rattle.byte_form.specs.Form.{entriesOf, rangesBytes, formOf, read, InMemory}
@@ -70,7 +69,7 @@ unfolding inside at keep before after joins tidy push joined given history puts 
 of-spans = tt
 
 unfoldable of-maps : Unit {0}
-unfolding of-spans aboveLeast bitRank keyAt spans ranges filled storing zeros noughts unused wellFormed editSound edit clear plain setInsert setRemove
+unfolding of-spans aboveLeast bitRank keyAt spans ranges filled storing zeros noughts unused wellFormed editSound edit clear plain
 of-maps = tt
 
 unfoldable of-queries : Unit {0}
@@ -92,6 +91,13 @@ one-memory law = history-memory law (insertEvent (pos 0) (pos 8) 0 ∷ []) (omeg
 -- and what an unchecked door requires
 one-sound : {kind : Kind} → Lawful kind → Sound kind (one kind)
 one-sound law = event-proper law (insertEvent (pos 0) (pos 8) 0) (clear-proper law) .sound
+
+-- insert and remove of a set
+abbrev setInsert : Kind → Stored → ℤ → ℤ → Edited
+setInsert kind m s e = ifSet m (insert kind m s e 0) (λ n. leaving n m)
+
+abbrev setRemove : Kind → Stored → ℤ → ℤ → Edited
+setRemove kind m s e = ifSet m (remove kind m s e) (λ n. leaving n m)
 
 -- AN EDIT, tried on a map: 0..8 is taken, and leaves another map; 8..0 is refused with 1
 record Tried {A : Type 0} (args : ℤ → ℤ → A) (does : Stored → A → Edited) (m : Stored) : Type 0 where

@@ -12,7 +12,7 @@ use Rattle.key.specs.Range.{Kind}
 use Rattle.outcomes.specs.Outcomes.{Change, entries}
 use Rattle.outcomes.specs.declared.Applied.{Applied}
 use Rattle.outcomes.specs.declared.Range.{Range}
-use Rattle.set_ops.specs.Answers.{pairs}
+use Rattle.outcomes.specs.Sets.{pairs}
 use Rattle.byte_form.specs.Bytes.{Bytes}
 use Rattle.byte_form.specs.Layout.{rm01}
 use Rattle.byte_form.specs.Form.{entriesOf, mapIn}

@@ -12,7 +12,7 @@ use Rattle.key.specs.Range.{kindOf}
 use Rattle.key.proofs.Lawful.{lawful}
 use Rattle.outcomes.specs.Stored.{stored, Sound}
 use Rattle.outcomes.specs.Outcomes.{Entry, bulkInsertSound}
-use Rattle.set_ops.specs.Answers.{pairs}
+use Rattle.outcomes.specs.Sets.{pairs}
 use Rattle.set_ops.proofs.Pairs.{length-pairs, getD-pairs, pair-at}
 use Rattle.outcomes.proofs.Went.{numbered, not-done}
 use Rattle.outcomes.proofs.Bulk.{entry-refused, entry-done, entry-sound}

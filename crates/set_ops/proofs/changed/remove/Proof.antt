@@ -3,7 +3,6 @@ use mathlib.Core.Path.{refl, sym, _∙_}
 use borrow.Author.Tests.{not-true, not-false}
 use mir.Facts.{toZ-ofZ}
 use Rattle.outcomes.specs.Sets.{plain}
-use Rattle.set_ops.specs.Answers.{setRemove}
 use borrow.Author.Needs.{needs}
 use Rattle.set_ops.proofs.changed.remove.Statement.{statement}
 use Rattle.set_ops.proofs.changed.remove.Tie as tie
@@ -12,14 +11,14 @@ plain-requires : tie.Need-plain-requires
 plain-requires c κs = search needs
 
 returns : tie.Need-returns
-unfolding setRemove plain
+unfolding plain
 returns c = rw (sym (c .before .plain .ensures) ∙ not-true _ (c .if1 .taken)) (record { outcome = refl; map-is = refl })
 
 remove-requires : tie.Need-remove-requires
 remove-requires c κs = search needs
 
 returns-2 : tie.Need-returns-2
-unfolding setRemove plain
+unfolding plain
 returns-2 c = rw (sym (c .before .before .before .before .before .before .plain .ensures) ∙ not-false _ (c .before .before .before .before .before .if1 .left)) (rw (toZ-ofZ (c .before .before .before .before .before .before .before .before .before .fits .start), toZ-ofZ (c .before .before .before .before .before .before .before .before .before .fits .end)) at (c .remove .ensures))
 
 pub remove-spec : {M : Type 1} → statement M

@@ -3,7 +3,6 @@ use mathlib.Core.Path.{sym, _∙_}
 use borrow.Author.Tests.{not-true, not-false}
 use mir.Facts.{toZ-ofZ}
 use Rattle.outcomes.specs.Sets.{plain}
-use Rattle.set_ops.specs.Answers.{setGaps}
 use borrow.Author.Needs.{needs}
 use Rattle.set_ops.proofs.found.gaps.Statement.{statement}
 use Rattle.set_ops.proofs.found.gaps.Tie as tie
@@ -12,7 +11,7 @@ plain-requires : tie.Need-plain-requires
 plain-requires c κs = search needs
 
 returns : tie.Need-returns
-unfolding setGaps plain
+unfolding plain
 returns c = rw (sym (c .before .plain .ensures) ∙ not-true _ (c .if1 .taken))
 
 gaps-requires : tie.Need-gaps-requires
@@ -25,7 +24,7 @@ same-length-2 : tie.Need-same-length-2
 same-length-2 c = search needs
 
 returns-2 : tie.Need-returns-2
-unfolding setGaps plain
+unfolding plain
 returns-2 c = rw (sym (c .before .before .before .before .before .before .plain .ensures) ∙ not-false _ (c .before .before .before .before .before .if1 .left)) (rw (toZ-ofZ (c .before .before .before .before .before .before .before .before .fits .start), toZ-ofZ (c .before .before .before .before .before .before .before .before .fits .end)) at (c .before .before .gaps .ensures))
 
 pub gaps-spec : {M : Type 1} → statement M

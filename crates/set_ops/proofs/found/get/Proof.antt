@@ -3,7 +3,6 @@ use mathlib.Core.Path.{sym, _∙_}
 use borrow.Author.Tests.{not-true, not-false}
 use mir.Facts.{toZ-ofZ}
 use Rattle.outcomes.specs.Sets.{plain}
-use Rattle.set_ops.specs.Answers.{setLookup}
 use borrow.Author.Needs.{needs}
 use Rattle.set_ops.proofs.found.get.Statement.{statement}
 use Rattle.set_ops.proofs.found.get.Tie as tie
@@ -12,14 +11,14 @@ plain-requires : tie.Need-plain-requires
 plain-requires c κs = search needs
 
 returns : tie.Need-returns
-unfolding setLookup plain
+unfolding plain
 returns c = rw (sym (c .before .plain .ensures) ∙ not-true _ (c .if1 .taken))
 
 get-key-value-requires : tie.Need-get-key-value-requires
 get-key-value-requires c κs = search needs
 
 returns-2 : tie.Need-returns-2
-unfolding setLookup plain
+unfolding plain
 returns-2 c = rw (sym (c .before .before .plain .ensures) ∙ not-false _ (c .before .if1 .left)) (rw (toZ-ofZ (c .before .before .before .before .fits .key)) at (c .get-key-value .ensures))
 
 pub get-spec : {M : Type 1} → statement M

@@ -3,7 +3,6 @@ use mathlib.Core.Path.{sym, _∙_}
 use borrow.Author.Tests.{not-true, not-false}
 use mir.Facts.{toZ-ofZ}
 use Rattle.outcomes.specs.Sets.{plain}
-use Rattle.set_ops.specs.Answers.{setOverlapping}
 use borrow.Author.Needs.{needs}
 use Rattle.set_ops.proofs.found.overlapping.Statement.{statement}
 use Rattle.set_ops.proofs.found.overlapping.Tie as tie
@@ -12,14 +11,14 @@ plain-requires : tie.Need-plain-requires
 plain-requires c κs = search needs
 
 returns : tie.Need-returns
-unfolding setOverlapping plain
+unfolding plain
 returns c = rw (sym (c .before .plain .ensures) ∙ not-true _ (c .if1 .taken))
 
 overlapping-requires : tie.Need-overlapping-requires
 overlapping-requires c κs = search needs
 
 returns-2 : tie.Need-returns-2
-unfolding setOverlapping plain
+unfolding plain
 returns-2 c = rw (sym (c .before .before .plain .ensures) ∙ not-false _ (c .before .if1 .left)) (rw (toZ-ofZ (c .before .before .before .before .fits .start), toZ-ofZ (c .before .before .before .before .fits .end)) at (c .overlapping .ensures))
 
 pub overlapping-spec : {M : Type 1} → statement M

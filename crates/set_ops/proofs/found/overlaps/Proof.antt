@@ -3,7 +3,6 @@ use mathlib.Core.Path.{sym, _∙_}
 use borrow.Author.Tests.{not-true, not-false}
 use mir.Facts.{toZ-ofZ}
 use Rattle.outcomes.specs.Sets.{plain}
-use Rattle.set_ops.specs.Answers.{setOverlaps}
 use borrow.Author.Needs.{needs}
 use Rattle.set_ops.proofs.found.overlaps.Statement.{statement}
 use Rattle.set_ops.proofs.found.overlaps.Tie as tie
@@ -12,14 +11,14 @@ plain-requires : tie.Need-plain-requires
 plain-requires c κs = search needs
 
 returns : tie.Need-returns
-unfolding setOverlaps plain
+unfolding plain
 returns c = rw (sym (c .before .plain .ensures) ∙ not-true _ (c .if1 .taken))
 
 overlaps-requires : tie.Need-overlaps-requires
 overlaps-requires c κs = search needs
 
 returns-2 : tie.Need-returns-2
-unfolding setOverlaps plain
+unfolding plain
 returns-2 c = rw (sym (c .before .before .plain .ensures) ∙ not-false _ (c .before .if1 .left)) (rw (toZ-ofZ (c .before .before .before .before .fits .start), toZ-ofZ (c .before .before .before .before .fits .end)) at (c .overlaps .ensures))
 
 pub overlaps-spec : {M : Type 1} → statement M
