@@ -12,8 +12,7 @@ use Rattle.answers.specs.Answers.{emptyRange, tooShort, notFormed, badQuery}
 use Rattle.key.specs.Rank.{rank}
 use Rattle.key.specs.Range.{halfOpen}
 use Rattle.outcomes.specs.Stored.{places, Stored, wellFormed, Sound}
-use Rattle.outcomes.specs.Outcomes.{formed, leaving, Written, intoLists}
-use Rattle.outcomes.specs.Sets.{notWritten}
+use Rattle.outcomes.specs.Outcomes.{notWritten, formed, leaving, Written, intoLists}
 use Rattle.outcomes.specs.declared.Counted.{Counted}
 use Rattle.outcomes.specs.declared.Counted.the-variants as Counted
 use Rattle.outcomes.proofs.Formed as well

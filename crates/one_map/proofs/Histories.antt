@@ -23,14 +23,14 @@ use Rattle.key.proofs.Lawful.{Lawful}
 use Rattle.outcomes.specs.Stored.{Stored, ranges}
 use Rattle.outcomes.specs.Numbers as Numbers
 use Rattle.outcomes.specs.declared.Found.the-variants as Found
-use Rattle.outcomes.specs.Outcomes.{lookup, Entry, Edited, leaving, Change, edit, clear, bulkInsertSound, bulkInsert, edits, spanEdits}
+use Rattle.outcomes.specs.Outcomes.{lookup, Entry, entryChange, Edited, leaving, Change, edit, clear, bulkInsertSound, bulkInsert, edits, spanEdits}
 use Rattle.outcomes.proofs.Edits.{none-refused, ranges-cleared}
-use Rattle.outcomes.proofs.Bulk.{range, entries-ranges, bulk-singles}
+use Rattle.outcomes.proofs.Bulk.{range, entries-ranges, changes-puts, bulk-singles}
 use Rattle.byte_form.specs.Layout.{rm01}
 use Rattle.byte_form.specs.Bytes.{Bytes}
 use Rattle.byte_form.specs.Form.{entriesOf, mapIn, isForm, read}
 use Rattle.one_map.specs.Events.{Proper, valueAt, Event, insertEvent, removeEvent, bulkEvent, clearEvent, readEvent, happens, afterEvents, lastValue}
-use Rattle.one_map.specs.Events.{Effect, changed, anew, ifAccepted, entryChange, effect, leftAt}
+use Rattle.one_map.specs.Events.{Effect, changed, anew, ifAccepted, effect, leftAt}
 use Rattle.one_map.proofs.Known.{some-found, proper-formed, proper-tidy, value-at, none-found, same-lookups}
 use Rattle.one_map.proofs.OneMap.{edit-proper, edit-instants, clear-proper, clear-holds, read-proper}
 use Rattle.one_map.proofs.Refusals.{edit-unchanged, read-unchanged}
@@ -83,12 +83,6 @@ module _ {kind : Kind} (law : Lawful kind) where
   clear-left : (m : Stored) → Left kind m (clear kind) (anew [])
   unfolding last spanEdits at
   clear-left m = record { proper = clear-proper law; holds = λ k. ap (λ (xs : List Span). at xs k) (ranges-cleared kind law) }
-
--- entries as changes are their ranges, put one after the other
-changes-puts : (kind : Kind) (xs : List Entry) → spanEdits kind (map entryChange xs) ≡ puts (map (range kind) xs)
-unfolding spanEdits puts
-changes-puts kind [] = refl
-changes-puts kind (x ∷ xs) = rw (changes-puts kind xs)
 
 -- the ranges of a map are those of its entries
 ranges-entries : (kind : Kind) (m : Stored) → ranges kind m ≡ map (range kind) (entriesOf m)

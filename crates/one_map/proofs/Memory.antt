@@ -10,13 +10,13 @@ use Rattle.span.specs.Span.{Span, at}
 use Rattle.key.specs.Range.{Kind, halfOpen}
 use Rattle.key.proofs.Lawful.{Lawful, half-open}
 use Rattle.outcomes.specs.Stored.{Stored}
-use Rattle.outcomes.specs.Outcomes.{Entry, entries, leaving, clear, insert, remove, bulkInsert}
+use Rattle.outcomes.specs.Outcomes.{Entry, entryChange, entries, leaving, clear, insert, remove, bulkInsert}
 use Rattle.outcomes.proofs.Edits.{ranges-cleared}
 use Rattle.byte_form.specs.Layout.{rm01}
 use Rattle.byte_form.specs.Form.{entriesOf, formOf, read, InMemory}
 use Rattle.byte_form.proofs.Lawful.{rm01-lawful}
 use Rattle.byte_form.proofs.Forms.{write-read, read-write}
-use Rattle.one_map.specs.Events.{Proper, Event, insertEvent, removeEvent, bulkEvent, clearEvent, readEvent, afterEvents, entryChange, effect}
+use Rattle.one_map.specs.Events.{Proper, Event, insertEvent, removeEvent, bulkEvent, clearEvent, readEvent, afterEvents, effect}
 use Rattle.one_map.specs.Events.{EntriesU8, ValuesU8, AllU8}
 use Rattle.one_map.proofs.Known.{proper-formed}
 use Rattle.one_map.proofs.OneMap.{clear-proper}

@@ -19,10 +19,11 @@ use Rattle.key.specs.Range.{Kind, halfOpen, spanOf, empty}
 use Rattle.outcomes.specs.Stored.{places, Stored, ranges, storing, wellFormed}
 use Rattle.outcomes.specs.Numbers.{askedInC, countedInC, partInC, comparedInC, totalledInC}
 use Rattle.outcomes.specs.Numbers as Numbers
+use Rattle.outcomes.specs.Outcomes.{notWritten}
 use Rattle.outcomes.specs.Outcomes.{yesNo, comparedBy, isEqual, firstPlace, howMany, partOf, Entry, inFirstPlaces, Written, Edited, leaving, extended}
 use Rattle.outcomes.specs.Outcomes.{rangeAtSound, lookupSound, overlapsSound, overlappingSound, intoLists, gapsSound, orderSound, editSound, formed}
 use Rattle.outcomes.specs.Outcomes.{rangeAt, lookup, overlaps, overlapping, gaps, order, equal, edit, bulkInsert}
-use Rattle.outcomes.specs.Sets.{plain, totalIs, notWritten, intersectionSound, unionSound, totalSound, formedSet, intersection, union, totalOf}
+use Rattle.outcomes.specs.Sets.{plain, totalIs, intersectionSound, unionSound, totalSound, formedSet, intersection, union, totalOf}
 use Rattle.outcomes.specs.declared.Asked.{Asked}
 use Rattle.outcomes.specs.declared.Asked.the-variants as Asked
 use Rattle.outcomes.specs.declared.Counted.{Counted}

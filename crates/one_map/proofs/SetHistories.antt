@@ -14,11 +14,11 @@ use Rattle.span.proofs.Sets.{at-zero}
 use Rattle.key.specs.Range.{Kind}
 use Rattle.key.proofs.Lawful.{Lawful}
 use Rattle.outcomes.specs.Stored.{places, Stored, ranges}
-use Rattle.outcomes.specs.Outcomes.{Edited, insert, remove, clear, bulkInsert}
+use Rattle.outcomes.specs.Outcomes.{entryChange, Edited, insert, remove, clear, bulkInsert}
 use Rattle.outcomes.specs.Sets.{plain, pairs}
 use Rattle.outcomes.proofs.Formed.{all-noughts}
 use Rattle.outcomes.proofs.Sets.{plain-ranges, plain-storing}
-use Rattle.one_map.specs.Events.{Proper, valueAt, happens, afterEvents, lastValue, entryChange, effect}
+use Rattle.one_map.specs.Events.{Proper, valueAt, happens, afterEvents, lastValue, effect}
 use Rattle.one_map.specs.SetEvents.{SetEvent, setInsertEvent, setRemoveEvent, setBulkEvent, setClearEvent, setHappens, afterSetEvents, ofMap, setValueAt}
 use Rattle.one_map.proofs.OneMap.{clear-proper}
 use Rattle.one_map.proofs.Histories.{event-proper, last-value-held, same-histories}

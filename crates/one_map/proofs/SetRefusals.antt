@@ -11,8 +11,9 @@ use Rattle.span.specs.Operations.{uncovered, holds}
 use Rattle.key.specs.Rank.{rank}
 use Rattle.key.specs.Range.{Kind}
 use Rattle.outcomes.specs.Stored.{Stored, ranges}
+use Rattle.outcomes.specs.Outcomes.{notWritten}
 use Rattle.outcomes.specs.Outcomes.{firstPlace, Edited, leaving, rangeAt, firstOf, lastOf, lookup, overlaps, overlapping, gaps, equal, order, insert, remove}
-use Rattle.outcomes.specs.Sets.{plain, ifSet, ifSets, notWritten}
+use Rattle.outcomes.specs.Sets.{plain, ifSet, ifSets}
 use Rattle.outcomes.specs.declared.Asked.the-variants as Asked
 use Rattle.outcomes.specs.declared.Compared.the-variants as Compared
 use Rattle.outcomes.specs.declared.Found.the-variants as Found

@@ -13,7 +13,7 @@ use Rattle.span.specs.Span.{inside, last}
 use Rattle.key.specs.Rank.{rank}
 use Rattle.key.specs.Range.{Kind, halfOpen}
 use Rattle.outcomes.specs.Stored.{places, Stored, Sound}
-use Rattle.outcomes.specs.Outcomes.{Entry, Edited, leaving, Change, lookup, clear, insert, remove, bulkInsert, spanEdits}
+use Rattle.outcomes.specs.Outcomes.{Entry, entryChange, Edited, leaving, Change, lookup, clear, insert, remove, bulkInsert, spanEdits}
 use Rattle.outcomes.specs.declared.Found.{Found}
 use Rattle.outcomes.specs.declared.Found.the-variants as Found
 use Rattle.byte_form.specs.Layout.{rm01}
@@ -94,10 +94,6 @@ anew cs = record { fresh = true; made = cs }
 -- what was accepted did so, and what was refused did nothing
 abbrev pub ifAccepted : Edited → Effect → Effect
 ifAccepted o x = cond (eqb (o .answer) 0) x (changed [])
-
--- an entry of a list, as a change
-abbrev pub entryChange : Entry → Change
-entryChange x = record { start = x .start; end = x .end; new = some (x .value) }
 
 -- WHAT AN EVENT DID. Of a bulk insert the entries that were applied stay, refused or not; a read puts the ranges in its bytes in place of all that was held
 abbrev pub effect : {kind : Kind} → Event kind → Stored → Effect

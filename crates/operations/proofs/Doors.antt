@@ -9,8 +9,8 @@ use Rattle.answers.specs.Answers.{notFormed}
 use Rattle.key.specs.Range.{Kind, kindOf}
 use Rattle.key.specs.declared.RangeKind.{RangeKind}
 use Rattle.outcomes.specs.Stored.{Stored}
-use Rattle.outcomes.specs.Outcomes.{Written, intoLists}
-use Rattle.outcomes.specs.Sets.{SoundSet, formedSet, notWritten, intersectionSound, unionSound, intersection, union}
+use Rattle.outcomes.specs.Outcomes.{notWritten, Written, intoLists}
+use Rattle.outcomes.specs.Sets.{SoundSet, formedSet, intersectionSound, unionSound, intersection, union}
 use Rattle.two_sets.specs.InnerSides.{Side}
 use Rattle.two_sets.proofs.Doors.{rows-are}
 use Rattle.intersection.proofs.Steps as intersection

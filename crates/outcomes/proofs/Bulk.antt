@@ -15,8 +15,9 @@ use Rattle.key.specs.Rank.{rank}
 use Rattle.key.specs.Range.{Kind, spanOf}
 use Rattle.key.proofs.Lawful.{Lawful}
 use Rattle.span.specs.Span.{Span, given}
+use Rattle.span.specs.Operations.{puts}
 use Rattle.outcomes.specs.Stored.{places, Stored, spans, ranges, storing, wellFormed, Sound}
-use Rattle.outcomes.specs.Outcomes.{Entry, entries, Edited, leaving, editSound, edit, extended, bulkInsertSound, Change, edits}
+use Rattle.outcomes.specs.Outcomes.{Entry, entryChange, entries, Edited, leaving, editSound, edit, extended, bulkInsertSound, edits, spanEdits}
 use Rattle.outcomes.proofs.Formed.{formed}
 use Rattle.outcomes.proofs.Edits.{edit-accepted, edit-sound, edit-length}
 
@@ -98,14 +99,17 @@ edited-well : (kind : Kind) (m : Stored) (s e : ℤ) (new : Option ℕ) → well
 unfolding edit
 edited-well kind m s e new w = rw w
 
--- BULK INSERT is that many single inserts, none refused
-abbrev pub single : Entry → Change
-single x = record { start = x .start; end = x .end; new = some (x .value) }
+-- entries as changes are their ranges, put one after the other
+pub changes-puts : (kind : Kind) (xs : List Entry) → spanEdits kind (map entryChange xs) ≡ puts (map (range kind) xs)
+unfolding spanEdits puts
+changes-puts kind [] = refl
+changes-puts kind (x ∷ xs) = rw (changes-puts kind xs)
 
+-- BULK INSERT is that many single inserts, none refused
 module _ (kind : Kind) (law : Lawful kind) where
   pub record Singles (m : Stored) (n : ℕ) (es : List Entry) : Type 0 where
     pub from : n ≤ bulkInsertSound kind m n es .told .applied
-    pub same : edits kind m (map single (take (bulkInsertSound kind m n es .told .applied - n) es)) ≡ leaving done (bulkInsertSound kind m n es .left)
+    pub same : edits kind m (map entryChange (take (bulkInsertSound kind m n es .told .applied - n) es)) ≡ leaving done (bulkInsertSound kind m n es .left)
 
   none-taken : (n : ℕ) (es : List Entry) → take (n - n) es ≡ []
   none-taken n es = let z : n - n ≡ 0 = omega arith in rw z
@@ -136,7 +140,7 @@ module _ (kind : Kind) (law : Lawful kind) where
       ]
 
   pub bulk-singles : (m : Stored) (es : List Entry) → Sound kind m → length (m .starts) ≡ places
-      → edits kind m (map single (take (bulkInsertSound kind m 0 es .told .applied) es)) ≡ leaving done (bulkInsertSound kind m 0 es .left)
+      → edits kind m (map entryChange (take (bulkInsertSound kind m 0 es .told .applied) es)) ≡ leaving done (bulkInsertSound kind m 0 es .left)
   bulk-singles m es s p =
       let k = bulkInsertSound kind m 0 es .told .applied in
       let z : k - 0 ≡ k = omega arith in

@@ -9,8 +9,8 @@ use Rattle.span.specs.Operations.{within, commonParts, common, spansOverlap, me
 use Rattle.key.specs.Rank.{aboveLeast, bitRank, keyAt}
 use Rattle.key.specs.Range.{Kind, halfOpen, inclusive, spanOf}
 use Rattle.outcomes.specs.Stored.{places, Stored, spans, ranges, filled, storing, zeros, noughts, unused, wellFormed}
-use Rattle.outcomes.specs.Outcomes.{Entry, Written, intoLists}
-use Rattle.outcomes.specs.Sets.{plain, totalIs, notWritten, intersectionSound, unionSound, totalSound, intersection, union, totalOf}
+use Rattle.outcomes.specs.Outcomes.{notWritten, Entry, Written, intoLists}
+use Rattle.outcomes.specs.Sets.{plain, totalIs, intersectionSound, unionSound, totalSound, intersection, union, totalOf}
 use Rattle.outcomes.specs.declared.Counted.the-variants as Counted
 use Rattle.outcomes.specs.declared.Totalled.the-variants as Totalled
 

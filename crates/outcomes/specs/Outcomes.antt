@@ -82,6 +82,10 @@ pub record Written : Type 0 where
   pub starts : List ℤ
   pub ends : List ℤ
 
+-- the same where nothing is written: the lent lists are as they were
+abbrev pub notWritten : ℕ → List ℤ → List ℤ → Written
+notWritten n starts ends = record { answer = Counted.Refused n; starts = starts; ends = ends }
+
 -- what C and Rust see of it: the number and the count, and what the lent lists hold
 pub record Listed (r : Count) (starts ends : List ℤ) (w : Written) : Type 0 where
   pub number : r ≡ countedInC (w .answer)
@@ -110,6 +114,10 @@ pub record Change : Type 0 where
   pub end : ℤ
   pub new : Option ℕ
 
+-- an entry of a bulk insert as an edit
+abbrev pub entryChange : Entry → Change
+entryChange x = record { start = x .start; end = x .end; new = some (x .value) }
+
 -- OF A WELL-FORMED MAP
 
 -- the range and the value at a place
@@ -137,7 +145,7 @@ module _ (kind : Kind) where
   unfoldable pub intoLists : List Span → List ℤ → List ℤ → Written
   intoLists xs starts ends =
       cond (ltb (min (length starts) (length ends)) (length xs))
-      (record { answer = Counted.Refused tooShort; starts = starts; ends = ends })
+      (notWritten tooShort starts ends)
       (record {
         answer = Counted.Count (length xs);
         starts = inFirstPlaces (map (λ (x : Span). keyAt (x .lo)) xs) starts;
@@ -148,7 +156,7 @@ module _ (kind : Kind) where
   unfoldable pub gapsSound : Stored → ℤ → ℤ → List ℤ → List ℤ → Written
   gapsSound m s e starts ends =
       let q = spanOf kind s e 0 in
-      cond (empty q) (record { answer = Counted.Refused emptyRange; starts = starts; ends = ends })
+      cond (empty q) (notWritten emptyRange starts ends)
       (intoLists (uncovered (q .lo) (q .hi) (ranges kind m)) starts ends)
 
   -- triples of start, end and value place by place, a prefix first
@@ -212,7 +220,7 @@ module _ (kind : Kind) where
 
   -- GAPS
   unfoldable pub gaps : Stored → ℤ → ℤ → List ℤ → List ℤ → Written
-  gaps m s e starts ends = cond (formed m) (gapsSound m s e starts ends) (record { answer = Counted.Refused notFormed; starts = starts; ends = ends })
+  gaps m s e starts ends = cond (formed m) (gapsSound m s e starts ends) (notWritten notFormed starts ends)
 
   -- EQUALITY and ORDER of two maps
   unfoldable pub equal : Stored → Stored → Asked

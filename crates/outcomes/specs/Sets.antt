@@ -13,7 +13,7 @@ use Rattle.span.specs.Operations.{common, united, spanTotal}
 use Rattle.key.specs.Rank.{keys}
 use Rattle.key.specs.Range.{Kind}
 use Rattle.outcomes.specs.Stored.{Stored, ranges, noughts, Sound}
-use Rattle.outcomes.specs.Outcomes.{Entry, Written, intoLists, formed}
+use Rattle.outcomes.specs.Outcomes.{notWritten, Entry, Written, intoLists, formed}
 use Rattle.outcomes.specs.declared.Counted.the-variants as Counted
 use Rattle.outcomes.specs.declared.Totalled.{Totalled}
 use Rattle.outcomes.specs.declared.Totalled.the-variants as Totalled
@@ -44,10 +44,6 @@ pub record SoundSet (kind : Kind) (m : Stored) : Type 0 where
 -- a number of keys, where a u64 holds it, and else 9
 unfoldable pub totalIs : ℕ → Totalled
 totalIs n = cond (ltb n keys) (Totalled.Total n) (Totalled.Refused totalOver)
-
--- what a list answers that is not written: the lent lists are as they were
-abbrev pub notWritten : ℕ → List ℤ → List ℤ → Written
-notWritten n starts ends = record { answer = Counted.Refused n; starts = starts; ends = ends }
 
 module _ (kind : Kind) where
   -- OF WELL-FORMED SETS

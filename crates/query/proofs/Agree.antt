@@ -16,8 +16,7 @@ use Rattle.key.specs.Rank.{rank}
 use Rattle.key.specs.Range.{halfOpen}
 use Rattle.key.proofs.Lawful.{half-open}
 use Rattle.outcomes.specs.Stored.{Stored, ranges}
-use Rattle.outcomes.specs.Outcomes.{Written, intoLists, yesNo}
-use Rattle.outcomes.specs.Sets.{notWritten}
+use Rattle.outcomes.specs.Outcomes.{notWritten, Written, intoLists, yesNo}
 use Rattle.outcomes.specs.declared.Asked.{Asked}
 use Rattle.outcomes.specs.declared.Asked.the-variants as Asked
 use Rattle.outcomes.specs.declared.Counted.{Counted}

@@ -13,8 +13,7 @@ use Rattle.span.proofs.Tests as tests
 use Rattle.key.specs.Rank.{rank}
 use Rattle.key.specs.Range.{halfOpen}
 use Rattle.outcomes.specs.Stored.{places, Stored, ranges}
-use Rattle.outcomes.specs.Outcomes.{Written, intoLists, formed, yesNo}
-use Rattle.outcomes.specs.Sets.{notWritten}
+use Rattle.outcomes.specs.Outcomes.{notWritten, Written, intoLists, formed, yesNo}
 use Rattle.outcomes.specs.declared.Asked.{Asked}
 use Rattle.outcomes.specs.declared.Asked.the-variants as Asked
 use Rattle.outcomes.proofs.Formed as formed

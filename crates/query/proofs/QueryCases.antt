@@ -14,8 +14,7 @@ use Rattle.key.specs.Rank.{aboveLeast, bitRank, keyAt}
 use Rattle.key.specs.Range.{halfOpen, spanOf}
 use Rattle.outcomes.specs.Stored.{places, Stored, spans, ranges, filled, storing, zeros, noughts, unused, wellFormed}
 use Rattle.outcomes.specs.Numbers.{countedInC, askedInC}
-use Rattle.outcomes.specs.Outcomes.{Entry, Written, Listed, intoLists}
-use Rattle.outcomes.specs.Sets.{notWritten}
+use Rattle.outcomes.specs.Outcomes.{notWritten, Entry, Written, Listed, intoLists}
 use Rattle.outcomes.specs.declared.Asked.the-variants as Asked
 use Rattle.outcomes.specs.declared.Counted.the-variants as Counted
 use Rattle.outcomes.specs.declared.Count.{Count}

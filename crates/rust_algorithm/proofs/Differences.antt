@@ -23,12 +23,10 @@ use Rattle.key.proofs.Laws.{rank-below}
 use Rattle.relations.specs.Relations as relations
 use Rattle.relations.specs.declared.Relation.the-variants.{Empty}
 use Rattle.outcomes.specs.Stored.{places, Stored, ranges, storing, wellFormed}
-use Rattle.outcomes.specs.Outcomes.{Edited, leaving, editSound, edit, overlapsSound, overlaps, overlappingSound, overlapping, gapsSound, gaps}
-use Rattle.outcomes.specs.Outcomes.{Entry, bulkInsertSound, spanEdits}
-use Rattle.outcomes.specs.Sets.{notWritten}
+use Rattle.outcomes.specs.Outcomes.{notWritten, Edited, leaving, editSound, edit, overlapsSound, overlaps, overlappingSound, overlapping, gapsSound, gaps}
+use Rattle.outcomes.specs.Outcomes.{Entry, entryChange, bulkInsertSound, spanEdits}
 use Rattle.outcomes.specs.declared.Asked.the-variants as Asked
 use Rattle.outcomes.specs.declared.Part.the-variants as Part
-use Rattle.outcomes.proofs.Bulk.{single}
 use Rattle.rust_algorithm.specs.Btree.{filtered}
 use Rattle.rust_algorithm.specs.Map.{ranges-overlap}
 use Rattle.rust_algorithm.specs.InclusiveMap.{inclusive-range-contains, inclusive-ranges-overlap}
@@ -147,7 +145,7 @@ module _ (kind : Kind) (rust : Functions) (transcribed : Transcribed kind rust) 
       go false e = omega arith
 
   history-panics : (m : Stored) (n : ℕ) (es : List Entry) → LentMap kind m → bulkInsertSound kind m n es .told .answer ≡ 1
-      → rust .history (spanEdits kind (map single es)) (ranges kind m) ≡ none
+      → rust .history (spanEdits kind (map entryChange es)) (ranges kind m) ≡ none
   unfolding bulkInsertSound spanEdits
   history-panics m n [] l e = absurd (omega arith)
   history-panics m n (x ∷ xs) l e =
@@ -156,7 +154,7 @@ module _ (kind : Kind) (rust : Functions) (transcribed : Transcribed kind rust) 
       let call = rust .edit (rank (x .start)) (kind .past (x .end)) (some (x .value)) (ranges kind m) in
       let is : editedBy kind m call ≡ one
       = sym (edit-equal kind rust transcribed m (x .start) (x .end) (some (x .value)) w) ∙ edited-well w in
-      transcribed .same .history-first _ (spanEdits kind (map single xs)) (ranges kind m) ∙ (elim (decLt 0 (one .answer)) [
+      transcribed .same .history-first _ (spanEdits kind (map entryChange xs)) (ranges kind m) ∙ (elim (decLt 0 (one .answer)) [
         | yes p ↦
             let told : one .answer ≡ 1 = rw (ne-eqb (one .answer) 0 (omega arith)) at e in
             let none-left : call ≡ none = panicked m call (ap (λ (o : Edited). o .answer) is ∙ told) in

@@ -28,13 +28,13 @@ use Rattle.relations.specs.declared.Common.{Common}
 use Rattle.outcomes.specs.Stored.{places, Stored, ranges, storing, wellFormed}
 use Rattle.outcomes.specs.Outcomes.{Edited, leaving, editSound, edit, clear, Change, edits, spanEdits, firstPlace, rangeAtSound}
 use Rattle.outcomes.specs.Outcomes.{yesNo, lookupSound, containsSound, overlapsSound, overlappingSound, gapsSound, orderSound}
-use Rattle.outcomes.specs.Outcomes.{isEmpty, countOf, rangeAt, lookup, contains, overlaps, overlapping, gaps, equal, order, bulkInsertSound, Entry}
+use Rattle.outcomes.specs.Outcomes.{isEmpty, countOf, rangeAt, lookup, contains, overlaps, overlapping, gaps, equal, order, bulkInsertSound, Entry, entryChange}
 use Rattle.outcomes.specs.Sets.{plain, SoundSet, intersectionSound, unionSound, intersection, union}
 use Rattle.outcomes.specs.declared.Counted.the-variants as Counted
 use Rattle.outcomes.proofs.Formed.{formed, shape, length-ranges, getD-ranges, sound-held}
 use Rattle.outcomes.proofs.Storing.{upto-ranges, sound-storing, length-storing}
 use Rattle.outcomes.proofs.Edits.{edit-accepted, edit-ranges, edit-sound, edit-length, ranges-cleared}
-use Rattle.outcomes.proofs.Bulk.{single, bulk-singles}
+use Rattle.outcomes.proofs.Bulk.{changes-puts, bulk-singles}
 use Rattle.outcomes.proofs.Sets.{plain-ranges, plain-storing}
 use Rattle.rust_algorithm.specs.Btree.{next-back, nth}
 use Rattle.rust_algorithm.specs.InclusiveMap.{add-one-checked, sub-one-checked, add-one-wrapping, sub-one-wrapping}
@@ -248,23 +248,17 @@ module _ (kind : Kind) (rust : Functions) (transcribed : Transcribed kind rust) 
       let is = ran (clear kind) cs lent-cleared z .stores stores-cleared in
       record { sound = h .lent .sound; plain-too = ap plain is ∙ plain-storing kind places (ranges kind (edits kind (clear kind) cs .left)) p }
 
-  -- BULK INSERT: as many single inserts as were applied
-  puts-changes : (es : List Entry) → puts (entrySpans kind es) ≡ spanEdits kind (map single es)
-  unfolding puts spanEdits
-  puts-changes [] = refl
-  puts-changes (x ∷ xs) = ap (put (rank (x .start)) (kind .past (x .end)) (x .value) ∷_) (puts-changes xs)
-
-  -- extend by entries is a history of single inserts
-  pub extend-changes : (es : List Entry) (xs : List Span) → rust .extend (entrySpans kind es) xs ≡ rust .history (spanEdits kind (map single es)) xs
-  extend-changes es xs = same .extend-same (entrySpans kind es) xs ∙ ap (λ (fs : List Edit). rust .history fs xs) (puts-changes es)
+  -- BULK INSERT: extend by entries is a history of single inserts
+  pub extend-changes : (es : List Entry) (xs : List Span) → rust .extend (entrySpans kind es) xs ≡ rust .history (spanEdits kind (map entryChange es)) xs
+  extend-changes es xs = same .extend-same (entrySpans kind es) xs ∙ ap (λ (fs : List Edit). rust .history fs xs) (sym (changes-puts kind es))
 
   pub extend-equal : (m : Stored) (es : List Entry) → LentMap kind m
       → rust .extend (applied kind m es) (ranges kind m) ≡ some (ranges kind (bulkInsertSound kind m 0 es .left))
   extend-equal m es l =
       let fs = take (bulkInsertSound kind m 0 es .told .applied) es in
-      let is : edits kind m (map single fs) ≡ leaving done (bulkInsertSound kind m 0 es .left) = bulk-singles kind law m es (l .sound) (l .full-size) in
+      let is : edits kind m (map entryChange fs) ≡ leaving done (bulkInsertSound kind m 0 es .left) = bulk-singles kind law m es (l .sound) (l .full-size) in
       extend-changes fs (ranges kind m)
-      ∙ rust-holds m (map single fs) l (ran m (map single fs) l (ap (λ (o : Edited). o .answer) is))
+      ∙ rust-holds m (map entryChange fs) l (ran m (map entryChange fs) l (ap (λ (o : Edited). o .answer) is))
       ∙ ap (λ (o : Edited). some (ranges kind (o .left))) is
 
   -- QUESTIONS of a map

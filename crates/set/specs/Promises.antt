@@ -7,12 +7,13 @@ use mathlib.Core.Bool.{Bool, true}
 use lib.ListN.{length}
 use lib.IntN.{ℤ}
 use Rattle.key.specs.Range.{halfOpen}
+use Rattle.outcomes.specs.Outcomes.{notWritten}
 use Rattle.outcomes.specs.Outcomes.{clear, Listed, leaving, extended, isEmpty, countOf, rangeAt, firstOf, lastOf, lookup, contains, overlaps, overlapping}
 use Rattle.outcomes.specs.Outcomes.{gaps, equal, order, insert, remove, bulkInsert}
 use Rattle.set.specs.Set.{held}
 use Rattle.outcomes.specs.Numbers.{askedInC, countedInC, foundInC, partInC, comparedInC, totalledInC}
 use Rattle.outcomes.specs.Stored.{places}
-use Rattle.outcomes.specs.Sets.{ifSet, ifSets, pairs, notWritten, formedSet, SoundSet, intersection, union, totalOf}
+use Rattle.outcomes.specs.Sets.{ifSet, ifSets, pairs, formedSet, SoundSet, intersection, union, totalOf}
 use Rattle.outcomes.specs.declared.Applied.{Applied}
 use Rattle.outcomes.specs.declared.Asked.the-variants as Asked
 use Rattle.outcomes.specs.declared.Compared.the-variants as Compared

@@ -12,8 +12,8 @@ ghost use mathlib.Core.Path.{_≡_};
 ghost use Rattle.lent.specs.Moments.{was, becomes};
 ghost use Rattle.key.specs.Range.{kindOf};
 ghost use Rattle.outcomes.specs.Stored.{lent, atEntry};
-ghost use Rattle.outcomes.specs.Outcomes.{contains, gaps, lookup, overlaps, overlapping};
-ghost use Rattle.outcomes.specs.Sets.{ifSet, notWritten};
+ghost use Rattle.outcomes.specs.Outcomes.{notWritten, contains, gaps, lookup, overlaps, overlapping};
+ghost use Rattle.outcomes.specs.Sets.{ifSet};
 ghost use Rattle.range_list.specs.InnerLists.{wrote};
 
 // The range that holds the key.

@@ -17,11 +17,11 @@ use Rattle.span.specs.Span.{Span}
 use Rattle.key.specs.Range.{Kind, halfOpen, inclusive}
 use Rattle.key.proofs.Lawful.{Lawful, half-open, inclusive-too}
 use Rattle.outcomes.specs.Stored.{places, Stored, ranges}
-use Rattle.outcomes.specs.Outcomes.{Edited, Written, Listed, leaving, edit, edits, Entry, Extended, bulkInsert, bulkInsertSound, entries, extended}
+use Rattle.outcomes.specs.Outcomes.{notWritten, Edited, Written, Listed, leaving, edit, edits, Entry, Extended, bulkInsert, bulkInsertSound, entries, extended}
 use Rattle.outcomes.specs.Outcomes.{isEmpty, countOf, rangeAt, firstOf, lastOf, lookup, contains, overlaps, overlapping, gaps, equal, order, insert, remove}
 use Rattle.outcomes.specs.Outcomes.{editSound}
 use Rattle.outcomes.specs.Numbers.{askedInC, countedInC, foundInC, partInC, comparedInC}
-use Rattle.outcomes.specs.Sets.{ifSet, ifSets, pairs, notWritten, union, intersection}
+use Rattle.outcomes.specs.Sets.{ifSet, ifSets, pairs, union, intersection}
 use Rattle.outcomes.specs.declared.Applied.{Applied}
 use Rattle.outcomes.specs.declared.Asked.{Asked}
 use Rattle.outcomes.specs.declared.Asked.the-variants as Asked

@@ -13,11 +13,11 @@ use Rattle.answers.specs.Answers.{done}
 use Rattle.key.specs.Range.{Kind, halfOpen, inclusive}
 use Rattle.key.proofs.Lawful.{Lawful, half-open, inclusive-too}
 use Rattle.outcomes.specs.Stored.{Stored}
-use Rattle.outcomes.specs.Outcomes.{Entry, Edited, leaving, Extended, extended, entries, edit, edits, insert, bulkInsert}
+use Rattle.outcomes.specs.Outcomes.{Entry, entryChange, Edited, leaving, Extended, extended, entries, edit, edits, insert, bulkInsert}
 use Rattle.outcomes.specs.declared.Applied.{Applied}
 use Rattle.outcomes.specs.Sets.{plain, ifSet, pairs}
 use Rattle.outcomes.proofs.Edits.{none-refused}
-use Rattle.one_map.specs.Events.{Proper, happens, entryChange}
+use Rattle.one_map.specs.Events.{Proper, happens}
 use Rattle.one_map.specs.SetEvents.{setInsertEvent, ofMap}
 use Rattle.one_map.proofs.OneMap.{edit-proper}
 use Rattle.one_map.proofs.Histories.{bulk-leaves}

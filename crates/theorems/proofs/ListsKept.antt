@@ -8,8 +8,7 @@ use Rattle.answers.specs.Answers.{emptyRange, notFormed, badQuery}
 use Rattle.key.specs.Rank.{rank}
 use Rattle.key.specs.Range.{Kind, halfOpen, inclusive, spanOf, empty}
 use Rattle.outcomes.specs.Stored.{Stored}
-use Rattle.outcomes.specs.Outcomes.{gapsSound, formed, intoLists}
-use Rattle.outcomes.specs.Sets.{notWritten}
+use Rattle.outcomes.specs.Outcomes.{notWritten, gapsSound, formed, intoLists}
 use Rattle.outcomes.specs.declared.Count.{Count}
 use Rattle.one_map.proofs.Refusals.{Kept, unwritten-kept, writing-kept, kept-either, gaps-kept, intersection-kept, union-kept, write-kept}
 use Rattle.one_map.proofs.SetRefusals.{set-gaps-kept}

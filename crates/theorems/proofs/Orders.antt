@@ -10,8 +10,7 @@ use Rattle.answers.specs.Answers.{emptyRange, tooShort, badQuery, badDay, badSt
 use Rattle.key.specs.Rank.{rank}
 use Rattle.key.specs.Range.{halfOpen}
 use Rattle.outcomes.specs.Stored.{ranges}
-use Rattle.outcomes.specs.Outcomes.{formed, intoLists, yesNo}
-use Rattle.outcomes.specs.Sets.{notWritten}
+use Rattle.outcomes.specs.Outcomes.{notWritten, formed, intoLists, yesNo}
 use Rattle.outcomes.specs.declared.Asked.the-variants as Asked
 use Rattle.outcomes.specs.declared.Count.{Count}
 use Rattle.outcomes.specs.declared.Told.{Told}

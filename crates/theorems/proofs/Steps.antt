@@ -17,7 +17,7 @@ use Rattle.key.specs.Range.{Kind, halfOpen, spanOf, empty}
 use Rattle.key.proofs.Lawful.{Lawful, half-open}
 use Rattle.outcomes.specs.Stored.{places, Stored, ranges, storing}
 use Rattle.outcomes.specs.Outcomes.{Entry, Edited, leaving, Extended, extended, editSound, edit, insert, remove, bulkInsert, clear, Change, edits}
-use Rattle.outcomes.specs.Outcomes.{spanEdits}
+use Rattle.outcomes.specs.Outcomes.{entryChange, spanEdits}
 use Rattle.outcomes.specs.declared.Applied.{Applied}
 use Rattle.outcomes.specs.Sets.{plain, ifSet, pairs}
 use Rattle.outcomes.proofs.Edits.{edit-accepted, none-refused}
@@ -26,7 +26,7 @@ use Rattle.byte_form.specs.Bytes.{Bytes}
 use Rattle.byte_form.specs.Layout.{rm01}
 use Rattle.byte_form.specs.Form.{entriesOf, mapIn, read}
 use Rattle.one_map.specs.Events.{Proper, valueAt, Event, insertEvent, removeEvent, bulkEvent, clearEvent, readEvent, happens}
-use Rattle.one_map.specs.Events.{Effect, changed, anew, ifAccepted, entryChange, effect, leftAt}
+use Rattle.one_map.specs.Events.{Effect, changed, anew, ifAccepted, effect, leftAt}
 use Rattle.one_map.specs.SetEvents.{SetEvent, setInsertEvent, setRemoveEvent, setBulkEvent, setClearEvent, setHappens}
 use Rattle.one_map.proofs.Known.{proper-tidy}
 use Rattle.one_map.proofs.OneMap.{unchecked-same, edit-proper, read-proper}

@@ -9,14 +9,14 @@ use lib.ListN.{take}
 use lib.IntN.{ℤ}
 use Rattle.answers.specs.Answers.{done, noneThere}
 use Rattle.key.specs.Range.{Kind}
-use Rattle.outcomes.specs.Outcomes.{Change, entries}
+use Rattle.outcomes.specs.Outcomes.{Change, entryChange, entries}
 use Rattle.outcomes.specs.declared.Applied.{Applied}
 use Rattle.outcomes.specs.declared.Range.{Range}
 use Rattle.outcomes.specs.Sets.{pairs}
 use Rattle.byte_form.specs.Bytes.{Bytes}
 use Rattle.byte_form.specs.Layout.{rm01}
 use Rattle.byte_form.specs.Form.{entriesOf, mapIn}
-use Rattle.one_map.specs.Events.{Effect, changed, anew, entryChange, leftAt}
+use Rattle.one_map.specs.Events.{Effect, changed, anew, leftAt}
 
 -- a call that can change a map, its arguments and last what it answered: insert, remove, bulk insert, clear, and read of bytes
 pub data Call : Type 0 where
