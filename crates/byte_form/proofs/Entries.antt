@@ -1,29 +1,33 @@
 -- A map and the entries that it holds, there and back.
-use Prim.Native.Nat.{ℕ, zero, suc, _+_, _-_, _≤_, _<_}
+use Prim.Native.Nat.{ℕ, zero, suc, _+_, _-_, _≤_}
 use native.Mathlib.Omega.{arith}
-use mathlib.Core.Path.{_≡_, refl, sym, ap, _∙_}
+use mathlib.Core.Path.{_≡_, refl, sym, ap, subst, _∙_}
 use mathlib.Core.Bool.{true}
 use mathlib.Core.List.{List, [], _∷_, _++_, map}
-use lib.ListN.{length, getD, take, drop, replicate, length-drop, length-replicate, getD-replicate, take-append-drop}
+use lib.ListN.{length, take, drop, replicate, length-drop, length-replicate, getD-replicate, take-append-drop}
 use lib.Seq.{ext-getD, getD-drop, length-take-le}
 use lib.IntN.{ℤ, pos}
 use Rattle.key.specs.Range.{Kind}
-use Rattle.outcomes.specs.Stored.{places, Stored, filled, AllFit, Spare}
-use Rattle.outcomes.specs.Outcomes.{Entry, entries, formed}
+use Rattle.outcomes.specs.Stored.{places, Stored, filled, wellFormed, AllFit, Spare, Sound}
+use Rattle.outcomes.specs.Outcomes.{Entry, entries}
 use Rattle.outcomes.proofs.Formed as Formed
 use Rattle.outcomes.proofs.Bulk.{length-entries}
-use Rattle.byte_form.specs.Form.{entriesOf, mapOf, InMemory}
+use Rattle.byte_form.specs.Form.{entriesOf, mapOf}
 use Rattle.byte_form.proofs.Ranges.{AllFitting}
 
--- a map holds as many entries as it counts
+-- a sound map with all its places is well formed
+pub sound-formed : {kind : Kind} {m : Stored} → Sound kind m → length (m .starts) ≡ places → wellFormed kind places m ≡ true
+sound-formed {kind} {m} s all = subst (λ (n : ℕ). wellFormed kind n m ≡ true) all (s .well)
+
+-- a map whose columns are of one length holds as many entries as it counts
 pub length-entries-of : (m : Stored) → length (m .ends) ≡ length (m .starts) → length (m .values) ≡ length (m .starts) → m .count ≤ length (m .starts)
     → length (entriesOf m) ≡ m .count
 unfolding entriesOf
 length-entries-of m p q h = length-take-le (m .count) _ (omega (arith, length-entries (m .starts) (m .ends) (m .values)))
 
-pub memory-entries : {m : Stored} → InMemory m → m .count ≤ places → length (entriesOf m) ≡ m .count
-memory-entries {m} i h =
-    length-entries-of m (i .ends-all ∙ sym (i .starts-all)) (i .values-all ∙ sym (i .starts-all)) (omega (arith, i .starts-all))
+-- so does a sound one
+pub sound-entries : {kind : Kind} {m : Stored} → Sound kind m → length (entriesOf m) ≡ m .count
+sound-entries {kind} {m} s = length-entries-of m (s .ends-as) (s .values-as) (Formed.formed kind (length (m .starts)) m (s .well) .held)
 
 -- the first c of three columns are the columns of these entries
 record Columns (c : ℕ) (ss es : List ℤ) (vs : List ℕ) (xs : List Entry) : Type 0 where
@@ -55,19 +59,18 @@ unfolding entries
 entries-back [] a b c = refl
 entries-back (x ∷ xs) a b c = rw (entries-back xs a b c)
 
--- the first c entries of three columns are as memory holds them
-fitting : (c : ℕ) (ss es : List ℤ) (vs : List ℕ) → AllFit ss → AllFit es → ((k : ℕ) → getD vs k 0 < 256) → AllFitting (take c (entries ss es vs))
+-- the keys of the first c entries of three columns are i64
+fitting : (c : ℕ) (ss es : List ℤ) (vs : List ℕ) → AllFit ss → AllFit es → AllFitting (take c (entries ss es vs))
 unfolding entries AllFitting
-fitting zero ss es vs f g h = tt
-fitting (suc c) [] es vs f g h = tt
-fitting (suc c) (s ∷ ss) [] vs f g h = tt
-fitting (suc c) (s ∷ ss) (e ∷ es) [] f g h = tt
-fitting (suc c) (s ∷ ss) (e ∷ es) (v ∷ vs) f g h =
-    (record { start = f 0; end = g 0; value = h 0 }, fitting c ss es vs (λ k. f (suc k)) (λ k. g (suc k)) (λ k. h (suc k)))
+fitting zero ss es vs f g = tt
+fitting (suc c) [] es vs f g = tt
+fitting (suc c) (s ∷ ss) [] vs f g = tt
+fitting (suc c) (s ∷ ss) (e ∷ es) [] f g = tt
+fitting (suc c) (s ∷ ss) (e ∷ es) (v ∷ vs) f g = (record { start = f 0; end = g 0 }, fitting c ss es vs (λ k. f (suc k)) (λ k. g (suc k)))
 
-pub memory-fitting : {m : Stored} → InMemory m → AllFitting (entriesOf m)
+pub sound-fitting : {kind : Kind} {m : Stored} → Sound kind m → AllFitting (entriesOf m)
 unfolding entriesOf
-memory-fitting {m} i = fitting (m .count) (m .starts) (m .ends) (m .values) (i .starts-fit) (i .ends-fit) (i .values-fit)
+sound-fitting {m = m} s = fitting (m .count) (m .starts) (m .ends) (m .values) (s .starts-fit) (s .ends-fit)
 
 -- a column whose places from c on hold z is its first c places, filled up
 pub filled-take : {A : Type 0} (n c : ℕ) (z : A) (l : List A) → length l ≡ n → c ≤ n → Spare l c z → filled n z (take c l) ≡ l
@@ -86,19 +89,20 @@ pub entries-of-map : (xs : List Entry) → entriesOf (mapOf xs) ≡ xs
 unfolding entriesOf mapOf filled
 entries-of-map xs = entries-back xs _ _ _
 
--- a well-formed map in memory is that of its entries
-pub map-of-entries : (kind : Kind) {m : Stored} → InMemory m → formed kind m ≡ true → mapOf (entriesOf m) ≡ m
+-- a sound map with all its places is that of its entries
+pub map-of-entries : {kind : Kind} {m : Stored} → Sound kind m → length (m .starts) ≡ places → mapOf (entriesOf m) ≡ m
 unfolding entriesOf mapOf
-map-of-entries kind {m} i w =
-    let f = Formed.formed kind places m w in
-    let b = columns-back (m .count) (m .starts) (m .ends) (m .values) (i .ends-all ∙ sym (i .starts-all)) (i .values-all ∙ sym (i .starts-all)) in
-    let n : length (take (m .count) (entries (m .starts) (m .ends) (m .values))) ≡ m .count = memory-entries i (f .held) in
+map-of-entries {kind} {m} s all =
+    let f = Formed.formed kind (length (m .starts)) m (s .well) in
+    let held : m .count ≤ places = omega (arith, f .held) in
+    let b = columns-back (m .count) (m .starts) (m .ends) (m .values) (s .ends-as) (s .values-as) in
+    let n : length (take (m .count) (entries (m .starts) (m .ends) (m .values))) ≡ m .count = sound-entries s in
     rw (
       n,
       b .starts,
       b .ends,
       b .values,
-      filled-take places (m .count) (pos 0) (m .starts) (i .starts-all) (f .held) (f .starts),
-      filled-take places (m .count) (pos 0) (m .ends) (i .ends-all) (f .held) (f .ends),
-      filled-take places (m .count) 0 (m .values) (i .values-all) (f .held) (f .values),
+      filled-take places (m .count) (pos 0) (m .starts) all held (f .starts),
+      filled-take places (m .count) (pos 0) (m .ends) (s .ends-as ∙ all) held (f .ends),
+      filled-take places (m .count) 0 (m .values) (s .values-as ∙ all) held (f .values),
     )

@@ -1,7 +1,7 @@
 -- A map and its form, there and back, for any lawful layout: the two round trips, what the reader accepts, and no two maps with one form.
 use Prim.Native.Nat.{ℕ, zero, suc, _+_, _-_, _*_, _≤_, _<_}
 use native.Mathlib.Omega.{arith}
-use mathlib.Core.Path.{_≡_, refl, sym, ap, _∙_}
+use mathlib.Core.Path.{_≡_, refl, sym, ap, subst, _∙_}
 use mathlib.Core.Bool.{Bool, true, false, cond}
 use mathlib.Core.List.{List, [], _∷_, _++_, map, append-assoc}
 use borrow.Author.Tests.{eqb-true, eq-eqb}
@@ -15,18 +15,18 @@ use mir.Facts.{sfits-lit}
 use Rattle.answers.specs.Answers.{done, noMap}
 use Rattle.span.proofs.Tests.{both}
 use Rattle.key.proofs.Answers.{never}
-use Rattle.outcomes.specs.Stored.{places, Stored, filled}
+use Rattle.outcomes.specs.Stored.{places, Stored, filled, wellFormed, AllFit, Sound}
 use Rattle.outcomes.specs.Outcomes.{Entry, formed, Edited, leaving}
-use Rattle.outcomes.proofs.Formed.{and-yes}
+use Rattle.outcomes.proofs.Formed.{and-yes, Shaped}
 use Rattle.outcomes.proofs.Formed as Formed
 use Rattle.outcomes.proofs.Storing.{length-filled}
 use Rattle.byte_form.specs.Bytes.{u32Size, bytesOf, Bytes}
 use Rattle.byte_form.specs.Layout.{Layout, headOf, headSize, formSize}
-use Rattle.byte_form.specs.Form.{entriesOf, rangesBytes, formOf, rangesIn, countIn, mapOf, mapIn, sameBytes, isForm, read, InMemory}
+use Rattle.byte_form.specs.Form.{entriesOf, rangesBytes, formOf, rangesIn, countIn, mapOf, mapIn, sameBytes, isForm, read}
 use Rattle.byte_form.proofs.Laws.{length-bytes, number-bytes, bytes-number, bytes-take, bytes-drop}
 use Rattle.byte_form.proofs.Lawful.{Lawful}
 use Rattle.byte_form.proofs.Ranges.{length-ranges-in, length-ranges-bytes, ranges-back, ranges-again}
-use Rattle.byte_form.proofs.Entries.{memory-entries, memory-fitting, entries-of-map, map-of-entries}
+use Rattle.byte_form.proofs.Entries.{sound-formed, sound-entries, sound-fitting, entries-of-map, map-of-entries}
 
 -- TWO LISTS OF BYTES
 
@@ -105,10 +105,10 @@ module _ (layout : Layout) where
   unfolding isForm
   yes-form bs f = and-yes (f .well) (rw (f .bytes) (is-same bs))
 
-  -- a well-formed map as memory holds it, whose form is some bytes
+  -- a sound map with all its places, whose form is some bytes
   pub record Read (m : Stored) (bs : List ℕ) : Type 0 where
-    pub memory : InMemory m
-    pub well : formed (layout .kind) m ≡ true
+    pub sound : Sound (layout .kind) m
+    pub all-places : length (m .starts) ≡ places
     pub bytes : formOf layout m ≡ bs
 
 module _ {layout : Layout} (law : Lawful layout) where
@@ -120,14 +120,14 @@ module _ {layout : Layout} (law : Lawful layout) where
 
   -- THE ROUND TRIPS
 
-  -- WRITE THEN READ: a well-formed map in memory is the map of its form
-  pub map-form : {m : Stored} → InMemory m → formed (layout .kind) m ≡ true → mapIn layout (formOf layout m) ≡ m
+  -- WRITE THEN READ: a sound map with all its places is the map of its form. A value is its own byte, so nothing is asked of values
+  pub map-form : {m : Stored} → Sound (layout .kind) m → length (m .starts) ≡ places → mapIn layout (formOf layout m) ≡ m
   unfolding mapIn
-  map-form {m} i w =
-      let f = Formed.formed (layout .kind) places m w in
-      let n = memory-entries i (f .held) in
-      let r : rangesIn layout (m .count) (rangesBytes layout (entriesOf m)) ≡ entriesOf m = rw n at (ranges-back law (entriesOf m) (memory-fitting i)) in
-      rw (count-form layout m (f .held), rest-form layout m, r) (map-of-entries (layout .kind) i w)
+  map-form {m} s all =
+      let f = Formed.formed (layout .kind) places m (sound-formed s all) in
+      let n = sound-entries s in
+      let r : rangesIn layout (m .count) (rangesBytes layout (entriesOf m)) ≡ entriesOf m = rw n at (ranges-back law (entriesOf m) (sound-fitting s)) in
+      rw (count-form layout m (f .held), rest-form layout m, r) (map-of-entries s all)
 
   -- READ THEN WRITE: bytes that begin as a form does, and are as many as their count says, are the form of their map
   pub form-map : (bs : List ℕ) → Bytes bs → take (length (layout .mark)) bs ≡ layout .mark → length bs ≡ formSize layout (countIn layout bs)
@@ -146,71 +146,89 @@ module _ {layout : Layout} (law : Lawful layout) where
 
   -- THE READER
 
-  -- what holds of every range of bytes holds of the places of a column of their map
-  column-all : {A : Type 0} (P : A → Type 0) (f : Entry → A) (z : A) (m : ℕ) → P z → ((bs : List ℕ) → Bytes bs → P (f (layout .read bs)))
-      → (n : ℕ) (bs : List ℕ) → Bytes bs → (k : ℕ) → P (getD (map f (rangesIn layout n bs) ++ replicate m z) k z)
-  unfolding rangesIn
-  column-all P f z zero pz pf zero bs b k = pz
-  column-all P f z (suc m) pz pf zero bs b zero = pz
-  column-all P f z (suc m) pz pf zero bs b (suc k) = column-all P f z m pz pf zero bs b k
-  column-all P f z m pz pf (suc n) bs b zero = pf bs b
-  column-all P f z m pz pf (suc n) bs b (suc k) = column-all P f z m pz pf n (drop (layout .size) bs) (bytes-drop (layout .size) bs b) k
+  -- what holds of every range of such bytes holds of the places of a column of their map
+  module _ (Such : List ℕ → Type 0) (rest-such : (bs : List ℕ) → Such bs → Such (drop (layout .size) bs)) where
+    column-all : {A : Type 0} (P : A → Type 0) (f : Entry → A) (z : A) (m : ℕ) → P z → ((bs : List ℕ) → Such bs → P (f (layout .read bs)))
+        → (n : ℕ) (bs : List ℕ) → Such bs → (k : ℕ) → P (getD (map f (rangesIn layout n bs) ++ replicate m z) k z)
+    unfolding rangesIn
+    column-all P f z zero pz pf zero bs b k = pz
+    column-all P f z (suc m) pz pf zero bs b zero = pz
+    column-all P f z (suc m) pz pf zero bs b (suc k) = column-all P f z m pz pf zero bs b k
+    column-all P f z m pz pf (suc n) bs b zero = pf bs b
+    column-all P f z m pz pf (suc n) bs b (suc k) = column-all P f z m pz pf n (drop (layout .size) bs) (rest-such bs b) k
 
-  filled-all : {A : Type 0} (P : A → Type 0) (f : Entry → A) (p : ℕ) (z : A) → P z → ((bs : List ℕ) → Bytes bs → P (f (layout .read bs)))
-      → (n : ℕ) (bs : List ℕ) → Bytes bs → (k : ℕ) → P (getD (filled p z (map f (rangesIn layout n bs))) k z)
-  unfolding filled
-  filled-all P f p z pz pf n bs b k = column-all P f z (p - length (map f (rangesIn layout n bs))) pz pf n bs b k
+    filled-all : {A : Type 0} (P : A → Type 0) (f : Entry → A) (z : A) → P z → ((bs : List ℕ) → Such bs → P (f (layout .read bs)))
+        → (n : ℕ) (bs : List ℕ) → Such bs → (k : ℕ) → P (getD (filled places z (map f (rangesIn layout n bs))) k z)
+    unfolding filled
+    filled-all P f z pz pf n bs b k = column-all P f z (places - length (map f (rangesIn layout n bs))) pz pf n bs b k
 
-  -- the map of some bytes is one as memory holds it
-  pub map-in-memory : (bs : List ℕ) → Bytes bs → countIn layout bs ≤ places → InMemory (mapIn layout bs)
+  -- the keys of the map of any bytes are i64
+  map-keys : (f : Entry → ℤ) → ((bs : List ℕ) → SFits w64 (f (layout .read bs))) → (n : ℕ) (bs : List ℕ)
+      → AllFit (filled places (pos 0) (map f (rangesIn layout n bs)))
+  map-keys f fit n bs = filled-all (λ _. Unit {0}) (λ _ _. tt) (SFits w64) f (pos 0) (sfits-lit tt) (λ cs _. fit cs) n bs tt
+
+  -- its values are u8, since bytes are
+  pub map-values : (bs : List ℕ) → Bytes bs → Bytes (mapIn layout bs .values)
   unfolding mapIn mapOf
-  map-in-memory bs b h =
-      let n : ℕ = countIn layout bs in
-      let rest : List ℕ = drop (headSize layout) bs in
-      let xs : List Entry = rangesIn layout n rest in
-      let l : length xs ≡ n = length-ranges-in layout n rest in
-      let d : Bytes rest = bytes-drop (headSize layout) bs b in
+  map-values bs b =
+      filled-all Bytes (bytes-drop (layout .size)) (λ (v : ℕ). v < 256) (λ (x : Entry). x .value) 0 (omega arith) (law .value)
+      (countIn layout bs) (drop (headSize layout) bs) (bytes-drop (headSize layout) bs b)
+
+  -- it has all its places
+  pub map-shaped : (bs : List ℕ) → countIn layout bs ≤ places → Shaped places (mapIn layout bs)
+  unfolding mapIn mapOf
+  map-shaped bs h =
+      let xs : List Entry = rangesIn layout (countIn layout bs) (drop (headSize layout) bs) in
+      let l = length-ranges-in layout (countIn layout bs) (drop (headSize layout) bs) in
       record {
-        starts-all = length-filled places (pos 0) (map (λ (x : Entry). x .start) xs) (omega (arith, length-map xs (λ (x : Entry). x .start)));
-        ends-all = length-filled places (pos 0) (map (λ (x : Entry). x .end) xs) (omega (arith, length-map xs (λ (x : Entry). x .end)));
-        values-all = length-filled places 0 (map (λ (x : Entry). x .value) xs) (omega (arith, length-map xs (λ (x : Entry). x .value)));
-        starts-fit = filled-all (SFits w64) (λ (x : Entry). x .start) places (pos 0) (sfits-lit tt) (λ cs c. law .fits cs c .start) n rest d;
-        ends-fit = filled-all (SFits w64) (λ (x : Entry). x .end) places (pos 0) (sfits-lit tt) (λ cs c. law .fits cs c .end) n rest d;
-        values-fit = filled-all (λ (v : ℕ). v < 256) (λ (x : Entry). x .value) places 0 (omega arith) (λ cs c. law .fits cs c .value) n rest d;
+        starts = length-filled places (pos 0) (map (λ (x : Entry). x .start) xs) (omega (arith, length-map xs (λ (x : Entry). x .start)));
+        ends = length-filled places (pos 0) (map (λ (x : Entry). x .end) xs) (omega (arith, length-map xs (λ (x : Entry). x .end)));
+        values = length-filled places 0 (map (λ (x : Entry). x .value) xs) (omega (arith, length-map xs (λ (x : Entry). x .value)));
       }
 
-  -- the reader accepts the form of a well-formed map, and gives that map
-  pub write-read : {m : Stored} (old : Stored) → InMemory m → formed (layout .kind) m ≡ true → read layout old (formOf layout m) ≡ leaving done m
-  unfolding read
-  write-read {m} old i w =
-      let e = map-form i w in
-      rw (yes-form layout (formOf layout m) (record { well = rw e w; bytes = rw e }), e)
+  -- and it is sound where it is well formed
+  map-sound : (bs : List ℕ) → Shaped places (mapIn layout bs) → formed (layout .kind) (mapIn layout bs) ≡ true → Sound (layout .kind) (mapIn layout bs)
+  unfolding mapIn mapOf
+  map-sound bs shape w = record {
+    ends-as = shape .ends ∙ sym (shape .starts);
+    values-as = shape .values ∙ sym (shape .starts);
+    starts-fit = map-keys (λ (x : Entry). x .start) (λ cs. law .keys cs .start) (countIn layout bs) (drop (headSize layout) bs);
+    ends-fit = map-keys (λ (x : Entry). x .end) (λ cs. law .keys cs .end) (countIn layout bs) (drop (headSize layout) bs);
+    well = subst (λ (n : ℕ). wellFormed (layout .kind) n (mapIn layout bs) ≡ true) (sym (shape .starts)) w;
+  }
 
-  accepted : (bs : List ℕ) → Bytes bs → isForm layout bs ≡ true → Read layout (mapIn layout bs) bs
-  accepted bs b y =
+  -- the reader accepts the form of a well-formed map, and gives that map
+  pub write-read : {m : Stored} (old : Stored) → Sound (layout .kind) m → length (m .starts) ≡ places → read layout old (formOf layout m) ≡ leaving done m
+  unfolding read
+  write-read {m} old s all =
+      let e = map-form s all in
+      rw (yes-form layout (formOf layout m) (record { well = rw e (sound-formed s all); bytes = rw e }), e)
+
+  accepted : (bs : List ℕ) → isForm layout bs ≡ true → Read layout (mapIn layout bs) bs
+  accepted bs y =
       let f = form-yes layout bs y in
       let h = Formed.formed (layout .kind) places (mapIn layout bs) (f .well) .held in
-      record { memory = map-in-memory bs b (omega (arith, count-in-map layout bs)); well = f .well; bytes = f .bytes }
+      let shape = map-shaped bs (omega (arith, count-in-map layout bs)) in
+      record { sound = map-sound bs shape (f .well); all-places = shape .starts; bytes = f .bytes }
 
   -- it accepts nothing else: what it gives is a well-formed map whose form is the bytes that it read
-  pub read-write : {m : Stored} (old : Stored) (bs : List ℕ) → Bytes bs → read layout old bs ≡ leaving done m → Read layout m bs
+  pub read-write : {m : Stored} (old : Stored) (bs : List ℕ) → read layout old bs ≡ leaving done m → Read layout m bs
   unfolding read
-  read-write {m} old bs b e = go (isForm layout bs) refl e
+  read-write {m} old bs e = go (isForm layout bs) refl e
     where
       go : (t : Bool) → isForm layout bs ≡ t → cond t (leaving done (mapIn layout bs)) (leaving noMap old) ≡ leaving done m → Read layout m bs
-      go true y e = let n : mapIn layout bs ≡ m = ap (λ (o : Edited). o .left) e in rw n at (accepted bs b y)
+      go true y e = let n : mapIn layout bs ≡ m = ap (λ (o : Edited). o .left) e in rw n at (accepted bs y)
       go false y e = let z : _≡_ {A = ℕ} 6 0 = ap (λ (o : Edited). o .answer) e in absurd (omega arith)
 
   -- and bytes that are the form of no such map are refused with 6, the map as it was
-  pub read-refused : (old : Stored) (bs : List ℕ) → Bytes bs → ((m : Stored) → Read layout m bs → ⊥) → read layout old bs ≡ leaving noMap old
+  pub read-refused : (old : Stored) (bs : List ℕ) → ((m : Stored) → Read layout m bs → ⊥) → read layout old bs ≡ leaving noMap old
   unfolding read
-  read-refused old bs b h = go (isForm layout bs) refl
+  read-refused old bs h = go (isForm layout bs) refl
     where
       go : (t : Bool) → isForm layout bs ≡ t → cond t (leaving done (mapIn layout bs)) (leaving noMap old) ≡ leaving noMap old
-      go true y = absurd (h (mapIn layout bs) (accepted bs b y))
+      go true y = absurd (h (mapIn layout bs) (accepted bs y))
       go false y = refl
 
   -- NO TWO MAPS HAVE THE SAME BYTES
-  pub one-form : {a b : Stored} → InMemory a → InMemory b → formed (layout .kind) a ≡ true → formed (layout .kind) b ≡ true
-      → formOf layout a ≡ formOf layout b → a ≡ b
-  one-form i j v w e = sym (map-form i v) ∙ ap (mapIn layout) e ∙ map-form j w
+  pub one-form : {a b : Stored} {bs : List ℕ} → Read layout a bs → Read layout b bs → a ≡ b
+  one-form i j = sym (map-form (i .sound) (i .all-places)) ∙ ap (mapIn layout) (i .bytes ∙ sym (j .bytes)) ∙ map-form (j .sound) (j .all-places)

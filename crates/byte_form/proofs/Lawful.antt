@@ -13,21 +13,22 @@ use Rattle.byte_form.specs.Bytes.{i64Size, numberIn, keyBytes, rangeByte
 use Rattle.byte_form.specs.Layout.{Layout, rm01}
 use Rattle.byte_form.proofs.Laws.{length-bytes, key-back, key-again, bytes-take, bytes-drop}
 
--- a range as memory holds it: keys that are i64, a value that is u8
-pub record Fits (x : Entry) : Type 0 where
+-- a range whose keys are i64
+pub record KeysFit (x : Entry) : Type 0 where
   pub start : SFits w64 (x .start)
   pub end : SFits w64 (x .end)
-  pub value : x .value < 256
 
 pub record Lawful (layout : Layout) : Type 0 where
   -- every range has the size
   pub long : (x : Entry) → length (layout .written x) ≡ layout .size
   -- what is written is read back, whatever follows it
-  pub back : (x : Entry) (rest : List ℕ) → Fits x → layout .read (layout .written x ++ rest) ≡ x
+  pub back : (x : Entry) (rest : List ℕ) → KeysFit x → layout .read (layout .written x ++ rest) ≡ x
   -- what is read is written again
   pub again : (bs : List ℕ) → Bytes bs → layout .size ≤ length bs → layout .written (layout .read bs) ≡ take (layout .size) bs
-  -- and is a range as memory holds it
-  pub fits : (bs : List ℕ) → Bytes bs → Fits (layout .read bs)
+  -- its keys are i64
+  pub keys : (bs : List ℕ) → KeysFit (layout .read bs)
+  -- and its value is u8
+  pub value : (bs : List ℕ) → Bytes bs → layout .read bs .value < 256
 
 -- DOCUMENT 01'S LAYOUT
 
@@ -35,7 +36,7 @@ length-range : (x : Entry) → length (rangeBytes x) ≡ rm01 .size
 unfolding rangeBytes
 length-range x = rw (length-append, length-append, length-bytes i64Size (ofZ w64 (x .start)), length-bytes i64Size (ofZ w64 (x .end)))
 
-range-back : (x : Entry) (rest : List ℕ) → Fits x → rangeIn (rangeBytes x ++ rest) ≡ x
+range-back : (x : Entry) (rest : List ℕ) → KeysFit x → rangeIn (rangeBytes x ++ rest) ≡ x
 unfolding rangeBytes rangeIn
 range-back x rest f =
     let s : List ℕ = keyBytes (x .start) in
@@ -66,7 +67,6 @@ rm01-lawful = record {
   long = length-range;
   back = range-back;
   again = range-again;
-  fits = λ bs b.
-      let rest = drop i64Size bs in
-      record { start = toZ-fit (numberIn (take i64Size bs)); end = toZ-fit (numberIn (take i64Size rest)); value = b (i64Size + i64Size) };
+  keys = λ bs. record { start = toZ-fit (numberIn (take i64Size bs)); end = toZ-fit (numberIn (take i64Size (drop i64Size bs))) };
+  value = λ bs b. b (i64Size + i64Size);
 }

@@ -11,12 +11,12 @@ use Rattle.byte_form.specs.Bytes.{Bytes}
 use Rattle.byte_form.specs.Layout.{Layout}
 use Rattle.byte_form.specs.Form.{rangesBytes, rangesIn}
 use Rattle.byte_form.proofs.Laws.{bytes-drop}
-use Rattle.byte_form.proofs.Lawful.{Fits, Lawful}
+use Rattle.byte_form.proofs.Lawful.{KeysFit, Lawful}
 
--- all ranges are as memory holds them
+-- the keys of all ranges are i64
 unfoldable pub AllFitting : List Entry → Type 0
 AllFitting [] = Unit {0}
-AllFitting (x ∷ xs) = Fits x × AllFitting xs
+AllFitting (x ∷ xs) = KeysFit x × AllFitting xs
 
 pub length-ranges-in : (layout : Layout) (n : ℕ) (bs : List ℕ) → length (rangesIn layout n bs) ≡ n
 unfolding rangesIn

@@ -9,13 +9,14 @@ use lib.ListN.{length, take, drop}
 use lib.Seq.{take-append-seam}
 use Rattle.answers.specs.Answers.{done}
 use Rattle.key.proofs.Answers.{one-answer}
-use Rattle.outcomes.specs.Stored.{Stored}
+use Rattle.outcomes.specs.Stored.{places, Stored, Sound}
 use Rattle.outcomes.specs.Outcomes.{formed, leaving}
 use Rattle.outcomes.specs.declared.Count.{Count}
 use Rattle.outcomes.specs.declared.Counted.{Counted}
 use Rattle.byte_form.specs.Layout.{Layout}
-use Rattle.byte_form.specs.Form.{formOf, Output, output, intoOutput, write, Wrote, read, InMemory}
+use Rattle.byte_form.specs.Form.{formOf, Output, output, intoOutput, write, Wrote, read}
 use Rattle.byte_form.proofs.Lawful.{Lawful}
+use Rattle.byte_form.proofs.Entries.{sound-formed}
 use Rattle.byte_form.proofs.Forms.{write-read}
 
 pub write-one : {r t : Count} {o p : List ℕ} {w : Output} → Wrote r o w → Wrote t p w → (r ≡ t) × (o ≡ p)
@@ -34,6 +35,6 @@ written-form layout m out w h =
     rw (w, le-ltb (length out) (length bs) h) (take-append-seam bs (drop (length bs) out))
 
 -- and from there the map is read back
-pub written-read : {layout : Layout} (law : Lawful layout) {m : Stored} (old : Stored) (out : List ℕ) → InMemory m → formed (layout .kind) m ≡ true
+pub written-read : {layout : Layout} (law : Lawful layout) {m : Stored} (old : Stored) (out : List ℕ) → Sound (layout .kind) m → length (m .starts) ≡ places
     → length (formOf layout m) ≤ length out → read layout old (take (length (formOf layout m)) (write layout m out .out)) ≡ leaving done m
-written-read {layout} law {m} old out i w h = ap (read layout old) (written-form layout m out w h) ∙ write-read law old i w
+written-read {layout} law {m} old out s all h = ap (read layout old) (written-form layout m out (sound-formed s all) h) ∙ write-read law old s all

@@ -1,14 +1,14 @@
 -- Document 01, Byte form: the mark, count as u32, then range after range; what the writer and the reader answer and leave. All of it is over any layout:
 -- document 01's is `rm01`.
-use Prim.Native.Nat.{ℕ, zero, suc, _<_}
+use Prim.Native.Nat.{ℕ, zero, suc}
 use mathlib.Core.Path.{_≡_}
 use mathlib.Core.Bool.{Bool, true, false, _&&_, cond}
 use mathlib.Core.List.{List, [], _∷_, _++_, map}
 use lib.Dec.{eqb, ltb}
-use lib.ListN.{length, getD, take, drop}
+use lib.ListN.{length, take, drop}
 use lib.IntN.{pos}
 use Rattle.answers.specs.Answers.{done, tooShort, notFormed, noMap}
-use Rattle.outcomes.specs.Stored.{places, Stored, filled, AllFit}
+use Rattle.outcomes.specs.Stored.{places, Stored, filled}
 use Rattle.outcomes.specs.Outcomes.{Entry, entries, formed, Edited, leaving}
 use Rattle.outcomes.specs.Numbers.{countedInC}
 use Rattle.outcomes.specs.declared.Count.{Count}
@@ -89,12 +89,3 @@ module _ (layout : Layout) where
   -- THE READER. It overwrites its map, so it does not check it
   unfoldable pub read : Stored → List ℕ → Edited
   read m bs = cond (isForm bs) (leaving done (mapIn bs)) (leaving noMap m)
-
--- a map as memory holds it: all places, keys that are i64 and values that are u8
-pub record InMemory (m : Stored) : Type 0 where
-  pub starts-all : length (m .starts) ≡ places
-  pub ends-all : length (m .ends) ≡ places
-  pub values-all : length (m .values) ≡ places
-  pub starts-fit : AllFit (m .starts)
-  pub ends-fit : AllFit (m .ends)
-  pub values-fit : (k : ℕ) → getD (m .values) k 0 < 256

@@ -25,7 +25,7 @@ use Rattle.byte_form.proofs.Lawful.{Lawful}
 use Rattle.byte_form.proofs.Stores.{sets-append}
 use Rattle.byte_form.proofs.Ranges.{length-ranges-in}
 use Rattle.byte_form.proofs.Entries.{entries-of-map}
-use Rattle.byte_form.proofs.Forms.{mark-form, length-form, form-map, Form, form-yes, is-same, count-in-map, map-in-memory}
+use Rattle.byte_form.proofs.Forms.{mark-form, length-form, form-map, Form, form-yes, is-same, count-in-map, map-shaped}
 use Rattle.byte_io.specs.InnerRead.{Cleared, Sized, rangesOf, told, Filled}
 
 abbrev none : Entry
@@ -126,11 +126,10 @@ pub form-tidy : {layout : Layout} → Lawful layout → (bs : List ℕ) (n : ℕ
     → n ≡ countIn layout bs → Sized layout n bs → Decides r (Steps (layout .kind) (told layout n bs)) → r ≡ isForm layout bs
 unfolding mapIn isForm
 form-tidy {layout} law bs n r b t e s d =
-    let m = map-in-memory law bs b (omega (arith, s .few)) in
     let l : length bs ≡ formSize layout (countIn layout bs) = s .long ∙ ap (formSize layout) e in
     let k : length (rangesOf layout (countIn layout bs) bs) ≡ countIn layout bs = length-ranges-in layout (countIn layout bs) (drop (headSize layout) bs) in
     let few : length (rangesOf layout (countIn layout bs) bs) ≤ places = omega (arith, s .few) in
-    let shape : Shaped places (mapIn layout bs) = record { starts = m .starts-all; ends = m .ends-all; values = m .values-all } in
+    let shape : Shaped places (mapIn layout bs) = map-shaped law bs (omega (arith, s .few)) in
     let a : r ≡ formed (layout .kind) (mapIn layout bs) = answers (layout .kind) shape r (unused-of (rangesOf layout (countIn layout bs) bs) few) (rw e at d) in
     rw (form-map law bs b t l, is-same bs) (a ∙ and-true (formed (layout .kind) (mapIn layout bs)))
 

@@ -1,7 +1,7 @@
 -- What the program's functions ask of each other, from what is proved of the functions that they call.
 use Prim.Native.Nat.{ℕ, _≤_, min}
 use native.Mathlib.Omega.{arith}
-use mathlib.Core.Path.{_≡_, refl, sym, ap, subst, _∙_}
+use mathlib.Core.Path.{_≡_, refl, sym, ap, _∙_}
 use mathlib.Core.Bool.{Bool, true, false, _&&_, cond}
 use mathlib.Core.List.{List, _++_}
 use borrow.Author.Tests.{ltb-false}
@@ -11,16 +11,16 @@ use lib.IntN.{ℤ}
 use Rattle.answers.specs.Answers.{emptyRange, tooShort, notFormed, badQuery}
 use Rattle.key.specs.Rank.{rank}
 use Rattle.key.specs.Range.{halfOpen}
-use Rattle.outcomes.specs.Stored.{places, Stored, wellFormed, Sound}
+use Rattle.outcomes.specs.Stored.{places, Stored}
 use Rattle.outcomes.specs.Outcomes.{notWritten, formed, leaving, Written, intoLists}
 use Rattle.outcomes.specs.declared.Counted.{Counted}
 use Rattle.outcomes.specs.declared.Counted.the-variants as Counted
 use Rattle.outcomes.proofs.Formed as well
-use Rattle.byte_form.specs.Bytes.{Bytes}
 use Rattle.byte_form.specs.Layout.{rm01}
 use Rattle.byte_form.specs.Form.{formOf, Output, output, intoOutput, read}
 use Rattle.byte_form.specs.Form as form
 use Rattle.byte_form.proofs.Lawful.{rm01-lawful}
+use Rattle.byte_form.proofs.Entries.{sound-formed}
 use Rattle.byte_form.proofs.Forms.{read-write}
 use Rattle.range_list.specs.InnerLists.{wrote}
 use Rattle.query_text.specs.Reader.{Read, got, bad, queryOf}
@@ -28,20 +28,10 @@ use Rattle.query.specs.Answers.{byQuery, resultOf, queryRangesSound, queryRange
 use Rattle.hourledger.specs.InnerInput.{Loaded}
 
 -- a form that was read
-pub read-loaded : (old : Stored) {m : Stored} (bs : List ℕ) {r : ℕ} → Bytes bs → leaving r m ≡ read rm01 old bs → r ≡ 0 → Loaded m
-read-loaded old {m} bs bytes is e =
-    let r = read-write rm01-lawful old bs bytes (sym is ∙ ap (λ (n : ℕ). leaving n m) e) in
-    let k = r .memory in
-    record {
-      sound = record {
-        ends-as = k .ends-all ∙ sym (k .starts-all);
-        values-as = k .values-all ∙ sym (k .starts-all);
-        starts-fit = k .starts-fit;
-        ends-fit = k .ends-fit;
-        well = subst (λ (n : ℕ). wellFormed halfOpen n m ≡ true) (sym (k .starts-all)) (r .well);
-      };
-      held = well.formed halfOpen places m (r .well) .held;
-    }
+pub read-loaded : (old : Stored) {m : Stored} (bs : List ℕ) {r : ℕ} → leaving r m ≡ read rm01 old bs → r ≡ 0 → Loaded m
+read-loaded old {m} bs is e =
+    let r = read-write rm01-lawful old bs (sym is ∙ ap (λ (n : ℕ). leaving n m) e) in
+    record { sound = r .sound; held = well.formed halfOpen places m (sound-formed (r .sound) (r .all-places)) .held }
 
 -- a form that is written has room
 pub written-within : (m : Stored) (out : List ℕ) {out₁ : List ℕ} {r : Counted} {n : ℕ} → output r out₁ ≡ form.write rm01 m out → r ≡ Counted.Count n

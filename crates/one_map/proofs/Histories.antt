@@ -27,7 +27,6 @@ use Rattle.outcomes.specs.Outcomes.{lookup, Entry, entryChange, Edited, leaving
 use Rattle.outcomes.proofs.Edits.{none-refused, ranges-cleared}
 use Rattle.outcomes.proofs.Bulk.{range, entries-ranges, changes-puts, bulk-singles}
 use Rattle.byte_form.specs.Layout.{rm01}
-use Rattle.byte_form.specs.Bytes.{Bytes}
 use Rattle.byte_form.specs.Form.{entriesOf, mapIn, isForm, read}
 use Rattle.one_map.specs.Events.{Proper, valueAt, Event, insertEvent, removeEvent, bulkEvent, clearEvent, readEvent, happens, afterEvents, lastValue}
 use Rattle.one_map.specs.Events.{Effect, changed, anew, ifAccepted, effect, leftAt}
@@ -90,7 +89,7 @@ unfolding ranges entriesOf
 ranges-entries kind m = entries-ranges kind (m .count) (m .starts) (m .ends) (m .values)
 
 -- bytes that are read leave the map that stands in them
-pub read-done : (m : Stored) (bs : List ℕ) → read rm01 m bs .answer ≡ 0 → read rm01 m bs ≡ leaving done (mapIn rm01 bs)
+read-done : (m : Stored) (bs : List ℕ) → read rm01 m bs .answer ≡ 0 → read rm01 m bs ≡ leaving done (mapIn rm01 bs)
 unfolding read
 read-done m bs z = go (isForm rm01 bs) z
   where
@@ -99,12 +98,12 @@ read-done m bs z = go (isForm rm01 bs) z
     go false z = absurd (omega arith)
 
 -- read: the ranges of that map, put one after the other
-read-left : {m : Stored} → (bs : List ℕ) → Bytes bs → read rm01 m bs .answer ≡ 0
+read-left : {m : Stored} → (bs : List ℕ) → read rm01 m bs .answer ≡ 0
     → Left halfOpen m (read rm01 m bs .left) (anew (map entryChange (entriesOf (mapIn rm01 bs))))
-read-left {m} bs fit z =
+read-left {m} bs z =
     let xs : List Entry = entriesOf (mapIn rm01 bs) in
     let is = read-done m bs z in
-    let p = read-proper m bs fit is .0 in
+    let p = read-proper m bs is .0 in
     let r : ranges halfOpen (mapIn rm01 bs) ≡ map (range halfOpen) xs = ranges-entries halfOpen (mapIn rm01 bs) in
     let o : Ordered 0 (map (range halfOpen) xs) = subst (Ordered 0) r (proper-tidy p .ordered) in
     subst (λ (l : Edited). Left halfOpen m (l .left) (anew (map entryChange xs))) (sym is) (record {
@@ -124,7 +123,7 @@ module _ {kind : Kind} (law : Lawful kind) where
   event-left (readEvent is bs fit) {m} p =
       let cs : List Change = map entryChange (entriesOf (mapIn rm01 bs)) in
       let as-read : read rm01 m bs .answer ≡ 0 → Left kind m (read rm01 m bs .left) (anew cs) =
-      λ z. subst (λ (k : Kind). Left k m (read rm01 m bs .left) (anew cs)) (sym is) (read-left bs fit z) in
+      λ z. subst (λ (k : Kind). Left k m (read rm01 m bs .left) (anew cs)) (sym is) (read-left bs z) in
       done-or-not (read rm01 m bs) (anew cs) p as-read (read-unchanged m bs)
 
   -- an event leaves a well-formed map

@@ -2,7 +2,7 @@
 use Prim.Native.Nat.{ℕ, suc, _≤_, compare·suc-suc}
 use native.Mathlib.Omega.{arith}
 use native.Mathlib.Decide.{decLt}
-use mathlib.Core.Path.{_≡_, refl, sym, ap, subst, _∙_}
+use mathlib.Core.Path.{_≡_, refl, sym, ap, _∙_}
 use mathlib.Core.Bool.{Bool, true, false, cond}
 use mathlib.Core.List.{List, [], _∷_}
 use mathlib.Core.Option.{Option, some, none}
@@ -28,7 +28,7 @@ use Rattle.outcomes.specs.declared.Found.{Found}
 use Rattle.outcomes.specs.declared.Found.the-variants as Found
 use Rattle.outcomes.proofs.Formed.{formed, shape, good, length-ranges, getD-ranges}
 use Rattle.outcomes.proofs.Storing.{map-take, starts-back, ends-back, values-back, upto-ranges}
-use Rattle.byte_form.proofs.Entries.{filled-take}
+use Rattle.byte_form.proofs.Entries.{sound-formed, filled-take}
 use Rattle.one_map.specs.Events.{Proper, valueOf, valueAt}
 
 -- a lookup that tells a value answers 0, with that value
@@ -55,7 +55,7 @@ first-at k (x ∷ xs) = go (inside (x .lo) (x .hi) k) (first-at k xs)
 module _ {kind : Kind} {m : Stored} (p : Proper kind m) where
   -- it is as a lent map must be
   pub proper-formed : wellFormed kind places m ≡ true
-  proper-formed = subst (λ (n : ℕ). wellFormed kind n m ≡ true) (p .all-places) (p .sound .well)
+  proper-formed = sound-formed (p .sound) (p .all-places)
 
   -- its ranges are tidy
   pub proper-tidy : Tidy 0 (ranges kind m)

@@ -22,16 +22,15 @@ use Rattle.span.proofs.Laws.{the-only-one, tidy-given, at-given, nothing}
 use Rattle.key.specs.Rank.{rank, keys}
 use Rattle.key.specs.Range.{Kind, halfOpen}
 use Rattle.key.proofs.Lawful.{Lawful}
-use Rattle.outcomes.specs.Stored.{places, Stored, ranges, wellFormed}
+use Rattle.outcomes.specs.Stored.{places, Stored, ranges}
 use Rattle.outcomes.specs.declared.Asked.the-variants as Asked
-use Rattle.outcomes.specs.Outcomes.{yesNo, isEqual, orderSound, equal, Edited, leaving, editSound, edit, lookup, clear, formed}
+use Rattle.outcomes.specs.Outcomes.{yesNo, isEqual, orderSound, equal, Edited, leaving, editSound, edit, lookup, clear}
 use Rattle.outcomes.specs.declared.Found.the-variants as Found
 use Rattle.outcomes.proofs.Formed.{shape, good, length-ranges}
 use Rattle.outcomes.proofs.Storing.{sound-storing, length-storing, upto-ranges}
 use Rattle.outcomes.proofs.Edits.{accepted, edit-accepted, edit-ranges, edit-sound, edit-length, ranges-cleared}
 use Rattle.byte_form.specs.Layout.{rm01}
-use Rattle.byte_form.specs.Bytes.{Bytes}
-use Rattle.byte_form.specs.Form.{formOf, read, InMemory}
+use Rattle.byte_form.specs.Form.{formOf, read}
 use Rattle.byte_form.proofs.Lawful.{rm01-lawful}
 use Rattle.byte_form.proofs.Forms.{write-read, read-write}
 use Rattle.one_map.specs.Events.{Proper, valueOf, valueAt, inRange}
@@ -147,23 +146,10 @@ module _ {kind : Kind} (law : Lawful kind) where
   pub one-clear : {b : Stored} → Proper kind b → ((k : ℤ) → SFits w64 k → lookup kind b k ≡ Found.Nothing) → b ≡ clear kind
   one-clear q told = same-lookups law q clear-proper (λ k fit. ap valueOf (told k fit) ∙ sym (clear-holds k))
 
--- a well-formed map as memory holds it is proper
-pub memory-proper : {kind : Kind} {m : Stored} → InMemory m → formed kind m ≡ true → Proper kind m
-memory-proper {kind} {m} i w = record {
-  sound = record {
-    ends-as = i .ends-all ∙ sym (i .starts-all);
-    values-as = i .values-all ∙ sym (i .starts-all);
-    starts-fit = i .starts-fit;
-    ends-fit = i .ends-fit;
-    well = subst (λ (n : ℕ). wellFormed kind n m ≡ true) (sym (i .starts-all)) w;
-  };
-  all-places = i .starts-all;
-}
-
 -- READ leaves a proper map, whose written form the bytes are
-pub read-proper : {m : Stored} (old : Stored) (bs : List ℕ) → Bytes bs → read rm01 old bs ≡ leaving done m → Proper halfOpen m × (formOf rm01 m ≡ bs)
-read-proper old bs fit is = let r = read-write rm01-lawful old bs fit is in (memory-proper (r .memory) (r .well), r .bytes)
+pub read-proper : {m : Stored} (old : Stored) (bs : List ℕ) → read rm01 old bs ≡ leaving done m → Proper halfOpen m × (formOf rm01 m ≡ bs)
+read-proper old bs is = let r = read-write rm01-lawful old bs is in (record { sound = r .sound; all-places = r .all-places }, r .bytes)
 
 -- THE ONE MAP OF SOME BYTES: where some well-formed map has them as its written form, they are read, and what is left is that map
-pub one-read : {b : Stored} (old : Stored) (bs : List ℕ) → InMemory b → formed halfOpen b ≡ true → formOf rm01 b ≡ bs → read rm01 old bs ≡ leaving done b
-one-read old bs i w form = ap (read rm01 old) (sym form) ∙ write-read rm01-lawful old i w
+pub one-read : {b : Stored} (old : Stored) (bs : List ℕ) → Proper halfOpen b → formOf rm01 b ≡ bs → read rm01 old bs ≡ leaving done b
+one-read old bs p form = ap (read rm01 old) (sym form) ∙ write-read rm01-lawful old (p .sound) (p .all-places)

@@ -12,7 +12,7 @@ use Rattle.answers.specs.Answers.{done}
 use Rattle.span.specs.Span.{inside, last}
 use Rattle.key.specs.Rank.{rank}
 use Rattle.key.specs.Range.{Kind, halfOpen}
-use Rattle.outcomes.specs.Stored.{places, Stored, Sound}
+use Rattle.outcomes.specs.Stored.{places, Stored, AllFit, Sound}
 use Rattle.outcomes.specs.Outcomes.{Entry, entryChange, Edited, leaving, Change, lookup, clear, insert, remove, bulkInsert, spanEdits}
 use Rattle.outcomes.specs.declared.Found.{Found}
 use Rattle.outcomes.specs.declared.Found.the-variants as Found
@@ -24,6 +24,15 @@ use Rattle.byte_form.specs.Form.{entriesOf, mapIn, read}
 pub record Proper (kind : Kind) (m : Stored) : Type 0 where
   pub sound : Sound kind m
   pub all-places : length (m .starts) ≡ places
+
+-- a map as memory holds it: all places, keys that are i64 and values that are u8
+pub record InMemory (m : Stored) : Type 0 where
+  pub starts-all : length (m .starts) ≡ places
+  pub ends-all : length (m .ends) ≡ places
+  pub values-all : length (m .values) ≡ places
+  pub starts-fit : AllFit (m .starts)
+  pub ends-fit : AllFit (m .ends)
+  pub values-fit : Bytes (m .values)
 
 -- what the answer of a lookup tells of its key: the value that is held there, or none
 abbrev pub valueOf : Found → Option ℕ

@@ -15,7 +15,7 @@ use Rattle.duty.proofs.ByStatus.{of-duties}
 use Rattle.calendar.specs.Calendar.{leap, yearLength, monthLength, yearsBefore, monthsBefore, dayNumber, isDate, nextDate, weekday, sundayWithin, sundayFrom, marchSunday, novemberSunday}
 use Rattle.calendar.specs.Calendar as Calendar
 use Rattle.log_day.specs.Days.{standard, changesClock, daylight, offset, midnight, accepted, dayOf}
-use Rattle.report.specs.Report.{dayReport, reportedInC, noHours}
+use Rattle.report.specs.Report.{dayReport, reportedInC}
 use Rattle.report.specs.declared.Reported.{Reported}
 use Rattle.report.specs.declared.Reported.the-variants as Reported
 
@@ -54,10 +54,10 @@ pub november-report : reportedInC (dayReport november 0 2024 11 3) ≡ record {
   «on_duty» = 0;
   unrecorded = 0;
   «off_duty_hours» = fin false 9 (pos 1);
-  «sleeper_berth_hours» = noHours;
+  «sleeper_berth_hours» = fin false 0 (pos 0);
   «driving_hours» = fin false 7 (pos 0);
-  «on_duty_hours» = noHours;
-  «unrecorded_hours» = noHours;
+  «on_duty_hours» = fin false 0 (pos 0);
+  «unrecorded_hours» = fin false 0 (pos 0);
 }
 unfolding all
 november-report = refl

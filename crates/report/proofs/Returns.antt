@@ -1,4 +1,4 @@
--- What serves the functions' proofs: 0.0, and a day as a window of ranks.
+-- What serves the functions' proofs: 0.0 as the hours of no seconds, and a day as a window of ranks.
 use Prim.Native.Nat.{ℕ, _+_, _-_, _^_, _≤_, _<_}
 use native.Mathlib.Omega.{arith}
 use mathlib.Core.Path.{_≡_, refl, ap, _∙_}
@@ -7,14 +7,15 @@ use lib.Dec.{lt→ltb}
 use lib.Ieee.{binary64, ofBits}
 use Rattle.key.specs.Rank.{rank}
 use Rattle.key.proofs.Laws.{rank-pos}
+use Rattle.hours.specs.Hours.{hoursOf}
 use Rattle.duty.specs.InnerWalk.{u32Limit}
 use Rattle.log_day.specs.Days.{dayOf}
 use Rattle.log_day.specs.declared.Day.the-variants as Day
 use Rattle.log_day.proofs.Spans.{held, short, long, plain}
-use Rattle.report.specs.Report.{noHours}
 
-pub no-hours : ofBits binary64 0 ≡ noHours
-unfolding ofBits
+-- 0.0 is the hours of no seconds
+pub no-hours : ofBits binary64 0 ≡ hoursOf 0
+unfolding ofBits hoursOf
 no-hours = refl
 
 -- A DAY is a window of 82,800 to 90,000 seconds

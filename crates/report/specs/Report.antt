@@ -1,15 +1,15 @@
 -- Document 01, "Log days": what a day's report of a half-open map answers. Refusals in the order of document 01: 4 the map is not well formed,
 -- 8 the zone or the date is bad, 10 a status outside 1 to 4 is in the day.
 use Prim.Native.Nat.{ℕ}
-use mathlib.Core.Bool.{false, cond}
+use mathlib.Core.Bool.{cond}
 use lib.IntN.{ℤ, pos}
-use lib.Ieee.{Float, fin}
 use Rattle.answers.specs.Answers.{done, notFormed}
 use Rattle.key.specs.Range.{halfOpen}
 use Rattle.outcomes.specs.Stored.{Stored}
 use Rattle.outcomes.specs.Outcomes.{formed}
 use Rattle.hours.specs.Hours.{hoursOf}
 use Rattle.duty.specs.Duty.{tallySound}
+use Rattle.duty.specs.declared.Totals.{Totals}
 use Rattle.duty.specs.declared.Tallied.{Tallied}
 use Rattle.duty.specs.declared.Tallied.the-variants as Tallied
 use Rattle.log_day.specs.Days.{dayOf}
@@ -33,14 +33,10 @@ dayReportSound m (Day.Refused n) = Reported.Refused n
 unfoldable pub dayReport : Stored → ℕ → ℕ → ℕ → ℕ → Reported
 dayReport m zone y mo d = cond (formed halfOpen m) (dayReportSound m (dayOf zone y mo d)) (Reported.Refused notFormed)
 
--- +0.0
-abbrev pub noHours : Float
-noHours = fin false 0 (pos 0)
-
--- the report as C and Rust see it: the day, the seconds, and the same as hours; all 0 if it is refused
-abbrev pub reportedInC : Reported → DayReport
-reportedInC (Reported.Totals s e t) = record {
-  answer = done;
+-- a report's fields: the answer, the day, the seconds, and the same as hours
+abbrev pub fieldsInC : ℕ → ℤ → ℤ → Totals → DayReport
+fieldsInC n s e t = record {
+  answer = n;
   start = s;
   end = e;
   «off_duty» = t .«off_duty»;
@@ -54,18 +50,8 @@ reportedInC (Reported.Totals s e t) = record {
   «on_duty_hours» = hoursOf (t .«on_duty»);
   «unrecorded_hours» = hoursOf (t .unrecorded);
 }
-reportedInC (Reported.Refused n) = record {
-  answer = n;
-  start = pos 0;
-  end = pos 0;
-  «off_duty» = 0;
-  «sleeper_berth» = 0;
-  driving = 0;
-  «on_duty» = 0;
-  unrecorded = 0;
-  «off_duty_hours» = noHours;
-  «sleeper_berth_hours» = noHours;
-  «driving_hours» = noHours;
-  «on_duty_hours» = noHours;
-  «unrecorded_hours» = noHours;
-}
+
+-- what C and Rust see of a report: if it is refused, all but the number is 0. The hours of 0 seconds are +0.0 (`no-hours`)
+abbrev pub reportedInC : Reported → DayReport
+reportedInC (Reported.Totals s e t) = fieldsInC done s e t
+reportedInC (Reported.Refused n) = fieldsInC n (pos 0) (pos 0) (record { «off_duty» = 0; «sleeper_berth» = 0; driving = 0; «on_duty» = 0; unrecorded = 0 })

@@ -1,30 +1,20 @@
--- CALLS ARE EVENTS: what a call of the half-open map answers and leaves is what the event of `one_map` answers and leaves. So what calls leave is a map as
--- memory holds it, and is written and read back.
-use Prim.Native.Nat.{ℕ, suc}
+-- CALLS ARE EVENTS: what a call of the half-open map answers and leaves is what the event of `one_map` answers and leaves.
+use Prim.Native.Nat.{ℕ}
 use mathlib.Core.Path.{_≡_, refl, sym, ap, subst, _∙_}
 use mathlib.Core.List.{List, [], _∷_, map}
 use mathlib.Core.Option.{some, none}
-use lib.ListN.{take}
-use lib.IntN.{ℤ}
 use Rattle.answers.specs.Answers.{done}
 use Rattle.key.specs.Range.{halfOpen}
 use Rattle.key.proofs.Lawful.{half-open}
 use Rattle.outcomes.specs.Outcomes.{Edited, leaving, Extended, entries, clear}
-use Rattle.outcomes.specs.declared.Count.{Count}
-use Rattle.byte_form.specs.Bytes.{Bytes}
-use Rattle.byte_form.specs.Form.{InMemory}
 use Rattle.map.specs.declared.RangeMap.{RangeMap}
 use Rattle.map.specs.Map.{held}
-use Rattle.map_bytes.specs.Promises.{RangeMapWrite, RangeMapRead}
-use Rattle.one_map.specs.Events.{Proper, Event, insertEvent, removeEvent, bulkEvent, clearEvent, readEvent, happens, afterEvents, EntriesU8, AllU8}
+use Rattle.one_map.specs.Events.{Proper, Event, insertEvent, removeEvent, bulkEvent, clearEvent, readEvent, happens, afterEvents}
 use Rattle.one_map.proofs.OneMap.{clear-proper}
 use Rattle.one_map.proofs.Histories.{event-proper}
-use Rattle.one_map.proofs.Memory.{history-memory}
 use Rattle.theorems.specs.Calls.{Call, insertCall, removeCall, extendCall, clearCall, readCall, Calls}
 use Rattle.theorems.specs.Structs.{RangeMapCall, RangeMapAfter}
-use Rattle.theorems.specs.Inputs.{CallInputs}
 use Rattle.theorems.proofs.Steps.{either-door}
-use Rattle.theorems.proofs.Bytes.{write-then-read}
 
 -- the event of a call
 abbrev pub eventOf : Call → Event halfOpen
@@ -63,28 +53,3 @@ calls-happen (c ∷ cs) m n p (next, (q, qs)) =
 pub after-events : (cs : List Call) (n : RangeMap) → RangeMapAfter cs n → held n ≡ afterEvents (map eventOf cs) (clear halfOpen)
 after-events cs n (m, (new, q)) =
     calls-happen cs m n (subst (Proper halfOpen) (sym new) (clear-proper half-open)) q ∙ ap (afterEvents (map eventOf cs)) new
-
--- entries of u8 values
-entries-u8 : (ss es : List ℤ) (vs : List ℕ) → Bytes vs → EntriesU8 (entries ss es vs)
-unfolding entries
-entries-u8 [] es vs b = tt
-entries-u8 (s ∷ ss) [] vs b = tt
-entries-u8 (s ∷ ss) (e ∷ es) [] b = tt
-entries-u8 (s ∷ ss) (e ∷ es) (v ∷ vs) b = (b 0, entries-u8 ss es vs (λ k. b (suc k)))
-
-calls-u8 : (cs : List Call) → CallInputs cs → AllU8 (map eventOf cs)
-calls-u8 [] i = tt
-calls-u8 (insertCall s e v r ∷ cs) i = (i .0, calls-u8 cs (i .1))
-calls-u8 (removeCall s e r ∷ cs) i = (tt, calls-u8 cs (i .1))
-calls-u8 (extendCall ss es vs t ∷ cs) i = (entries-u8 ss es vs (i .0), calls-u8 cs (i .1))
-calls-u8 (clearCall ∷ cs) i = (tt, calls-u8 cs (i .1))
-calls-u8 (readCall bs fit r ∷ cs) i = (tt, calls-u8 cs (i .1))
-
--- what calls leave of a new map is a map as memory holds it
-pub after-memory : (cs : List Call) (n : RangeMap) → CallInputs cs → RangeMapAfter cs n → InMemory (held n)
-after-memory cs n i left = subst InMemory (sym (after-events cs n left)) (history-memory half-open (map eventOf cs) (calls-u8 cs i))
-
--- WRITTEN AND READ BACK: what calls leave, written with answer 0, is read as the same struct, whatever is overwritten
-pub after-read-back : (cs : List Call) (n o o′ : RangeMap) (out out′ : List ℕ) (r : Count) (t : ℕ) → CallInputs cs → RangeMapAfter cs n
-    → RangeMapWrite n out out′ r → r .answer ≡ done → RangeMapRead o o′ (take (r .count) out′) t → (t ≡ done) × (o′ ≡ n)
-after-read-back cs n o o′ out out′ r t i left = write-then-read n o o′ out out′ r t (after-memory cs n i left)

@@ -31,8 +31,8 @@ use Rattle.outcomes.specs.declared.Count.{Count}
 use Rattle.outcomes.specs.declared.Told.{Told}
 use Rattle.byte_form.specs.Layout.{rm01}
 use Rattle.byte_form.specs.Bytes.{bytesOf, rangeBytes, Bytes}
-use Rattle.byte_form.specs.Form.{entriesOf, rangesBytes, formOf, read, InMemory}
-use Rattle.one_map.specs.Events.{Event, insertEvent, afterEvents}
+use Rattle.byte_form.specs.Form.{entriesOf, rangesBytes, formOf, read}
+use Rattle.one_map.specs.Events.{InMemory, Event, insertEvent, afterEvents}
 use Rattle.one_map.proofs.OneMap.{clear-proper}
 use Rattle.one_map.proofs.Histories.{event-proper}
 use Rattle.one_map.proofs.Memory.{history-memory, history-read-back}
@@ -300,7 +300,7 @@ unfolding afterEvents
 reader-not-refused f meets n other always =
     let new = range-map-of (clear halfOpen) in
     let input : BytesInput (clear halfOpen) mark-only = (new-memory half-open, mark-only-bytes) in
-    let is-read = ap (read rm01 (clear halfOpen)) (sym mark-only-form) ∙ history-read-back [] tt (clear halfOpen) in
+    let is-read = ap (read rm01 (clear halfOpen)) (sym mark-only-form) ∙ history-read-back [] (clear halfOpen) in
     other (sym (always new mark-only input) ∙ ap (λ (o : Edited). o .answer) (meets new mark-only input ∙ is-read))
 
 -- THE QUERY `A1` of two new maps in the window 0..8 is answered with 0, and no range; and one instant with no

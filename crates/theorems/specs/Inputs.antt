@@ -1,13 +1,12 @@
 -- INPUTS that a caller can give: maps as memory holds them, keys that are i64, values and bytes that are u8, a date's numbers as their types hold them.
 use Prim.Native.Nat.{ℕ, _<_}
-use mathlib.Core.List.{List, [], _∷_}
+use mathlib.Core.List.{List}
 use lib.IntN.{ℤ}
 use mir.Syntax.{w64}
 use mir.Val.{SFits}
 use Rattle.outcomes.specs.Stored.{Stored, AllFit}
 use Rattle.byte_form.specs.Bytes.{Bytes}
-use Rattle.byte_form.specs.Form.{InMemory}
-use Rattle.theorems.specs.Calls.{Call, insertCall, removeCall, extendCall, clearCall, readCall}
+use Rattle.one_map.specs.Events.{InMemory}
 
 -- a map, a start and an end
 abbrev pub RangeInput : Stored → ℤ → ℤ → Type 0
@@ -28,16 +27,3 @@ QueryInput a b start end bytes = InMemory a × InMemory b × SFits w64 start × 
 -- two lists to write into
 abbrev pub ListsInput : List ℤ → List ℤ → Type 0
 ListsInput outStarts outEnds = AllFit outStarts × AllFit outEnds
-
--- the values of a call
-abbrev pub CallInput : Call → Type 0
-CallInput (insertCall s e v r) = v < 256
-CallInput (removeCall s e r) = Unit {0}
-CallInput (extendCall ss es vs t) = Bytes vs
-CallInput clearCall = Unit {0}
-CallInput (readCall bs fit r) = Unit {0}
-
--- those of all calls
-abbrev pub CallInputs : List Call → Type 0
-CallInputs [] = Unit {0}
-CallInputs (c ∷ cs) = CallInput c × CallInputs cs
