@@ -38,7 +38,7 @@ pub const GRAPH_ROOM: usize = 1050;
 pub fn quarters_of(start: i64, end: i64) -> usize
     ensures { λ r. ⌜ r ≡ quartersIn start end ⌝ }
 {
-    (seconds_between(start, end) / 900) as usize
+    (seconds_between(Bounds { start, end }) / 900) as usize
 }
 
 // The hour that the clock shows in the hour h of a day of n hours.
