@@ -19,6 +19,7 @@ use Rattle.span.proofs.Tests.{neither}
 use Rattle.span.proofs.Total.{those-most}
 use Rattle.key.specs.Rank.{rank}
 use Rattle.key.specs.Range.{halfOpen}
+use Rattle.key.specs.declared.Bounds.{Bounds}
 use Rattle.key.proofs.Lawful.{half-open}
 use Rattle.outcomes.specs.Stored.{Stored, spans, ranges, Sound}
 use Rattle.outcomes.proofs.Formed.{shape, good, length-spans, getD-spans, length-ranges, getD-ranges}
@@ -31,7 +32,7 @@ use Rattle.duty.specs.Duty.{isOffDuty, isSleeperBerth, isDriving, isOnDu
 use Rattle.duty.specs.declared.Tallied.{Tallied}
 use Rattle.duty.specs.declared.Tallied.the-variants as Tallied
 use Rattle.duty.specs.InnerWalk.{u32Limit, tableLength, sumOver, gatheredOf, gathering, tallySum, completing, tallyOf, walkFinds}
-use Rattle.duty.specs.InnerCounting.{Statuses, part, Met, EachApart, Inside, noSeconds, credited, Joined, TableRoom, Added}
+use Rattle.duty.specs.InnerCounting.{Statuses, part, Met, EachApart, Inside, noSeconds, credited, Joined, secondsIn, TableRoom, Added}
 use Rattle.duty.specs.declared.Tally.{Tally}
 use Rattle.duty.specs.declared.Walked.{Walked}
 use Rattle.duty.specs.declared.Walked.the-variants as Walked
@@ -115,11 +116,15 @@ joined-end {t} {u} {r} l a s = elim (decLt s tableLength) [
 abbrev pub at-place : List ℤ → List ℤ → List ℕ → ℕ → Span
 at-place ss es vs k = span (rank (getD ss k (pos 0))) (rank (getD es k (pos 0))) (getD vs k 0)
 
--- the places from a up to b meet the window from lo up to hi
-module _ {ss es : List ℤ} {vs : List ℕ} {lo hi a b : ℕ} (m : Met ss es vs lo hi a b) where
+-- a strange status is in the window
+abbrev strangeIn : Bounds → List Span → Bool
+strangeIn window xs = strange (rank (window .start)) (rank (window .end)) xs
+
+-- the places from a up to b meet the window
+module _ {ss es : List ℤ} {vs : List ℕ} {window : Bounds} {a b : ℕ} (m : Met ss es vs window a b) where
   -- the seconds of one of them
   abbrev secs : ℕ → ℕ
-  secs k = min (rank (getD es k (pos 0))) hi - max (rank (getD ss k (pos 0))) lo
+  secs k = min (rank (getD es k (pos 0))) (rank (window .end)) - max (rank (getD ss k (pos 0))) (rank (window .start))
 
   size : length (take b (spans halfOpen ss es vs)) ≡ b
   size = length-take-le b (spans halfOpen ss es vs) (omega (arith, m .starts-hold, length-spans halfOpen ss es vs (m .ends-as) (m .values-as)))
@@ -137,17 +142,17 @@ module _ {ss es : List ℤ} {vs : List ℕ} {lo hi a b : ℕ} (m : Met ss es vs 
   nil k i = drop-of-length-le (take b (spans halfOpen ss es vs)) {i = k} (omega (arith, size))
 
   seconds-step : (s k : ℕ) → k < b
-      → secondsOf (equals s) lo hi (part ss es vs k b) ≡ cond (equals s (getD vs k 0)) (secs k) 0 + secondsOf (equals s) lo hi (part ss es vs (k + 1) b)
-  seconds-step s k i = ap (secondsOf (equals s) lo hi) (cons k i) ∙ seconds-cons (equals s) lo hi (at-place ss es vs k) (part ss es vs (k + 1) b)
+      → secondsIn window s (part ss es vs k b) ≡ cond (equals s (getD vs k 0)) (secs k) 0 + secondsIn window s (part ss es vs (k + 1) b)
+  seconds-step s k i = ap (secondsIn window s) (cons k i) ∙ seconds-cons (equals s) _ _ (at-place ss es vs k) (part ss es vs (k + 1) b)
 
-  pub seconds-end : (s k : ℕ) → b ≤ k → secondsOf (equals s) lo hi (part ss es vs k b) ≡ 0
-  seconds-end s k i = ap (secondsOf (equals s) lo hi) (nil k i) ∙ seconds-none (equals s) lo hi
+  pub seconds-end : (s k : ℕ) → b ≤ k → secondsIn window s (part ss es vs k b) ≡ 0
+  seconds-end s k i = ap (secondsIn window s) (nil k i) ∙ seconds-none (equals s) _ _
 
-  strange-step : (k : ℕ) → a ≤ k → k < b → strange lo hi (part ss es vs k b) ≡ (not (isStatus (getD vs k 0)) || strange lo hi (part ss es vs (k + 1) b))
-  strange-step k h i = ap (strange lo hi) (cons k i) ∙ strange-cons lo hi (at-place ss es vs k) (part ss es vs (k + 1) b) (m .meet k h i)
+  strange-step : (k : ℕ) → a ≤ k → k < b → strangeIn window (part ss es vs k b) ≡ (not (isStatus (getD vs k 0)) || strangeIn window (part ss es vs (k + 1) b))
+  strange-step k h i = ap (strangeIn window) (cons k i) ∙ strange-cons _ _ (at-place ss es vs k) (part ss es vs (k + 1) b) (m .meet k h i)
 
   -- fewer places
-  pub fewer : (p q : ℕ) → a ≤ p → p ≤ q → q ≤ b → Met ss es vs lo hi p q
+  pub fewer : (p q : ℕ) → a ≤ p → p ≤ q → q ≤ b → Met ss es vs window p q
   fewer p q h i j = record {
     order = i;
     starts-hold = omega (arith, m .starts-hold);
@@ -157,72 +162,72 @@ module _ {ss es : List ℤ} {vs : List ℕ} {lo hi a b : ℕ} (m : Met ss es vs 
     meet = λ k x y. m .meet k (omega arith) (omega arith);
   }
 
-  -- one that ends by the start of the next, which is there too, where none begins before lo: its seconds are its length, which a u32 holds
-  pub whole-secs : EachApart ss es a b → Inside ss lo a b → (k : ℕ) → a ≤ k → k + 1 < b
+  -- one that ends by the start of the next, which is there too, where none begins before the window: its seconds are its length, which a u32 holds
+  pub whole-secs : EachApart ss es a b → Inside ss window a b → (k : ℕ) → a ≤ k → k + 1 < b
       → rank (getD es k (pos 0)) - rank (getD ss k (pos 0)) ≡ secs k
   whole-secs apart inside k h i = omega (arith, m .meet (k + 1) (omega arith) i, apart k h i, inside k h (omega arith))
 
-  pub whole-fits : EachApart ss es a b → Inside ss lo a b → (k : ℕ) → a ≤ k → k + 1 < b
+  pub whole-fits : EachApart ss es a b → Inside ss window a b → (k : ℕ) → a ≤ k → k + 1 < b
       → (rank (getD ss k (pos 0)) ≤ rank (getD es k (pos 0))) × (rank (getD es k (pos 0)) - rank (getD ss k (pos 0)) < u32Limit)
   whole-fits apart inside k h i =
       let e = m .meet k h (omega arith) in
       (omega arith, omega (arith, m .meet (k + 1) (omega arith) i, apart k h i, inside k h (omega arith), m .short))
 
   -- all but the first begin in the window
-  pub second-inside : EachApart ss es a b → Inside ss lo (a + 1) b
+  pub second-inside : EachApart ss es a b → Inside ss window (a + 1) b
   second-inside apart zero h i = absurd (omega arith)
   second-inside apart (suc k) h i =
       let e : suc k ≡ k + 1 = omega arith in
       rw e (omega (arith, m .meet k (omega arith) (omega arith), apart k (omega arith) (omega arith)))
 
   -- STATUSES: no strange one is there exactly where all are statuses
-  calm-from : (n k : ℕ) → k + n ≡ b → a ≤ k → Statuses vs a b → strange lo hi (part ss es vs k b) ≡ false
-  calm-from zero k e h s = ap (strange lo hi) (nil k (omega arith)) ∙ strange-none lo hi
+  calm-from : (n k : ℕ) → k + n ≡ b → a ≤ k → Statuses vs a b → strangeIn window (part ss es vs k b) ≡ false
+  calm-from zero k e h s = ap (strangeIn window) (nil k (omega arith)) ∙ strange-none _ _
   calm-from (suc n) k e h s =
       let rest = calm-from n (k + 1) (omega arith) (omega arith) s in
       strange-step k h (omega arith) ∙ rw (s k (omega arith) h) rest
 
-  pub calm : Statuses vs a b → strange lo hi (part ss es vs a b) ≡ false
+  pub calm : Statuses vs a b → strangeIn window (part ss es vs a b) ≡ false
   calm s = calm-from (b - a) a (omega (arith, m .order)) (omega arith) s
 
-  calm-status : (n k : ℕ) → k + n ≡ b → a ≤ k → strange lo hi (part ss es vs k b) ≡ false → Statuses vs k b
+  calm-status : (n k : ℕ) → k + n ≡ b → a ≤ k → strangeIn window (part ss es vs k b) ≡ false → Statuses vs k b
   calm-status zero k e h s = λ j i g. absurd (omega arith)
   calm-status (suc n) k e h s =
-      let both = neither (not (isStatus (getD vs k 0))) (strange lo hi (part ss es vs (k + 1) b)) (sym (strange-step k h (omega arith)) ∙ s) in
+      let both = neither (not (isStatus (getD vs k 0))) (strangeIn window (part ss es vs (k + 1) b)) (sym (strange-step k h (omega arith)) ∙ s) in
       let rest = calm-status n (k + 1) (omega arith) (omega arith) (both .1) in
       λ j i g. elim (decLt k j) [
         | yes p ↦ rest j i (omega arith)
         | no p ↦ let same : j ≡ k = omega arith in rw same (not-false _ (both .0))
       ]
 
-  pub strange-there : (Statuses vs a b → ⊥) → strange lo hi (part ss es vs a b) ≡ true
-  strange-there f = go (strange lo hi (part ss es vs a b)) refl
+  pub strange-there : (Statuses vs a b → ⊥) → strangeIn window (part ss es vs a b) ≡ true
+  strange-there f = go (strangeIn window (part ss es vs a b)) refl
     where
-      go : (t : Bool) → strange lo hi (part ss es vs a b) ≡ t → t ≡ true
+      go : (t : Bool) → strangeIn window (part ss es vs a b) ≡ t → t ≡ true
       go true e = refl
       go false e = absurd (f (calm-status (b - a) a (omega (arith, m .order)) (omega arith) e))
 
 -- the first of them, and the others
-pub seconds-first : {ss es : List ℤ} {vs : List ℕ} {lo hi a b : ℕ} (m : Met ss es vs lo hi a b) (s : ℕ) → a < b
-    → secondsOf (equals s) lo hi (part ss es vs a (a + 1)) + secondsOf (equals s) lo hi (part ss es vs (a + 1) b)
-    ≡ secondsOf (equals s) lo hi (part ss es vs a b)
+pub seconds-first : {ss es : List ℤ} {vs : List ℕ} {window : Bounds} {a b : ℕ} (m : Met ss es vs window a b) (s : ℕ) → a < b
+    → secondsIn window s (part ss es vs a (a + 1)) + secondsIn window s (part ss es vs (a + 1) b)
+    ≡ secondsIn window s (part ss es vs a b)
 seconds-first {a = a} m s h =
     let n = fewer m a (a + 1) (omega arith) (omega arith) (omega arith) in
     omega (arith, seconds-step m s a h, seconds-step n s a (omega arith), seconds-end n s (a + 1) (omega arith))
 
 -- WHAT IS COUNTED of the places from a up to b in the tables t and u, up to place k: with what is left of them it is w, which a u32 holds
-pub record Going (ss es : List ℤ) (vs : List ℕ) (lo hi a b : ℕ) (w : ℕ → ℕ) (t u : List ℕ) (k : ℕ) : Type 0 where
+pub record Going (ss es : List ℤ) (vs : List ℕ) (window : Bounds) (a b : ℕ) (w : ℕ → ℕ) (t u : List ℕ) (k : ℕ) : Type 0 where
   pub past : a ≤ k
   pub within : k ≤ b
   pub long : length t ≡ tableLength
-  pub sums : (s : ℕ) → getD t s 0 + getD u s 0 + secondsOf (equals s) lo hi (part ss es vs k b) ≡ w s
+  pub sums : (s : ℕ) → getD t s 0 + getD u s 0 + secondsIn window s (part ss es vs k b) ≡ w s
 
-pub going-turned : {ss es : List ℤ} {vs : List ℕ} {lo hi a b : ℕ} {w : ℕ → ℕ} {t u : List ℕ} {k : ℕ} → length u ≡ tableLength
-    → Going ss es vs lo hi a b w t u k → Going ss es vs lo hi a b w u t k
+pub going-turned : {ss es : List ℤ} {vs : List ℕ} {window : Bounds} {a b : ℕ} {w : ℕ → ℕ} {t u : List ℕ} {k : ℕ} → length u ≡ tableLength
+    → Going ss es vs window a b w t u k → Going ss es vs window a b w u t k
 going-turned l g = record { past = g .past; within = g .within; long = l; sums = λ d. omega (arith, g .sums d) }
 
-module _ {ss es : List ℤ} {vs : List ℕ} {lo hi a b : ℕ} (m : Met ss es vs lo hi a b) (s : Statuses vs a b)
-    {w : ℕ → ℕ} (room : (d : ℕ) → w d < u32Limit) {t u : List ℕ} {k : ℕ} (g : Going ss es vs lo hi a b w t u k) where
+module _ {ss es : List ℤ} {vs : List ℕ} {window : Bounds} {a b : ℕ} (m : Met ss es vs window a b) (s : Statuses vs a b)
+    {w : ℕ → ℕ} (room : (d : ℕ) → w d < u32Limit) {t u : List ℕ} {k : ℕ} (g : Going ss es vs window a b w t u k) where
   pub going-end : b ≤ k → (d : ℕ) → getD t d 0 + getD u d 0 ≡ w d
   going-end h d = omega (arith, g .sums d, seconds-end m d k h)
 
@@ -236,7 +241,7 @@ module _ {ss es : List ℤ} {vs : List ℕ} {lo hi a b : ℕ} (m : Met ss es vs 
         let own = rw (eq-eqb (getD vs k 0) (getD vs k 0) refl) at (seconds-step m (getD vs k 0) k i) in
         omega (arith, e, own, g .sums (getD vs k 0), room (getD vs k 0))
 
-    pub going-on : {t′ : List ℕ} {n : ℕ} → n ≡ secs m k → t′ ≡ credited t (getD vs k 0) n → Going ss es vs lo hi a b w t′ u (k + 1)
+    pub going-on : {t′ : List ℕ} {n : ℕ} → n ≡ secs m k → t′ ≡ credited t (getD vs k 0) n → Going ss es vs window a b w t′ u (k + 1)
     going-on {t′} {n} e q =
         rw q
         (record {
@@ -255,13 +260,16 @@ module _ {m : Stored} (sound : Sound halfOpen m) {from to : ℕ} {start end : �
   abbrev hi : ℕ
   hi = rank end
 
+  abbrev window : Bounds
+  window = record { start = start; end = end }
+
   abbrev xs : List Span
   xs = ranges halfOpen m
 
   steps : Steps halfOpen m
   steps = formed-steps halfOpen (shape sound) (good sound)
 
-  pub met : Met (m .starts) (m .ends) (m .values) lo hi from to
+  pub met : Met (m .starts) (m .ends) (m .values) window from to
   met = record {
     order = next .from;
     starts-hold = omega (arith, next .within, good sound .held);
@@ -314,18 +322,18 @@ module _ {m : Stored} (sound : Sound halfOpen m) {from to : ℕ} {start end : �
       ∙ within-ended lo hi (take from (take to xs)) (drop from (take to xs)) (rw front ended)
       ∙ ap (λ (n : List Span). within lo hi (drop from n)) back
 
-  pub table-room : TableRoom lo hi met-part noSeconds
+  pub table-room : TableRoom window met-part noSeconds
   table-room s = omega (arith, empty-has s, seconds-alike (equals s) lo hi xs met-part alike, seconds-most (equals s) lo hi xs real (good sound .tidy .ordered))
 
   -- what the table has of the statuses that pass a test
-  table-of-test : (t : List ℕ) (p : ℕ → Bool) → ((v : ℕ) → tableLength ≤ v → p v ≡ false) → Added lo hi met-part noSeconds t
+  table-of-test : (t : List ℕ) (p : ℕ → Bool) → ((v : ℕ) → tableLength ≤ v → p v ≡ false) → Added window met-part noSeconds t
       → gatheredOf p t ≡ secondsOf p lo hi xs
   table-of-test t p bound h =
       sum-same p (λ (s : ℕ). getD t s 0) (λ (s : ℕ). secondsOf (equals s) lo hi xs) tableLength
       (λ s. omega (arith, h s, empty-has s, seconds-alike (equals s) lo hi xs met-part alike))
       ∙ seconds-by-status p tableLength bound lo hi xs
 
-  pub table-is : (t : List ℕ) → Statuses (m .values) from to → Added lo hi met-part noSeconds t → Walked.Counted (gathering t) ≡ walkFinds lo hi xs
+  pub table-is : (t : List ℕ) → Statuses (m .values) from to → Added window met-part noSeconds t → Walked.Counted (gathering t) ≡ walkFinds lo hi xs
   unfolding walkFinds tallyOf gathering
   table-is t s h =
       let e : strange lo hi xs ≡ false = strange-alike lo hi xs met-part alike ∙ calm met s in

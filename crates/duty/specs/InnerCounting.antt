@@ -10,6 +10,7 @@ use Rattle.span.specs.Span.{Span}
 use Rattle.span.specs.Labels.{equals}
 use Rattle.key.specs.Rank.{rank}
 use Rattle.key.specs.Range.{halfOpen}
+use Rattle.key.specs.declared.Bounds.{Bounds}
 use Rattle.outcomes.specs.Stored.{spans}
 use Rattle.duty.specs.Duty.{isStatus, secondsOf}
 use Rattle.duty.specs.InnerWalk.{u32Limit, tableLength}
@@ -27,22 +28,22 @@ pub record Amiss (v r : ℕ) : Type 0 where
 abbrev pub part : List ℤ → List ℤ → List ℕ → ℕ → ℕ → List Span
 part ss es vs a b = drop a (take b (spans halfOpen ss es vs))
 
--- they meet the window from lo up to hi
-pub record Met (ss es : List ℤ) (vs : List ℕ) (lo hi a b : ℕ) : Type 0 where
+-- they meet the window
+pub record Met (ss es : List ℤ) (vs : List ℕ) (window : Bounds) (a b : ℕ) : Type 0 where
   pub order : a ≤ b
   pub starts-hold : b ≤ length ss
   pub ends-as : length es ≡ length ss
   pub values-as : length vs ≡ length ss
-  pub short : hi - lo < u32Limit
-  pub meet : (k : ℕ) → a ≤ k → k < b → max (rank (getD ss k (pos 0))) lo < min (rank (getD es k (pos 0))) hi
+  pub short : rank (window .end) - rank (window .start) < u32Limit
+  pub meet : (k : ℕ) → a ≤ k → k < b → max (rank (getD ss k (pos 0))) (rank (window .start)) < min (rank (getD es k (pos 0))) (rank (window .end))
 
 -- each ends by the start of the next
 abbrev pub EachApart : List ℤ → List ℤ → ℕ → ℕ → Type 0
 EachApart ss es a b = (k : ℕ) → a ≤ k → k + 1 < b → rank (getD es k (pos 0)) ≤ rank (getD ss (k + 1) (pos 0))
 
--- none begins before lo
-abbrev pub Inside : List ℤ → ℕ → ℕ → ℕ → Type 0
-Inside ss lo a b = (k : ℕ) → a ≤ k → k < b → lo ≤ rank (getD ss k (pos 0))
+-- none begins before the window
+abbrev pub Inside : List ℤ → Bounds → ℕ → ℕ → Type 0
+Inside ss window a b = (k : ℕ) → a ≤ k → k < b → rank (window .start) ≤ rank (getD ss k (pos 0))
 
 -- TABLES: one of no seconds
 abbrev pub noSeconds : List ℕ
@@ -60,10 +61,14 @@ Both t u = (s : ℕ) → getD t s 0 + getD u s 0 < u32Limit
 abbrev pub Joined : List ℕ → List ℕ → List ℕ → Type 0
 Joined t u r = (s : ℕ) → getD r s 0 ≡ getD t s 0 + getD u s 0
 
--- a u32 holds what a table has with the seconds of these ranges from lo up to hi
-abbrev pub TableRoom : ℕ → ℕ → List Span → List ℕ → Type 0
-TableRoom lo hi xs t = (s : ℕ) → getD t s 0 + secondsOf (equals s) lo hi xs < u32Limit
+-- the seconds of a status that these ranges have in a window
+abbrev pub secondsIn : Bounds → ℕ → List Span → ℕ
+secondsIn window s xs = secondsOf (equals s) (rank (window .start)) (rank (window .end)) xs
+
+-- a u32 holds what a table has with those seconds
+abbrev pub TableRoom : Bounds → List Span → List ℕ → Type 0
+TableRoom window xs t = (s : ℕ) → getD t s 0 + secondsIn window s xs < u32Limit
 
 -- and the table r has that
-abbrev pub Added : ℕ → ℕ → List Span → List ℕ → List ℕ → Type 0
-Added lo hi xs t r = (s : ℕ) → getD r s 0 ≡ getD t s 0 + secondsOf (equals s) lo hi xs
+abbrev pub Added : Bounds → List Span → List ℕ → List ℕ → Type 0
+Added window xs t r = (s : ℕ) → getD r s 0 ≡ getD t s 0 + secondsIn window s xs

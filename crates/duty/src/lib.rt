@@ -1,5 +1,6 @@
-// The seconds of each duty between two keys of a half-open map. They are counted by status, and then gathered.
+// The seconds of each duty in a window of a half-open map, from one key up to another. They are counted by status, and then gathered.
 use answers::BAD_STATUS;
+use key::Bounds;
 use key::RangeKind;
 use key::Value;
 use store::search::first_past;
@@ -57,13 +58,14 @@ fn seconds(from: i64, to: i64) -> u32
     (to - from) as u32
 }
 
-// The seconds of the range first..last that lie from `start` up to `end`.
-fn shared(first: i64, last: i64, start: i64, end: i64) -> u32
-    requires { ⌜ (max (rank first) (rank start) ≤ min (rank last) (rank end)) × (rank end - rank start < u32Limit) ⌝ }
-    ensures { λ r. ⌜ r ≡ min (rank last) (rank end) - max (rank first) (rank start) ⌝ }
+// The seconds of the range first..last that lie in the window.
+fn shared(first: i64, last: i64, window: Bounds) -> u32
+    requires { ⌜ (max (rank first) (rank (window .start)) ≤ min (rank last) (rank (window .end)))
+        × (rank (window .end) - rank (window .start) < u32Limit) ⌝ }
+    ensures { λ r. ⌜ r ≡ min (rank last) (rank (window .end)) - max (rank first) (rank (window .start)) ⌝ }
 {
-    let from = key::max(first, start);
-    let to = key::min(last, end);
+    let from = key::max(first, window.start);
+    let to = key::min(last, window.end);
     seconds(from, to)
 }
 
@@ -120,7 +122,7 @@ fn joined(t: [u32; TABLE_LENGTH], u: [u32; TABLE_LENGTH]) -> [u32; TABLE_LENGTH]
     r
 }
 
-// A table, and the seconds of the places from `from` up to `to` that lie from `start` up to `end`.
+// A table, and the seconds of the places from `from` up to `to` that lie in the window.
 fn clipped(
     table: [u32; TABLE_LENGTH],
     starts: &[i64],
@@ -128,24 +130,23 @@ fn clipped(
     values: &[Value],
     from: usize,
     to: usize,
-    start: i64,
-    end: i64,
+    window: Bounds,
 ) -> [u32; TABLE_LENGTH]
-    requires { ⌜ Met (now starts) (now ends) (now values) (rank start) (rank end) from to × Statuses (now values) from to
-        × TableRoom (rank start) (rank end) (part (now starts) (now ends) (now values) from to) table ⌝ }
-    ensures { λ r. ⌜ Added (rank start) (rank end) (part (was starts) (was ends) (was values) from to) table r ⌝ }
+    requires { ⌜ Met (now starts) (now ends) (now values) window from to × Statuses (now values) from to
+        × TableRoom window (part (now starts) (now ends) (now values) from to) table ⌝ }
+    ensures { λ r. ⌜ Added window (part (was starts) (was ends) (was values) from to) table r ⌝ }
 {
     let mut t = table;
     let mut k = from;
     while k < to {
-        let n = shared(starts[k], ends[k], start, end);
+        let n = shared(starts[k], ends[k], window);
         credit(&mut t, values[k], n);
         k += 1;
     }
     t
 }
 
-// The same where none of the places begins before `start`: all but the last lie there whole.
+// The same where none of the places begins before the window: all but the last lie there whole.
 // They are taken two at a time, each into a table of its own, so that no sum waits for the one before it.
 fn whole(
     table: [u32; TABLE_LENGTH],
@@ -154,13 +155,12 @@ fn whole(
     values: &[Value],
     from: usize,
     to: usize,
-    start: i64,
-    end: i64,
+    window: Bounds,
 ) -> [u32; TABLE_LENGTH]
-    requires { ⌜ Met (now starts) (now ends) (now values) (rank start) (rank end) from to × Statuses (now values) from to
-        × EachApart (now starts) (now ends) from to × Inside (now starts) (rank start) from to
-        × TableRoom (rank start) (rank end) (part (now starts) (now ends) (now values) from to) table ⌝ }
-    ensures { λ r. ⌜ Added (rank start) (rank end) (part (was starts) (was ends) (was values) from to) table r ⌝ }
+    requires { ⌜ Met (now starts) (now ends) (now values) window from to × Statuses (now values) from to
+        × EachApart (now starts) (now ends) from to × Inside (now starts) window from to
+        × TableRoom window (part (now starts) (now ends) (now values) from to) table ⌝ }
+    ensures { λ r. ⌜ Added window (part (was starts) (was ends) (was values) from to) table r ⌝ }
 {
     let mut t = table;
     let mut u = [0; TABLE_LENGTH];
@@ -173,7 +173,7 @@ fn whole(
         credit(&mut u, values[next], o);
         k += 2;
     }
-    clipped(joined(t, u), starts, ends, values, k, to, start, end)
+    clipped(joined(t, u), starts, ends, values, k, to, window)
 }
 
 // The seconds by status of the places from `from` up to `to`, which meet the window. Only the first can begin before it.
@@ -183,20 +183,19 @@ fn table_of(
     values: &[Value],
     from: usize,
     to: usize,
-    start: i64,
-    end: i64,
+    window: Bounds,
 ) -> [u32; TABLE_LENGTH]
-    requires { ⌜ Met (now starts) (now ends) (now values) (rank start) (rank end) from to × Statuses (now values) from to
-        × EachApart (now starts) (now ends) from to × TableRoom (rank start) (rank end) (part (now starts) (now ends) (now values) from to) noSeconds ⌝ }
-    ensures { λ r. ⌜ Added (rank start) (rank end) (part (was starts) (was ends) (was values) from to) noSeconds r ⌝ }
+    requires { ⌜ Met (now starts) (now ends) (now values) window from to × Statuses (now values) from to
+        × EachApart (now starts) (now ends) from to × TableRoom window (part (now starts) (now ends) (now values) from to) noSeconds ⌝ }
+    ensures { λ r. ⌜ Added window (part (was starts) (was ends) (was values) from to) noSeconds r ⌝ }
 {
     let t = [0; TABLE_LENGTH];
     if from == to {
         return t;
     }
     let second = from + 1;
-    let first = clipped(t, starts, ends, values, from, second, start, end);
-    whole(first, starts, ends, values, second, to, start, end)
+    let first = clipped(t, starts, ends, values, from, second, window);
+    whole(first, starts, ends, values, second, to, window)
 }
 
 // The four totals of a table of seconds by status. The promise sums over the statuses that pass each total's test.
@@ -227,45 +226,44 @@ fn completed(t: Tally, seconds: u32) -> Totals
     }
 }
 
-// The four totals from the key `start` up to the key `end`.
-// Each range from the place `from` on ends past `start`, so those that begin before `end` meet the window.
+// The four totals of the window.
+// Each range from the place `from` on ends past the window's start, so those that begin before its end meet it.
 fn walk(
     count: usize,
     starts: &[i64],
     ends: &[i64],
     values: &[Value],
     from: usize,
-    start: i64,
-    end: i64,
+    window: Bounds,
 ) -> Walked
-    requires { ⌜ Sound halfOpen (stored count (now starts) (now ends) (now values)) × Reached halfOpen count (now ends) start from
-        × (rank start < rank end) × (rank end - rank start < u32Limit) ⌝ }
-    ensures { λ r. ⌜ r ≡ walkFinds (rank start) (rank end) (ranges halfOpen (atEntryWith count starts ends values)) ⌝ }
+    requires { ⌜ Sound halfOpen (stored count (now starts) (now ends) (now values)) × Reached halfOpen count (now ends) (window .start) from
+        × (rank (window .start) < rank (window .end)) × (rank (window .end) - rank (window .start) < u32Limit) ⌝ }
+    ensures { λ r. ⌜ r ≡ walkFinds (rank (window .start)) (rank (window .end)) (ranges halfOpen (atEntryWith count starts ends values)) ⌝ }
 {
-    let to = first_past(RangeKind::HalfOpen, starts, from, count, end);
+    let to = first_past(RangeKind::HalfOpen, starts, from, count, window.end);
     if !statuses(values, from, to) {
         return Walked::Strange;
     }
-    let t = table_of(starts, ends, values, from, to, start, end);
+    let t = table_of(starts, ends, values, from, to, window);
     Walked::Counted(gathered(t))
 }
 
-// THE SECONDS of each duty from the key `start` up to the key `end`, and those that are unrecorded: 10 if a status outside 1 to 4 is there.
+// THE SECONDS of each duty in the window, and those that are unrecorded: 10 if a status outside 1 to 4 is there.
 pub fn between(
     count: usize,
     starts: &[i64],
     ends: &[i64],
     values: &[Value],
-    start: i64,
-    end: i64,
+    window: Bounds,
 ) -> Tallied
-    requires { ⌜ Sound halfOpen (stored count (now starts) (now ends) (now values)) × (rank start < rank end) × (rank end - rank start < u32Limit) ⌝ }
-    ensures { λ r. ⌜ r ≡ tallySound (atEntryWith count starts ends values) start end ⌝ }
+    requires { ⌜ Sound halfOpen (stored count (now starts) (now ends) (now values))
+        × (rank (window .start) < rank (window .end)) × (rank (window .end) - rank (window .start) < u32Limit) ⌝ }
+    ensures { λ r. ⌜ r ≡ tallySound (atEntryWith count starts ends values) (window .start) (window .end) ⌝ }
 {
-    let from = reaching(RangeKind::HalfOpen, ends, count, start);
-    let w = walk(count, starts, ends, values, from, start, end);
+    let from = reaching(RangeKind::HalfOpen, ends, count, window.start);
+    let w = walk(count, starts, ends, values, from, window);
     match w {
-        Walked::Counted(t) => Tallied::Seconds(completed(t, seconds(start, end))),
+        Walked::Counted(t) => Tallied::Seconds(completed(t, seconds(window.start, window.end))),
         Walked::Strange => Tallied::Refused(BAD_STATUS),
     }
 }

@@ -9,6 +9,7 @@ use lib.IntN.{ℤ}
 use Rattle.span.specs.Span.{Span, span, keep}
 use Rattle.key.specs.Rank.{rank}
 use Rattle.key.specs.Range.{Kind}
+use Rattle.key.specs.declared.Bounds.{Bounds}
 use Rattle.range_list.specs.InnerColumns.{rest}
 
 -- the gap from c up to d, if there is one
@@ -20,9 +21,9 @@ unfoldable pub gapsFrom : ℕ → ℕ → List Span → List Span
 gapsFrom c hi [] = span c hi 0 ∷ []
 gapsFrom c hi (x ∷ xs) = let more = gapsFrom (x .hi) hi xs in cond (leb hi (x .lo)) (span c hi 0 ∷ []) (gap c (x .lo) ++ cond (leb hi (x .hi)) [] more)
 
--- what the walk from place k on finds between the keys s and e
-abbrev pub gapsFound : Kind → List ℤ → List ℤ → ℕ → ℕ → ℤ → ℤ → List Span
-gapsFound kind ss es n k s e = gapsFrom (rank s) (kind .past e) (rest kind ss es n k)
+-- what the walk from place k on finds in the outer range
+abbrev pub gapsFound : Kind → List ℤ → List ℤ → ℕ → ℕ → Bounds → List Span
+gapsFound kind ss es n k outer = gapsFrom (rank (outer .start)) (kind .past (outer .end)) (rest kind ss es n k)
 
 -- the places from k up to n are there in both lists
 pub record Places (n k : ℕ) (ss es : List ℤ) : Type 0 where

@@ -5,6 +5,7 @@
 // which end is written for a range up to a key (`end_before`), and which key follows a range (`after`).
 use answers::EMPTY_RANGE;
 use answers::TOO_SHORT;
+use key::Bounds;
 use key::RangeKind;
 use key::Value;
 use key::after;
@@ -36,21 +37,21 @@ fn between(cursor: i64, start: i64) -> usize
     0
 }
 
-// How many gaps the places from `from` on leave between start and end.
+// How many gaps the places from `from` on leave in the outer range.
 fn counted(
     kind: RangeKind,
     starts: &[i64],
     ends: &[i64],
     count: usize,
     from: usize,
-    start: i64,
-    end: i64,
+    outer: Bounds,
 ) -> usize
-    requires { ⌜ Places count from (now starts) (now ends) × (rank start < kindOf kind .past end) ⌝ }
-    ensures { λ r. ⌜ r ≡ length (gapsFound (kindOf kind) (was starts) (was ends) count from start end) ⌝ }
+    requires { ⌜ Places count from (now starts) (now ends) × (rank (outer .start) < kindOf kind .past (outer .end)) ⌝ }
+    ensures { λ r. ⌜ r ≡ length (gapsFound (kindOf kind) (was starts) (was ends) count from outer) ⌝ }
 {
+    let end = outer.end;
     let mut n = 0;
-    let mut cursor = start;
+    let mut cursor = outer.start;
     let mut k = from;
     while k < count {
         let s = starts[k];
@@ -75,17 +76,16 @@ fn fits(
     ends: &[i64],
     count: usize,
     from: usize,
-    start: i64,
-    end: i64,
+    outer: Bounds,
     room: usize,
 ) -> bool
-    requires { ⌜ Places count from (now starts) (now ends) × (rank start < kindOf kind .past end) ⌝ }
-    ensures { λ r. ⌜ Decides r (length (gapsFound (kindOf kind) (was starts) (was ends) count from start end) ≤ room) ⌝ }
+    requires { ⌜ Places count from (now starts) (now ends) × (rank (outer .start) < kindOf kind .past (outer .end)) ⌝ }
+    ensures { λ r. ⌜ Decides r (length (gapsFound (kindOf kind) (was starts) (was ends) count from outer) ≤ room) ⌝ }
 {
     if count - from < room {
         return true;
     }
-    if room < counted(kind, starts, ends, count, from, start, end) {
+    if room < counted(kind, starts, ends, count, from, outer) {
         return false;
     }
     true
@@ -119,19 +119,19 @@ fn write(
     ends: &[i64],
     count: usize,
     from: usize,
-    start: i64,
-    end: i64,
+    outer: Bounds,
     out_starts: &mut [i64],
     out_ends: &mut [i64],
 ) -> usize
-    requires { ⌜ Places count from (now starts) (now ends) × (rank start < kindOf kind .past end)
-        × ListRoom 0 (gapsFound (kindOf kind) (now starts) (now ends) count from start end) (now «out_starts») (now «out_ends») ⌝ }
-    ensures { λ r. ⌜ (r ≡ length (gapsFound (kindOf kind) (was starts) (was ends) count from start end))
-        × Puts (kindOf kind) 0 (gapsFound (kindOf kind) (was starts) (was ends) count from start end)
+    requires { ⌜ Places count from (now starts) (now ends) × (rank (outer .start) < kindOf kind .past (outer .end))
+        × ListRoom 0 (gapsFound (kindOf kind) (now starts) (now ends) count from outer) (now «out_starts») (now «out_ends») ⌝ }
+    ensures { λ r. ⌜ (r ≡ length (gapsFound (kindOf kind) (was starts) (was ends) count from outer))
+        × Puts (kindOf kind) 0 (gapsFound (kindOf kind) (was starts) (was ends) count from outer)
         (was «out_starts») (was «out_ends») (becomes «out_starts») (becomes «out_ends») ⌝ }
 {
+    let end = outer.end;
     let mut at = 0;
-    let mut cursor = start;
+    let mut cursor = outer.start;
     let mut k = from;
     while k < count {
         let next = starts[k];
@@ -173,19 +173,10 @@ pub fn gaps(
     }
     let from = reaching(kind, ends, count, start);
     let room = shorter(out_starts.len(), out_ends.len());
-    if !fits(kind, starts, ends, count, from, start, end, room) {
+    let outer = Bounds { start, end };
+    if !fits(kind, starts, ends, count, from, outer, room) {
         return Counted::Refused(TOO_SHORT);
     }
-    let n = write(
-        kind,
-        starts,
-        ends,
-        count,
-        from,
-        start,
-        end,
-        out_starts,
-        out_ends,
-    );
+    let n = write(kind, starts, ends, count, from, outer, out_starts, out_ends);
     Counted::Count(n)
 }

@@ -2,6 +2,7 @@
 use decimal::put_u64;
 use duty::Tallied;
 use duty::Totals;
+use key::Bounds;
 use report_text::ROWS;
 use report_text::put_clock_column;
 use report_text::put_name_column;
@@ -37,7 +38,7 @@ pub const GRAPH_ROOM: usize = 1050;
 pub fn quarters_of(start: i64, end: i64) -> usize
     ensures { λ r. ⌜ r ≡ quartersIn start end ⌝ }
 {
-    (seconds_between(start, end) / 900) as usize
+    (seconds_between(Bounds { start, end }) / 900) as usize
 }
 
 // The hour that the clock shows in the hour h of a day of n hours.
@@ -72,9 +73,11 @@ pub fn is_marked(
     requires { ⌜ Quarter (stored count (now starts) (now ends) (now values)) start q × (row < rowCount) × (q < mostQuarters) ⌝ }
     ensures { λ r. ⌜ r ≡ isMarked (ranges halfOpen (atEntryWith count starts ends values)) start row q ⌝ }
 {
-    let from = quarter_start(start, q);
-    let to = quarter_start(start, q + 1);
-    let t = duty::between(count, starts, ends, values, from, to);
+    let quarter = Bounds {
+        start: quarter_start(start, q),
+        end: quarter_start(start, q + 1),
+    };
+    let t = duty::between(count, starts, ends, values, quarter);
     match t {
         Tallied::Seconds(totals) => 0 < seconds_of(totals, row),
         Tallied::Refused(_) => false,

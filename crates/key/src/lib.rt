@@ -21,6 +21,12 @@ pub enum RangeKind {
     Inclusive,
 }
 
+// The start and the end of a range, of either kind.
+pub struct Bounds {
+    pub start: i64,
+    pub end: i64,
+}
+
 // The lesser of two keys.
 pub fn min(a: i64, b: i64) -> i64
     ensures { λ r. ⌜ r ≡ lesser a b ⌝ }

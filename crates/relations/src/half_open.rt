@@ -7,6 +7,7 @@ use crate::intersect;
 use crate::overlaps;
 use crate::relation_numbers;
 use crate::touches;
+use key::Bounds;
 use key::RangeKind;
 ghost use Rattle.relations.specs.Promises.{RangeContains, RangeOverlaps, RangeTouches, RangeIntersect};
 
@@ -15,7 +16,8 @@ ghost use Rattle.relations.specs.Promises.{RangeContains, RangeOverlaps,
 pub extern "C" fn range_contains(start: i64, end: i64, key: i64) -> Related
     ensures { λ r. ⌜ RangeContains start end key r ⌝ }
 {
-    relation_numbers(contains(RangeKind::HalfOpen, start, end, key))
+    let range = Bounds { start, end };
+    relation_numbers(contains(RangeKind::HalfOpen, range, key))
 }
 
 // Whether a key is in both ranges.
@@ -23,7 +25,12 @@ pub extern "C" fn range_contains(start: i64, end: i64, key: i64) -> Related
 pub extern "C" fn range_overlaps(start: i64, end: i64, other_start: i64, other_end: i64) -> Related
     ensures { λ r. ⌜ RangeOverlaps start end «other_start» «other_end» r ⌝ }
 {
-    relation_numbers(overlaps(RangeKind::HalfOpen, start, end, other_start, other_end))
+    let range = Bounds { start, end };
+    let other = Bounds {
+        start: other_start,
+        end: other_end,
+    };
+    relation_numbers(overlaps(RangeKind::HalfOpen, range, other))
 }
 
 // Whether nothing lies between the two ranges; so ranges that overlap touch too.
@@ -31,7 +38,12 @@ pub extern "C" fn range_overlaps(start: i64, end: i64, other_start: i64, other_e
 pub extern "C" fn range_touches(start: i64, end: i64, other_start: i64, other_end: i64) -> Related
     ensures { λ r. ⌜ RangeTouches start end «other_start» «other_end» r ⌝ }
 {
-    relation_numbers(touches(RangeKind::HalfOpen, start, end, other_start, other_end))
+    let range = Bounds { start, end };
+    let other = Bounds {
+        start: other_start,
+        end: other_end,
+    };
+    relation_numbers(touches(RangeKind::HalfOpen, range, other))
 }
 
 // The keys of both ranges, from the greater start to the lesser end, or 5.
@@ -44,5 +56,10 @@ pub extern "C" fn range_intersect(
 ) -> Intersected
     ensures { λ r. ⌜ RangeIntersect start end «other_start» «other_end» r ⌝ }
 {
-    common_numbers(intersect(RangeKind::HalfOpen, start, end, other_start, other_end))
+    let range = Bounds { start, end };
+    let other = Bounds {
+        start: other_start,
+        end: other_end,
+    };
+    common_numbers(intersect(RangeKind::HalfOpen, range, other))
 }

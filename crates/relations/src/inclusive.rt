@@ -7,6 +7,7 @@ use crate::intersect;
 use crate::overlaps;
 use crate::relation_numbers;
 use crate::touches;
+use key::Bounds;
 use key::RangeKind;
 ghost use Rattle.relations.specs.Promises.{RangeInclusiveContains, RangeInclusiveOverlaps, RangeInclusiveTouches, RangeInclusiveIntersect};
 
@@ -15,7 +16,8 @@ ghost use Rattle.relations.specs.Promises.{RangeInclusiveContains, Range
 pub extern "C" fn range_inclusive_contains(start: i64, end: i64, key: i64) -> Related
     ensures { λ r. ⌜ RangeInclusiveContains start end key r ⌝ }
 {
-    relation_numbers(contains(RangeKind::Inclusive, start, end, key))
+    let range = Bounds { start, end };
+    relation_numbers(contains(RangeKind::Inclusive, range, key))
 }
 
 // Whether a key is in both ranges.
@@ -28,7 +30,12 @@ pub extern "C" fn range_inclusive_overlaps(
 ) -> Related
     ensures { λ r. ⌜ RangeInclusiveOverlaps start end «other_start» «other_end» r ⌝ }
 {
-    relation_numbers(overlaps(RangeKind::Inclusive, start, end, other_start, other_end))
+    let range = Bounds { start, end };
+    let other = Bounds {
+        start: other_start,
+        end: other_end,
+    };
+    relation_numbers(overlaps(RangeKind::Inclusive, range, other))
 }
 
 // Whether nothing lies between the two ranges; so ranges that overlap touch too.
@@ -41,7 +48,12 @@ pub extern "C" fn range_inclusive_touches(
 ) -> Related
     ensures { λ r. ⌜ RangeInclusiveTouches start end «other_start» «other_end» r ⌝ }
 {
-    relation_numbers(touches(RangeKind::Inclusive, start, end, other_start, other_end))
+    let range = Bounds { start, end };
+    let other = Bounds {
+        start: other_start,
+        end: other_end,
+    };
+    relation_numbers(touches(RangeKind::Inclusive, range, other))
 }
 
 // The keys of both ranges, from the greater start to the lesser end, or 5.
@@ -54,5 +66,10 @@ pub extern "C" fn range_inclusive_intersect(
 ) -> Intersected
     ensures { λ r. ⌜ RangeInclusiveIntersect start end «other_start» «other_end» r ⌝ }
 {
-    common_numbers(intersect(RangeKind::Inclusive, start, end, other_start, other_end))
+    let range = Bounds { start, end };
+    let other = Bounds {
+        start: other_start,
+        end: other_end,
+    };
+    common_numbers(intersect(RangeKind::Inclusive, range, other))
 }

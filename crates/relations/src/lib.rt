@@ -6,6 +6,7 @@ pub mod inclusive;
 use answers::DONE;
 use answers::EMPTY_RANGE;
 use answers::NONE_THERE;
+use key::Bounds;
 use key::RangeKind;
 use key::full;
 ghost use mathlib.Core.Path.{_≡_};
@@ -43,53 +44,62 @@ pub struct Intersected {
     pub end: i64,
 }
 
-// Whether the key is in the range: not before its start, and before its end.
-pub fn contains(kind: RangeKind, start: i64, end: i64, key: i64) -> Relation
-    ensures { λ r. ⌜ r ≡ rangeContains (kindOf kind) start end key ⌝ }
+// Whether a range starts before another ends.
+fn starts_before(kind: RangeKind, range: Bounds, other: Bounds) -> bool
+    ensures { λ r. ⌜ Decides r (rank (range .start) < kindOf kind .past (other .end)) ⌝ }
 {
-    if !full(kind, start, end) {
+    full(kind, range.start, other.end)
+}
+
+// Whether the key is in the range: not before its start, and before its end.
+pub fn contains(kind: RangeKind, range: Bounds, key: i64) -> Relation
+    ensures { λ r. ⌜ r ≡ rangeContains (kindOf kind) (range .start) (range .end) key ⌝ }
+{
+    if !starts_before(kind, range, range) {
         return Relation::Empty;
     }
-    if key < start {
+    if key < range.start {
         return Relation::No;
     }
-    if !full(kind, key, end) {
+    if !full(kind, key, range.end) {
         return Relation::No;
     }
     Relation::Yes
 }
 
-// Whether each of two ranges has a key.
-fn both_full(kind: RangeKind, start: i64, end: i64, other_start: i64, other_end: i64) -> bool
-    ensures { λ r. ⌜ Decides r ((rank start < kindOf kind .past end) × (rank «other_start» < kindOf kind .past «other_end»)) ⌝ }
+// Whether each of two ranges has a key: it starts before its own end.
+fn both_full(kind: RangeKind, range: Bounds, other: Bounds) -> bool
+    ensures { λ r. ⌜ Decides r ((rank (range .start) < kindOf kind .past (range .end)) × (rank (other .start) < kindOf kind .past (other .end))) ⌝ }
 {
-    if !full(kind, start, end) {
+    if !starts_before(kind, range, range) {
         return false;
     }
-    full(kind, other_start, other_end)
+    starts_before(kind, other, other)
 }
 
 // Whether some key is in both ranges: each starts before the other's end.
-pub fn overlaps(kind: RangeKind, start: i64, end: i64, other_start: i64, other_end: i64) -> Relation
-    ensures { λ r. ⌜ r ≡ rangesOverlap (kindOf kind) start end «other_start» «other_end» ⌝ }
+pub fn overlaps(kind: RangeKind, range: Bounds, other: Bounds) -> Relation
+    ensures { λ r. ⌜ r ≡ rangesOverlap (kindOf kind) (range .start) (range .end) (other .start) (other .end) ⌝ }
 {
-    if !both_full(kind, start, end, other_start, other_end) {
+    if !both_full(kind, range, other) {
         return Relation::Empty;
     }
-    if !full(kind, start, other_end) {
+    if !starts_before(kind, range, other) {
         return Relation::No;
     }
-    if !full(kind, other_start, end) {
+    if !starts_before(kind, other, range) {
         return Relation::No;
     }
     Relation::Yes
 }
 
-// Whether some key lies past a range that ends with `end` and before `start`. One is added to an end only where a later key was seen, so the
-// greatest key is an end like any other.
-fn apart(kind: RangeKind, end: i64, start: i64) -> bool
-    ensures { λ r. ⌜ Decides r (kindOf kind .past end < rank start) ⌝ }
+// Whether some key lies past a range and before another. One is added to an end only where a later key was seen, so the greatest key is an
+// end like any other.
+fn apart(kind: RangeKind, range: Bounds, other: Bounds) -> bool
+    ensures { λ r. ⌜ Decides r (kindOf kind .past (range .end) < rank (other .start)) ⌝ }
 {
+    let end = range.end;
+    let start = other.start;
     if start <= end {
         return false;
     }
@@ -105,27 +115,27 @@ fn apart(kind: RangeKind, end: i64, start: i64) -> bool
 }
 
 // Whether nothing lies between the ranges: they overlap, or one begins right where the other ends.
-pub fn touches(kind: RangeKind, start: i64, end: i64, other_start: i64, other_end: i64) -> Relation
-    ensures { λ r. ⌜ r ≡ rangesTouch (kindOf kind) start end «other_start» «other_end» ⌝ }
+pub fn touches(kind: RangeKind, range: Bounds, other: Bounds) -> Relation
+    ensures { λ r. ⌜ r ≡ rangesTouch (kindOf kind) (range .start) (range .end) (other .start) (other .end) ⌝ }
 {
-    if !both_full(kind, start, end, other_start, other_end) {
+    if !both_full(kind, range, other) {
         return Relation::Empty;
     }
-    if apart(kind, other_end, start) {
+    if apart(kind, other, range) {
         return Relation::No;
     }
-    if apart(kind, end, other_start) {
+    if apart(kind, range, other) {
         return Relation::No;
     }
     Relation::Yes
 }
 
 // What both ranges have: from the greater start to the lesser end, if a key is left. Any pair is taken.
-pub fn intersect(kind: RangeKind, start: i64, end: i64, other_start: i64, other_end: i64) -> Common
-    ensures { λ r. ⌜ r ≡ rangesIntersect (kindOf kind) start end «other_start» «other_end» ⌝ }
+pub fn intersect(kind: RangeKind, range: Bounds, other: Bounds) -> Common
+    ensures { λ r. ⌜ r ≡ rangesIntersect (kindOf kind) (range .start) (range .end) (other .start) (other .end) ⌝ }
 {
-    let s = key::max(start, other_start);
-    let e = key::min(end, other_end);
+    let s = key::max(range.start, other.start);
+    let e = key::min(range.end, other.end);
     if !full(kind, s, e) {
         return Common::Nothing;
     }

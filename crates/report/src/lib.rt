@@ -4,6 +4,7 @@ use answers::NOT_FORMED;
 use duty::Tallied;
 use duty::Totals;
 use hours::hours;
+use key::Bounds;
 use key::RangeKind;
 use key::Value;
 use log_day::Day;
@@ -92,12 +93,12 @@ pub fn report_of(r: Reported) -> DayReport
     }
 }
 
-// The seconds between two keys, with the keys.
-fn with_keys(start: i64, end: i64, t: Tallied) -> Reported
-    ensures { λ r. ⌜ r ≡ withKeys start end t ⌝ }
+// The seconds of a window, with its keys.
+fn with_keys(window: Bounds, t: Tallied) -> Reported
+    ensures { λ r. ⌜ r ≡ withKeys (window .start) (window .end) t ⌝ }
 {
     match t {
-        Tallied::Seconds(totals) => Reported::Totals(start, end, totals),
+        Tallied::Seconds(totals) => Reported::Totals(window.start, window.end, totals),
         Tallied::Refused(n) => Reported::Refused(n),
     }
 }
@@ -118,11 +119,10 @@ pub fn unchecked(
 {
     let d = log_day::day_of(zone, year, month, day);
     match d {
-        Day::Span(start, end) => with_keys(
-            start,
-            end,
-            duty::between(count, starts, ends, values, start, end),
-        ),
+        Day::Span(start, end) => {
+            let window = Bounds { start, end };
+            with_keys(window, duty::between(count, starts, ends, values, window))
+        }
         Day::Refused(n) => Reported::Refused(n),
     }
 }

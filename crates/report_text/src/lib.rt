@@ -3,6 +3,7 @@ use decimal::put_digits;
 use decimal::put_i64_right;
 use decimal::put_u64_right;
 use duty::Totals;
+use key::Bounds;
 use text::put;
 use text::put_byte;
 use text::put_left;
@@ -172,12 +173,12 @@ pub fn sum_of(t: Totals) -> u64
         + t.unrecorded as u64
 }
 
-// The seconds from one key up to another: none if it lies before. A difference of ranks never wraps.
-pub fn seconds_between(start: i64, end: i64) -> u64
-    ensures { λ r. ⌜ r ≡ rank end - rank start ⌝ }
+// The seconds from the start of a range up to its end: none if that lies before. A difference of ranks never wraps.
+pub fn seconds_between(range: Bounds) -> u64
+    ensures { λ r. ⌜ r ≡ rank (range .end) - rank (range .start) ⌝ }
 {
-    let from = key::rank_of(start);
-    let to = key::rank_of(end);
+    let from = key::rank_of(range.start);
+    let to = key::rank_of(range.end);
     if from < to {
         return to - from;
     }
@@ -227,20 +228,20 @@ fn put_rows(out: &mut [u8], at: usize, t: Totals) -> usize
 }
 
 // The lines of a day's start, end and length.
-fn put_day(out: &mut [u8], at: usize, start: i64, end: i64) -> usize
+fn put_day(out: &mut [u8], at: usize, day: Bounds) -> usize
     requires { ⌜ at + 3 * reportLineRoom ≤ length (now out) ⌝ }
-    ensures { λ r. ⌜ AddsWithin (3 * reportLineRoom) (dayLines start end) (was out) at (becomes out) r ⌝ }
+    ensures { λ r. ⌜ AddsWithin (3 * reportLineRoom) (dayLines (day .start) (day .end)) (was out) at (becomes out) r ⌝ }
 {
-    let second = put_key_line(out, at, b"start", start);
-    let third = put_key_line(out, second, b"end", end);
-    put_seconds_line(out, third, b"length", seconds_between(start, end))
+    let second = put_key_line(out, at, b"start", day.start);
+    let third = put_key_line(out, second, b"end", day.end);
+    put_seconds_line(out, third, b"length", seconds_between(day))
 }
 
 // THE REPORT of a day.
 pub fn report_text(start: i64, end: i64, t: Totals, out: &mut [u8; REPORT_ROOM]) -> usize
     ensures { λ r. ⌜ AddsWithin reportRoom (reportText start end t) (was out) 0 (becomes out) r ⌝ }
 {
-    let rows = put_day(out, 0, start, end);
+    let rows = put_day(out, 0, Bounds { start, end });
     let sum = put_rows(out, rows, t);
     put_seconds_line(out, sum, b"sum", sum_of(t))
 }

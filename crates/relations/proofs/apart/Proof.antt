@@ -10,7 +10,7 @@ use Rattle.relations.proofs.apart.Statement.{statement}
 use Rattle.relations.proofs.apart.Tie as tie
 
 returns : tie.Need-returns
-returns c = let a = c .before .args in fails (λ w. omega (arith, tests, lawful (a .kind) .up-to (a .end)))
+returns c = let a = c .before .before .before .args in fails (λ w. omega (arith, tests, lawful (a .kind) .up-to (a .range .end)))
 
 enum-told : tie.Need-enum-told
 enum-told c = search needs
@@ -19,7 +19,7 @@ enum-told-2 : tie.Need-enum-told-2
 enum-told-2 c = search needs
 
 next-requires : tie.Need-next-requires
-next-requires c κs = simp rank-back (omega (arith, tests, rank-below (ofZ w64 (c .before .before .before .args .start))))
+next-requires c κs = simp rank-back (omega (arith, tests, rank-below (ofZ w64 (c .before .before .before .before .before .args .other .start))))
 
 returns-2 : tie.Need-returns-2
 returns-2 c = rw (c .before .before .enum-told2 .given .1) (holds (omega (arith, tests, simp rank-back at (c .before .next .ensures))))

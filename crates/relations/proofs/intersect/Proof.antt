@@ -2,23 +2,24 @@
 use Prim.Native.Nat.{_<_}
 use mathlib.Core.Path.{_≡_}
 use mir.Facts.{toZ-ofZ}
-use borrow.Author.Needs.{needs}
+use borrow.Author.Needs.{needs, sfits-of}
 use borrow.Author.Tests.{not-true, not-false}
 use Rattle.key.specs.InnerDecides.{Decides}
 use Rattle.key.specs.Rank.{rank, lesser, greater}
 use Rattle.key.specs.Range.{kindOf}
-use Rattle.key.proofs.Laws.{lesser-fits, greater-fits}
 use Rattle.key.proofs.Answers.{not-full}
 use Rattle.relations.proofs.Returns.{intersect-none, intersect-some}
 use Rattle.relations.proofs.intersect.Statement.{statement}
 use Rattle.relations.proofs.intersect.Tie as tie
 
 -- the two calls: the greater start, the lesser end
-start-of : (c : tie.After-min) → c .before .max .result ≡ greater (c .before .before .args .start) (c .before .before .args .other-start)
-start-of c = let s = c .before .before in rw (toZ-ofZ (s .fits .start), toZ-ofZ (s .fits .other-start)) at (c .before .max .ensures)
+start-of : (c : tie.After-max) → let a = c .before .before .before .args in c .max .result ≡ greater (a .range .start) (a .other .start)
+start-of c =
+    rw (toZ-ofZ (sfits-of (c .before .before .struct-told .given .0 .1)), toZ-ofZ (sfits-of (c .before .struct-told2 .given .0 .1))) at (c .max .ensures)
 
-end-of : (c : tie.After-min) → c .min .result ≡ lesser (c .before .before .args .end) (c .before .before .args .other-end)
-end-of c = let s = c .before .before in rw (toZ-ofZ (s .fits .end), toZ-ofZ (s .fits .other-end)) at (c .min .ensures)
+end-of : (c : tie.After-min) → let a = c .before .before .before .before .before .before .args in c .min .result ≡ lesser (a .range .end) (a .other .end)
+end-of c =
+    rw (toZ-ofZ (sfits-of (c .before .before .struct-told3 .given .1 .0 .1)), toZ-ofZ (sfits-of (c .before .struct-told4 .given .1 .0 .1))) at (c .min .ensures)
 
 max-requires : tie.Need-max-requires
 max-requires c κs = search needs
@@ -30,20 +31,22 @@ full-requires : tie.Need-full-requires
 full-requires c κs = tt
 
 -- a key is left, or none is
-left : (c : tie.After-full) → let a = c .before .before .before .args in Decides (c .full .result) (rank (greater (a .start) (a .other-start)) < kindOf (a .kind) .past (lesser (a .end) (a .other-end)))
+left : (c : tie.After-full) → let a = c .before .before .before .before .before .before .before .args in
+    Decides (c .full .result) (rank (greater (a .range .start) (a .other .start)) < kindOf (a .kind) .past (lesser (a .range .end) (a .other .end)))
 left c =
-    let s = c .before .before .before in
-    rw (start-of (c .before), end-of (c .before), toZ-ofZ (greater-fits (s .fits .start) (s .fits .other-start)), toZ-ofZ (lesser-fits (s .fits .end) (s .fits .other-end))) at (c .full .ensures)
+    let e = c .before in
+    let s = e .before .before .before in
+    rw (toZ-ofZ (sfits-of (s .max .ok)), toZ-ofZ (sfits-of (e .min .ok)), start-of s, end-of e) at (c .full .ensures)
 
 returns : tie.Need-returns
-returns c = let a = c .before .before .before .before .args in intersect-none (kindOf (a .kind)) (a .start) (a .end) (a .other-start) (a .other-end) (not-full (left (c .before)) (not-true _ (c .if1 .taken)))
+returns c = intersect-none _ _ _ _ _ (not-full (left (c .before)) (not-true _ (c .if1 .taken)))
 
 returns-2 : tie.Need-returns-2
 returns-2 c =
-    let s = c .before .before .before .before in
-    let a = s .args in
-    rw (start-of (c .before .before), end-of (c .before .before), toZ-ofZ (greater-fits (s .fits .start) (s .fits .other-start)), toZ-ofZ (lesser-fits (s .fits .end) (s .fits .other-end)))
-    (intersect-some (kindOf (a .kind)) (a .start) (a .end) (a .other-start) (a .other-end) (left (c .before) .right (not-false _ (c .if1 .left))))
+    let e = c .before .before in
+    let s = e .before .before .before in
+    rw (toZ-ofZ (sfits-of (s .max .ok)), toZ-ofZ (sfits-of (e .min .ok)), start-of s, end-of e)
+    (intersect-some _ _ _ _ _ (left (c .before) .right (not-false _ (c .if1 .left))))
 
 pub intersect-spec : {M : Type 1} → statement M
 intersect-spec = tie.close (tie.spec max-requires min-requires full-requires returns returns-2)

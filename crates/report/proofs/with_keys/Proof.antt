@@ -2,7 +2,7 @@
 use mathlib.Core.Path.{ap, sym}
 use mir.Facts.{toZ-ofZ}
 use Rattle.report.specs.Report.{withKeys}
-use borrow.Author.Needs.{needs}
+use borrow.Author.Needs.{needs, sfits-of}
 use Rattle.report.proofs.with_keys.Statement.{statement}
 use Rattle.report.proofs.with_keys.Tie as tie
 
@@ -14,11 +14,12 @@ enum-known-t-2 c = search needs
 
 returns : tie.Need-returns
 returns c =
-    let s = c .before .before .before in
-    rw (toZ-ofZ (s .fits .start), toZ-ofZ (s .fits .end)) (ap (withKeys (s .args .start) (s .args .end)) (sym (c .before .t .given .1)))
+    let k = c .struct-told .given in
+    let w = c .before .before .before .before .args .window in
+    rw (toZ-ofZ (sfits-of (k .0 .1)), toZ-ofZ (sfits-of (k .1 .0 .1))) (ap (withKeys (w .start) (w .end)) (sym (c .before .before .t .given .1)))
 
 returns-2 : tie.Need-returns-2
-returns-2 c = let s = c .before .before .before in ap (withKeys (s .args .start) (s .args .end)) (sym (c .before .t2 .given .1))
+returns-2 c = let w = c .before .before .before .args .window in ap (withKeys (w .start) (w .end)) (sym (c .before .t2 .given .1))
 
 pub with-keys-spec : {M : Type 1} → statement M
 with-keys-spec = tie.close (tie.spec enum-known-t enum-known-t-2 returns returns-2)

@@ -14,10 +14,10 @@ sub-result : tie.Need-sub-result
 sub-result c = omega arith
 
 returns : tie.Need-returns
-returns c = omega (arith, simp rank-back at (c .before .before .rank-of .ensures), simp rank-back at (c .before .rank-of2 .ensures))
+returns c = omega (arith, simp rank-back at (c .before .before .before .rank-of .ensures), simp rank-back at (c .before .rank-of2 .ensures))
 
 returns-2 : tie.Need-returns-2
-returns-2 c = omega (arith, simp rank-back at (c .before .before .rank-of .ensures), simp rank-back at (c .before .rank-of2 .ensures))
+returns-2 c = omega (arith, simp rank-back at (c .before .before .before .rank-of .ensures), simp rank-back at (c .before .rank-of2 .ensures))
 
 pub seconds-between-spec : {M : Type 1} → statement M
 seconds-between-spec = tie.close (tie.spec rank-of-requires rank-of-requires-2 sub-result returns returns-2)
