@@ -126,13 +126,13 @@ last-day z h =
     day-is z 2099 12 31 g ∙ ap (λ (d : Date). Span (pos (seconds z last)) (pos (seconds z d))) last-date
 
 -- ONE DAY only
-record Bounds (z t : ℕ) (d : Date) : Type 0 where
+record Lies (z t : ℕ) (d : Date) : Type 0 where
   is-good : Good z d
   after : seconds z d ≤ t
   before : t < seconds z (nextDate d)
 
-bounds : (z t : ℕ) (d : Date) → In z t d → Bounds z t d
-bounds z t d a =
+lies : (z t : ℕ) (d : Date) → In z t d → Lies z t d
+lies z t d a =
     let h = held z (d .year) (d .month) (d .day) (a .day) in
     let p : a .from ≡ seconds z d = ap natAbs (h .start-is) ∙ h .from-is in
     let q : a .to ≡ seconds z (nextDate d) = ap natAbs (h .end-is) ∙ h .to-is in
@@ -151,8 +151,8 @@ over z d e g k n =
 
 pub one-day : (z t : ℕ) (d e : Date) → In z t d → In z t e → d ≡ e
 one-day z t d e a b =
-    let u = bounds z t d a in
-    let v = bounds z t e b in
+    let u = lies z t d a in
+    let v = lies z t e b in
     let g = u .is-good in
     let k = v .is-good in
     elim (decLt (dayNumber d) (dayNumber e)) [
