@@ -84,12 +84,12 @@ module _ {kind : Kind} (law : Lawful kind) where
   clear-left m = record { proper = clear-proper law; holds = λ k. ap (λ (xs : List Span). at xs k) (ranges-cleared kind law) }
 
 -- the ranges of a map are those of its entries
-ranges-entries : (kind : Kind) (m : Stored) → ranges kind m ≡ map (range kind) (entriesOf m)
+pub ranges-entries : (kind : Kind) (m : Stored) → ranges kind m ≡ map (range kind) (entriesOf m)
 unfolding ranges entriesOf
 ranges-entries kind m = entries-ranges kind (m .count) (m .starts) (m .ends) (m .values)
 
 -- bytes that are read leave the map that stands in them
-read-done : (m : Stored) (bs : List ℕ) → read rm01 m bs .answer ≡ 0 → read rm01 m bs ≡ leaving done (mapIn rm01 bs)
+pub read-done : (m : Stored) (bs : List ℕ) → read rm01 m bs .answer ≡ 0 → read rm01 m bs ≡ leaving done (mapIn rm01 bs)
 unfolding read
 read-done m bs z = go (isForm rm01 bs) z
   where
@@ -120,7 +120,7 @@ module _ {kind : Kind} (law : Lawful kind) where
   event-left (removeEvent s e) {m} p = done-or-not (edit kind m s e none) _ p (edit-left law p s e none) (edit-unchanged kind m s e none)
   event-left (bulkEvent xs) p = bulk-left law p xs
   event-left clearEvent {m} p = clear-left law m
-  event-left (readEvent is bs fit) {m} p =
+  event-left (readEvent is bs) {m} p =
       let cs : List Change = map entryChange (entriesOf (mapIn rm01 bs)) in
       let as-read : read rm01 m bs .answer ≡ 0 → Left kind m (read rm01 m bs .left) (anew cs) =
       λ z. subst (λ (k : Kind). Left k m (read rm01 m bs .left) (anew cs)) (sym is) (read-left bs z) in
@@ -176,7 +176,7 @@ Whole (insertEvent s e v) = Unit {0}
 Whole (removeEvent s e) = Unit {0}
 Whole (bulkEvent xs) = ⊥
 Whole clearEvent = Unit {0}
-Whole (readEvent is bs fit) = Unit {0}
+Whole (readEvent is bs) = Unit {0}
 
 -- A REFUSED EVENT leaves the map as it was
 pub refused-leaves : {kind : Kind} (x : Event kind) (m : Stored) → Whole x → (happens x m .answer ≡ 0 → ⊥) → happens x m .left ≡ m
@@ -184,7 +184,7 @@ refused-leaves {kind} (insertEvent s e v) m w n = edit-unchanged kind m s e (som
 refused-leaves {kind} (removeEvent s e) m w n = edit-unchanged kind m s e none n
 refused-leaves (bulkEvent xs) m w n = absurd w
 refused-leaves clearEvent m w n = absurd (n refl)
-refused-leaves (readEvent is bs fit) m w n = read-unchanged m bs n
+refused-leaves (readEvent is bs) m w n = read-unchanged m bs n
 
 -- so it may as well not have happened
 pub refused-skipped : {kind : Kind} (x : Event kind) (xs : List (Event kind)) (m : Stored) → Whole x → (happens x m .answer ≡ 0 → ⊥)

@@ -50,7 +50,7 @@ event-u8 {kind} (insertEvent s e v) m u = accepted-gives IsU8 (insert kind m s e
 event-u8 {kind} (removeEvent s e) m u = accepted-gives IsU8 (remove kind m s e) _ (λ z. (tt, tt))
 event-u8 {kind} (bulkEvent xs) m u = entries-u8 (bulkInsert kind m xs .told .applied) xs u
 event-u8 clearEvent m u = tt
-event-u8 (readEvent is bs fit) m u = accepted-gives IsU8 (read rm01 m bs) _ (λ z. read-u8 (mapIn rm01 bs) (map-values rm01-lawful bs fit))
+event-u8 (readEvent is bs) m u = accepted-gives IsU8 (read rm01 m bs) _ (λ z. read-u8 (mapIn rm01 bs) (map-values rm01-lawful bs u))
 
 module _ {kind : Kind} (law : Lawful kind) where
   events-u8 : (xs : List (Event kind)) {m : Stored} → Proper kind m → AllU8 xs → Holds IsU8 kind m → Holds IsU8 kind (afterEvents xs m)

@@ -54,7 +54,7 @@ pub data Event (kind : Kind) : Type 0 where
   removeEvent : ℤ → ℤ → Event kind
   bulkEvent : List Entry → Event kind
   clearEvent : Event kind
-  readEvent : kind ≡ halfOpen → (bs : List ℕ) → Bytes bs → Event kind
+  readEvent : kind ≡ halfOpen → List ℕ → Event kind
 
 -- the values of a list's entries are u8
 abbrev pub EntriesU8 : List Entry → Type 0
@@ -67,7 +67,7 @@ ValuesU8 (insertEvent s e v) = v < 256
 ValuesU8 (removeEvent s e) = Unit {0}
 ValuesU8 (bulkEvent xs) = EntriesU8 xs
 ValuesU8 clearEvent = Unit {0}
-ValuesU8 (readEvent is bs fit) = Unit {0}
+ValuesU8 (readEvent is bs) = Bytes bs
 
 -- those of all events are
 abbrev pub AllU8 : {kind : Kind} → List (Event kind) → Type 0
@@ -80,7 +80,7 @@ happens {kind} (insertEvent s e v) m = insert kind m s e v
 happens {kind} (removeEvent s e) m = remove kind m s e
 happens {kind} (bulkEvent xs) m = leaving (bulkInsert kind m xs .told .answer) (bulkInsert kind m xs .left)
 happens {kind} clearEvent m = leaving done (clear kind)
-happens {kind} (readEvent is bs fit) m = read rm01 m bs
+happens {kind} (readEvent is bs) m = read rm01 m bs
 
 -- the map after some events
 unfoldable pub afterEvents : {kind : Kind} → List (Event kind) → Stored → Stored
@@ -110,7 +110,7 @@ effect {kind} (insertEvent s e v) m = ifAccepted (insert kind m s e v) (changed 
 effect {kind} (removeEvent s e) m = ifAccepted (remove kind m s e) (changed (record { start = s; end = e; new = none } ∷ []))
 effect {kind} (bulkEvent xs) m = changed (map entryChange (take (bulkInsert kind m xs .told .applied) xs))
 effect {kind} clearEvent m = anew []
-effect {kind} (readEvent is bs fit) m = ifAccepted (read rm01 m bs) (anew (map entryChange (entriesOf (mapIn rm01 bs))))
+effect {kind} (readEvent is bs) m = ifAccepted (read rm01 m bs) (anew (map entryChange (entriesOf (mapIn rm01 bs))))
 
 -- what an effect leaves at a key where old was held: what the last change over the key gives, or else old, unless all that was held is gone
 unfoldable pub leftAt : Kind → Effect → ℤ → Option ℕ → Option ℕ

@@ -22,7 +22,7 @@ eventOf (insertCall s e v r) = insertEvent s e v
 eventOf (removeCall s e r) = removeEvent s e
 eventOf (extendCall ss es vs t) = bulkEvent (entries ss es vs)
 eventOf clearCall = clearEvent
-eventOf (readCall bs fit r) = readEvent refl bs fit
+eventOf (readCall bs r) = readEvent refl bs
 
 -- what a call answered
 abbrev pub answerOf : Call → ℕ
@@ -30,7 +30,7 @@ answerOf (insertCall s e v r) = r
 answerOf (removeCall s e r) = r
 answerOf (extendCall ss es vs t) = t .answer
 answerOf clearCall = done
-answerOf (readCall bs fit r) = r
+answerOf (readCall bs r) = r
 
 -- ONE CALL of a well-formed map answers and leaves what its event does
 pub call-happens : (c : Call) (m m′ : RangeMap) → Proper halfOpen (held m) → RangeMapCall c m m′ → leaving (answerOf c) (held m′) ≡ happens (eventOf c) (held m)
@@ -38,7 +38,7 @@ call-happens (insertCall s e v r) m m′ p q = either-door half-open p s e (some
 call-happens (removeCall s e r) m m′ p q = either-door half-open p s e none q
 call-happens (extendCall ss es vs t) m m′ p q = ap (λ (o : Extended). leaving (o .told .answer) (o .left)) q
 call-happens clearCall m m′ p q = ap (leaving done) q
-call-happens (readCall bs fit r) m m′ p q = q
+call-happens (readCall bs r) m m′ p q = q
 
 -- CALLS leave what their events leave
 calls-happen : (cs : List Call) (m n : RangeMap) → Proper halfOpen (held m) → Calls RangeMapCall cs m n → held n ≡ afterEvents (map eventOf cs) (held m)

@@ -164,7 +164,7 @@ range-map-step (insertCall s e v r) m m′ p q = of-map (insert-step half-open p
 range-map-step (removeCall s e r) m m′ p q = of-map (remove-step half-open p s e (either-door half-open p s e none q))
 range-map-step (extendCall ss es vs t) m m′ p q = of-map (extend-step half-open p (entries ss es vs) q)
 range-map-step clearCall m m′ p q = of-map (clear-step half-open p q)
-range-map-step (readCall bs fit r) m m′ p q = of-map (read-step p bs fit q)
+range-map-step (readCall bs r) m m′ p q = of-map (read-step p bs q)
 
 -- the law of it
 pub range-map-histories : Histories halfOpen Map.held RangeMapAfter callEffect (Proper halfOpen)
@@ -200,7 +200,7 @@ range-map-refused (insertCall s e v r) m m′ q n = OneMap.held-one (either-refu
 range-map-refused (removeCall s e r) m m′ q n = OneMap.held-one (either-refused halfOpen (Map.held m) s e none q n)
 range-map-refused (extendCall ss es vs t) m m′ q n = absurd n
 range-map-refused clearCall m m′ q n = absurd n
-range-map-refused (readCall bs fit r) m m′ q n = OneMap.held-one (refused-same (read-unchanged (Map.held m) bs) q n)
+range-map-refused (readCall bs r) m m′ q n = OneMap.held-one (refused-same (read-unchanged (Map.held m) bs) q n)
 
 -- THE INCLUSIVE MAP, call by call
 range-inclusive-map-step : (c : Call) (m m′ : RangeInclusiveMap) → Proper inclusive (InclusiveMap.held m) → RangeInclusiveMapCall c m m′
@@ -209,7 +209,7 @@ range-inclusive-map-step (insertCall s e v r) m m′ p q = of-map (insert-step i
 range-inclusive-map-step (removeCall s e r) m m′ p q = of-map (remove-step inclusive-too p s e (either-door inclusive-too p s e none q))
 range-inclusive-map-step (extendCall ss es vs t) m m′ p q = of-map (extend-step inclusive-too p (entries ss es vs) q)
 range-inclusive-map-step clearCall m m′ p q = of-map (clear-step inclusive-too p q)
-range-inclusive-map-step (readCall bs fit r) m m′ p q = absurd q
+range-inclusive-map-step (readCall bs r) m m′ p q = absurd q
 
 -- the law of it
 pub range-inclusive-map-histories : Histories inclusive InclusiveMap.held RangeInclusiveMapAfter callEffect (Proper inclusive)
@@ -243,7 +243,7 @@ range-inclusive-map-refused (insertCall s e v r) m m′ q n = OneInclusiveMap.he
 range-inclusive-map-refused (removeCall s e r) m m′ q n = OneInclusiveMap.held-one (either-refused inclusive (InclusiveMap.held m) s e none q n)
 range-inclusive-map-refused (extendCall ss es vs t) m m′ q n = absurd n
 range-inclusive-map-refused clearCall m m′ q n = absurd n
-range-inclusive-map-refused (readCall bs fit r) m m′ q n = absurd q
+range-inclusive-map-refused (readCall bs r) m m′ q n = absurd q
 
 -- THE SET OF HALF-OPEN RANGES, call by call
 range-set-step : (c : SetCall) (m m′ : RangeSet) → GoodSet halfOpen (Set.held m) → RangeSetCall c m m′

@@ -21,8 +21,7 @@ use Rattle.outcomes.specs.Outcomes.{entryChange, spanEdits}
 use Rattle.outcomes.specs.declared.Applied.{Applied}
 use Rattle.outcomes.specs.Sets.{plain, ifSet, pairs}
 use Rattle.outcomes.proofs.Edits.{edit-accepted, none-refused}
-use Rattle.outcomes.proofs.Bulk.{range, entries-ranges}
-use Rattle.byte_form.specs.Bytes.{Bytes}
+use Rattle.outcomes.proofs.Bulk.{range}
 use Rattle.byte_form.specs.Layout.{rm01}
 use Rattle.byte_form.specs.Form.{entriesOf, mapIn, read}
 use Rattle.one_map.specs.Events.{Proper, valueAt, Event, insertEvent, removeEvent, bulkEvent, clearEvent, readEvent, happens}
@@ -30,7 +29,7 @@ use Rattle.one_map.specs.Events.{Effect, changed, anew, ifAccepted, effect, lef
 use Rattle.one_map.specs.SetEvents.{SetEvent, setInsertEvent, setRemoveEvent, setBulkEvent, setClearEvent, setHappens}
 use Rattle.one_map.proofs.Known.{proper-tidy}
 use Rattle.one_map.proofs.OneMap.{unchecked-same, edit-proper, read-proper}
-use Rattle.one_map.proofs.Histories.{event-proper, event-holds, bulk-leaves, read-done}
+use Rattle.one_map.proofs.Histories.{event-proper, event-holds, bulk-leaves, ranges-entries, read-done}
 use Rattle.one_map.proofs.Refusals.{edit-unchanged}
 use Rattle.one_map.proofs.SetRefusals.{set-insert-unchanged, set-remove-unchanged}
 use Rattle.one_map.proofs.SetHistories.{set-as-map, set-stays}
@@ -53,12 +52,11 @@ unfolding spanEdits
 entries-real kind b [] o = tt
 entries-real kind b (x ∷ xs) o = (o .1, entries-real kind (kind .past (x .end)) xs (o .2))
 
-read-real : (m : Stored) (bs : List ℕ) → Bytes bs → read rm01 m bs .answer ≡ 0 → Real (spanEdits halfOpen (map entryChange (entriesOf (mapIn rm01 bs))))
-unfolding ranges entriesOf
-read-real m bs fit z =
+read-real : (m : Stored) (bs : List ℕ) → read rm01 m bs .answer ≡ 0 → Real (spanEdits halfOpen (map entryChange (entriesOf (mapIn rm01 bs))))
+read-real m bs z =
     let n : Stored = mapIn rm01 bs in
-    let tidy = proper-tidy (read-proper m bs fit (read-done m bs z) .0) in
-    entries-real halfOpen 0 (entriesOf n) (subst (Ordered 0) (entries-ranges halfOpen (n .count) (n .starts) (n .ends) (n .values)) (tidy .ordered))
+    let tidy = proper-tidy (read-proper m bs (read-done m bs z) .0) in
+    entries-real halfOpen 0 (entriesOf n) (subst (Ordered 0) (ranges-entries halfOpen n) (tidy .ordered))
 
 module _ {kind : Kind} (law : Lawful kind) where
   edit-real : {m : Stored} → Proper kind m → (s e : ℤ) (new : Option ℕ) → edit kind m s e new .answer ≡ 0 → rank s < kind .past e
@@ -78,9 +76,9 @@ module _ {kind : Kind} (law : Lawful kind) where
   event-real (removeEvent s e) {m} p = accepted-real kind (edit kind m s e none) (gave s e none) (λ z. (edit-real p s e none z, tt))
   event-real (bulkEvent xs) p = edits-real _ p (ap (λ (o : Edited). o .answer) (bulk-leaves law p xs))
   event-real clearEvent p = tt
-  event-real (readEvent is bs fit) {m} p =
+  event-real (readEvent is bs) {m} p =
       let cs : List Change = map entryChange (entriesOf (mapIn rm01 bs)) in
-      accepted-real kind (read rm01 m bs) (anew cs) (λ z. subst (λ (k : Kind). Real (spanEdits k cs)) (sym is) (read-real m bs fit z))
+      accepted-real kind (read rm01 m bs) (anew cs) (λ z. subst (λ (k : Kind). Real (spanEdits k cs)) (sym is) (read-real m bs z))
 
 module _ {kind : Kind} (law : Lawful kind) {m m′ : Stored} (p : Proper kind m) where
   -- a promise that says what an event leaves
@@ -114,11 +112,11 @@ module _ {kind : Kind} (law : Lawful kind) {m m′ : Stored} (p : Proper kind m)
   clear-step q = event-step clearEvent q
 
 -- read of bytes, which half-open maps alone have
-pub read-step : {m m′ : Stored} → Proper halfOpen m → (bs : List ℕ) → Bytes bs → {r : ℕ} → leaving r m′ ≡ read rm01 m bs
+pub read-step : {m m′ : Stored} → Proper halfOpen m → (bs : List ℕ) {r : ℕ} → leaving r m′ ≡ read rm01 m bs
     → Step halfOpen (ifDone r (anew (map entryChange (entriesOf (mapIn rm01 bs))))) m m′
-read-step {m} {m′} p bs fit q =
+read-step {m} {m′} p bs q =
     subst (λ (o : Edited). Step halfOpen (ifAccepted o (anew (map entryChange (entriesOf (mapIn rm01 bs))))) m m′) (sym q)
-    (event-step half-open p (readEvent refl bs fit) (ap (λ (o : Edited). o .left) q))
+    (event-step half-open p (readEvent refl bs) (ap (λ (o : Edited). o .left) q))
 
 -- A SET as a call leaves it: it is a set again
 pub record SetStep (kind : Kind) (did : Effect) (m m′ : Stored) : Type 0 where

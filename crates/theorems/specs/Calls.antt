@@ -13,7 +13,6 @@ use Rattle.outcomes.specs.Outcomes.{Change, entryChange, entries}
 use Rattle.outcomes.specs.declared.Applied.{Applied}
 use Rattle.outcomes.specs.declared.Range.{Range}
 use Rattle.outcomes.specs.Sets.{pairs}
-use Rattle.byte_form.specs.Bytes.{Bytes}
 use Rattle.byte_form.specs.Layout.{rm01}
 use Rattle.byte_form.specs.Form.{entriesOf, mapIn}
 use Rattle.one_map.specs.Events.{Effect, changed, anew, leftAt}
@@ -24,7 +23,7 @@ pub data Call : Type 0 where
   removeCall : ℤ → ℤ → ℕ → Call
   extendCall : List ℤ → List ℤ → List ℕ → Applied → Call
   clearCall : Call
-  readCall : (bs : List ℕ) → Bytes bs → ℕ → Call
+  readCall : List ℕ → ℕ → Call
 
 -- a call that can change a set
 pub data SetCall : Type 0 where
@@ -48,7 +47,7 @@ callEffect (insertCall s e v r) = ifDone r (gave s e (some v))
 callEffect (removeCall s e r) = ifDone r (gave s e none)
 callEffect (extendCall ss es vs t) = changed (map entryChange (take (t .applied) (entries ss es vs)))
 callEffect clearCall = anew []
-callEffect (readCall bs fit r) = ifDone r (anew (map entryChange (entriesOf (mapIn rm01 bs))))
+callEffect (readCall bs r) = ifDone r (anew (map entryChange (entriesOf (mapIn rm01 bs))))
 
 -- the same of a set, whose values are 0
 abbrev pub setCallEffect : SetCall → Effect
@@ -63,7 +62,7 @@ RefusedCall (insertCall s e v r) = r ≡ done → ⊥
 RefusedCall (removeCall s e r) = r ≡ done → ⊥
 RefusedCall (extendCall ss es vs t) = ⊥
 RefusedCall clearCall = ⊥
-RefusedCall (readCall bs fit r) = r ≡ done → ⊥
+RefusedCall (readCall bs r) = r ≡ done → ⊥
 
 -- the same of a set
 abbrev pub RefusedSetCall : SetCall → Type 0

@@ -22,7 +22,7 @@ RangeMapCall (insertCall s e v r) m m′ = RangeMapInsert m m′ s e v r ⊎ Ran
 RangeMapCall (removeCall s e r) m m′ = RangeMapRemove m m′ s e r ⊎ RangeMapRemoveUnchecked m m′ s e r
 RangeMapCall (extendCall ss es vs t) m m′ = RangeMapExtend m m′ ss es vs t
 RangeMapCall clearCall m m′ = RangeMapClear m m′
-RangeMapCall (readCall bs fit r) m m′ = RangeMapRead m m′ bs r
+RangeMapCall (readCall bs r) m m′ = RangeMapRead m m′ bs r
 
 -- what calls leave of a new half-open map
 abbrev pub RangeMapAfter : List Call → RangeMap → Type 0
@@ -34,7 +34,7 @@ RangeInclusiveMapCall (insertCall s e v r) m m′ = RangeInclusiveMapInsert m m�
 RangeInclusiveMapCall (removeCall s e r) m m′ = RangeInclusiveMapRemove m m′ s e r ⊎ RangeInclusiveMapRemoveUnchecked m m′ s e r
 RangeInclusiveMapCall (extendCall ss es vs t) m m′ = RangeInclusiveMapExtend m m′ ss es vs t
 RangeInclusiveMapCall clearCall m m′ = RangeInclusiveMapClear m m′
-RangeInclusiveMapCall (readCall bs fit r) m m′ = ⊥
+RangeInclusiveMapCall (readCall bs r) m m′ = ⊥
 
 -- what calls leave of a new inclusive map
 abbrev pub RangeInclusiveMapAfter : List Call → RangeInclusiveMap → Type 0
