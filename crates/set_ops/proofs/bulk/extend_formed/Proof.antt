@@ -20,10 +20,29 @@ use Rattle.set_ops.proofs.bulk.extend_formed.Statement.{statement}
 use Rattle.set_ops.proofs.bulk.extend_formed.Tie as tie
 
 abbrev Inv-loop : tie.InvT-loop
-Inv-loop kind count₀ starts₀ ends₀ values₀ new-starts new-ends n i₀ count starts ends values i = (i ≤ n) × Sound (kindOf kind) (stored count starts ends values) × (bulkInsertSound (kindOf kind) (stored count₀ starts₀ ends₀ values₀) 0 (pairs new-starts new-ends) ≡ bulkInsertSound (kindOf kind) (stored count starts ends values) i (drop i (pairs new-starts new-ends)))
+Inv-loop kind count₀ starts₀ ends₀ values₀ new-starts new-ends n i₀ count starts ends values i =
+    (i ≤ n) × Sound (kindOf kind) (stored count starts ends values)
+    × (bulkInsertSound (kindOf kind) (stored count₀ starts₀ ends₀ values₀) 0 (pairs new-starts new-ends)
+    ≡ bulkInsertSound (kindOf kind) (stored count starts ends values) i (drop i (pairs new-starts new-ends)))
 
 abbrev μ-loop : tie.MeasureT-loop
 μ-loop kind count₀ starts₀ ends₀ values₀ new-starts new-ends n i₀ count starts ends values i = n - i
+
+-- the ladder: the turn of the loop as its reads see it, the reads as the call sees them, the entry as the loop sees it, and the call as either end sees it
+abbrev turn : tie.After-insert-arg4 Inv-loop μ-loop → tie.At-loop Inv-loop μ-loop
+turn c = c .before .before .before .before .before
+
+abbrev read : tie.After-insert-arg6 Inv-loop μ-loop → tie.After-insert-arg4 Inv-loop μ-loop
+read c = c .before .before
+
+abbrev entry : tie.At-loop Inv-loop μ-loop → tie.Start Inv-loop μ-loop
+entry c = c .before .before
+
+abbrev refused : tie.After-known-told Inv-loop μ-loop → tie.After-insert-arg6 Inv-loop μ-loop
+refused c = c .before .before .before .before
+
+abbrev inserted : tie.After-enum-told Inv-loop μ-loop → tie.After-insert-arg6 Inv-loop μ-loop
+inserted c = c .before .before .before
 
 shorter-requires : tie.Need-shorter-requires Inv-loop μ-loop
 shorter-requires c κs = tt
@@ -32,19 +51,19 @@ loop-holds : tie.Need-loop-holds Inv-loop μ-loop
 loop-holds c = (omega arith, c .before .pre, refl)
 
 mul-insert : tie.Need-mul-insert Inv-loop μ-loop
-mul-insert c = omega (arith, c .before .before .before .before .before .before .shorter .ensures)
+mul-insert c = omega (arith, turn c .before .shorter .ensures)
 
 shared-slice-copy-out-insert : tie.Need-shared-slice-copy-out-insert Inv-loop μ-loop
-shared-slice-copy-out-insert c = omega (arith, c .before .before .before .before .before .before .shorter .ensures)
+shared-slice-copy-out-insert c = omega (arith, turn c .before .shorter .ensures)
 
 mul-insert-2 : tie.Need-mul-insert-2 Inv-loop μ-loop
-mul-insert-2 c = omega (arith, c .before .before .before .before .before .before .before .shorter .ensures)
+mul-insert-2 c = omega (arith, turn (c .before) .before .shorter .ensures)
 
 shared-slice-copy-out-insert-2 : tie.Need-shared-slice-copy-out-insert-2 Inv-loop μ-loop
-shared-slice-copy-out-insert-2 c = omega (arith, c .before .before .before .before .before .before .before .shorter .ensures)
+shared-slice-copy-out-insert-2 c = omega (arith, turn (c .before) .before .shorter .ensures)
 
 insert-requires : tie.Need-insert-requires Inv-loop μ-loop
-insert-requires c κs = c .before .before .before .before .before .before .before .loop .inv .1
+insert-requires c κs = turn (read c) .loop .inv .1
 
 enum-known-went : tie.Need-enum-known-went Inv-loop μ-loop
 enum-known-went c = search needs
@@ -54,19 +73,22 @@ enum-told c = search needs
 
 returns : tie.Need-returns Inv-loop μ-loop
 returns c =
-    let t = c .before .before .before .before in
-    let a = t .before .before .before .before .before .before .before .before .before .args in
-    let l = t .before .before .before .before .before .before .before .loop in
+    let t = refused c in
+    let r = turn (read t) in
+    let a = entry r .args in
+    let l = r .loop in
     let ss = a .new-starts .now in
     let es = a .new-ends .now in
     let n = length-pairs ss es in
     let xs = pairs ss es in
     let m = stored (l .count) (l .starts) (l .ends) (l .values) in
-    let h : l .i < length xs = omega (arith, t .before .before .before .before .before .before .before .before .shorter .ensures) in
+    let h : l .i < length xs = omega (arith, r .before .shorter .ensures) in
     let x = pair-at ss es (l .i) in
     let rest = drop (suc (l .i)) xs in
     let cut : drop (l .i) xs ≡ x ∷ rest = drop-cons xs (l .i) _ h ∙ ap (λ (e : Entry). e ∷ rest) (getD-pairs ss es (l .i) h) in
-    let went = rw (c .before .went .given .1) at (rw (toZ-ofZ (sfits-of (t .before .insert-arg5 .given)), toZ-ofZ (sfits-of (t .insert-arg6 .given))) at (c .before .before .before .insert .ensures)) in
+    let told = rw (toZ-ofZ (sfits-of (t .before .insert-arg5 .given)), toZ-ofZ (sfits-of (t .insert-arg6 .given)))
+    at (c .before .before .before .insert .ensures) in
+    let went = rw (c .before .went .given .1) at told in
     entry-refused (kindOf (a .kind)) m (l .i) x rest (numbered went) (not-done went) ∙ sym (l .inv .2 ∙ ap (bulkInsertSound (kindOf (a .kind)) m (l .i)) cut)
 
 add-i : tie.Need-add-i Inv-loop μ-loop
@@ -77,19 +99,22 @@ loop-less c = omega arith
 
 loop-again : tie.Need-loop-again Inv-loop μ-loop
 loop-again c =
-    let t = c .before .before .before in
-    let a = t .before .before .before .before .before .before .before .before .before .args in
-    let l = t .before .before .before .before .before .before .before .loop in
+    let t = inserted c in
+    let r = turn (read t) in
+    let a = entry r .args in
+    let l = r .loop in
     let ss = a .new-starts .now in
     let es = a .new-ends .now in
     let n = length-pairs ss es in
     let xs = pairs ss es in
     let m = stored (l .count) (l .starts) (l .ends) (l .values) in
-    let h : l .i < length xs = omega (arith, t .before .before .before .before .before .before .before .before .shorter .ensures) in
+    let h : l .i < length xs = omega (arith, r .before .shorter .ensures) in
     let x = pair-at ss es (l .i) in
     let rest = drop (suc (l .i)) xs in
     let cut : drop (l .i) xs ≡ x ∷ rest = drop-cons xs (l .i) _ h ∙ ap (λ (e : Entry). e ∷ rest) (getD-pairs ss es (l .i) h) in
-    let went = rw (c .enum-told .given .1) at (rw (toZ-ofZ (sfits-of (t .before .insert-arg5 .given)), toZ-ofZ (sfits-of (t .insert-arg6 .given))) at (c .before .before .insert .ensures)) in
+    let told = rw (toZ-ofZ (sfits-of (t .before .insert-arg5 .given)), toZ-ofZ (sfits-of (t .insert-arg6 .given)))
+    at (c .before .before .insert .ensures) in
+    let went = rw (c .enum-told .given .1) at told in
     let is = numbered went in (
       omega arith,
       entry-sound (kindOf (a .kind)) m (l .i) x rest is (lawful (a .kind)) (l .inv .1) refl .0,
@@ -99,8 +124,7 @@ loop-again c =
 returns-2 : tie.Need-returns-2 Inv-loop μ-loop
 unfolding bulkInsertSound
 returns-2 c =
-    let s = c .before .before .before in
-    let a = s .args in
+    let a = entry (c .before) .args in
     let l = c .before .loop in
     let ss = a .new-starts .now in
     let es = a .new-ends .now in
