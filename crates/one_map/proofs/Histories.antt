@@ -11,9 +11,8 @@ use lib.ListN.{take}
 use lib.IntN.{ℤ}
 use mir.Syntax.{w64}
 use mir.Val.{SFits}
-use Rattle.answers.specs.Answers.{done, noneThere, noMap}
+use Rattle.answers.specs.Answers.{done, noMap}
 use Rattle.span.specs.Span.{Span, at, Ordered, Edit, last}
-use Rattle.span.specs.Operations.{puts}
 use Rattle.span.proofs.Tests.{cases}
 use Rattle.span.proofs.Holding.{or-none}
 use Rattle.span.proofs.Sets.{last-puts}

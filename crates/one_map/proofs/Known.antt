@@ -12,7 +12,6 @@ use lib.ListN.{length, getD, take}
 use lib.IntN.{ℤ, pos}
 use mir.Syntax.{w64}
 use mir.Val.{SFits}
-use Rattle.answers.specs.Answers.{noneThere}
 use Rattle.span.specs.Span.{Span, span, inside, at, Tidy}
 use Rattle.span.specs.Operations.{holds}
 use Rattle.span.proofs.Holding.{at-upto}

@@ -4,7 +4,7 @@ use Prim.Native.Nat.{ℕ, _≤_, _<_, Ordering, Ordering·lt, Ordering·eq, Orde
 use native.Mathlib.Omega.{arith}
 use mathlib.Core.Path.{_≡_, refl, sym, ap, subst, _∙_}
 use mathlib.Core.Bool.{Bool, true, false, cond}
-use mathlib.Core.List.{List, [], _∷_}
+use mathlib.Core.List.{List, []}
 use mathlib.Core.Option.{Option, none}
 use borrow.Author.Tests.{le-ltb, lt-leb}
 use lib.Dec.{ltb}
@@ -12,7 +12,7 @@ use lib.ListN.{length}
 use lib.IntN.{ℤ}
 use mir.Syntax.{w64}
 use mir.Val.{SFits}
-use Rattle.answers.specs.Answers.{done, tooMany, noneThere}
+use Rattle.answers.specs.Answers.{done, tooMany}
 use Rattle.span.specs.Span.{Span, inside, at, given}
 use Rattle.span.specs.Operations.{spanOrder}
 use Rattle.span.proofs.Tests.{in-no}

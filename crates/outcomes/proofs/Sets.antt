@@ -2,7 +2,7 @@
 -- sound sets: the points of a union and of an intersection, their totals, and that neither depends on the order.
 use Prim.Native.Nat.{ℕ, zero, suc, _+_, _-_, _≤_}
 use native.Mathlib.Omega.{arith}
-use mathlib.Core.Path.{_≡_, refl, sym, ap, _∙_}
+use mathlib.Core.Path.{_≡_, refl, sym, _∙_}
 use mathlib.Core.Bool.{Bool, true, false, _&&_, _||_, cond}
 use mathlib.Core.List.{List, [], _∷_, _++_, map}
 use mathlib.Core.Option.{Option, some, none}
@@ -18,20 +18,13 @@ use Rattle.span.proofs.Union.{holds-united, links-united, at-plain}
 use Rattle.span.proofs.Walks.{Spaced, tidy-spaced, common-swap, united-swap, length-common, length-united}
 use Rattle.span.proofs.Total.{total-both}
 use Rattle.key.specs.Range.{Kind}
-use Rattle.key.proofs.Answers.{one-answer}
 use Rattle.outcomes.specs.Stored.{Stored, spans, ranges, filled, storing, noughts}
-use Rattle.outcomes.specs.Outcomes.{Written}
-use Rattle.outcomes.specs.Sets.{plain, ifSet, ifSets, SoundSet, intersectionSound}
-use Rattle.outcomes.specs.declared.Counted.{Counted}
+use Rattle.outcomes.specs.Sets.{plain, ifSet, SoundSet, intersectionSound}
 use Rattle.outcomes.proofs.Formed.{Formed, formed, length-ranges}
 
 -- OF A SET a function answers as of a map
 pub if-set : {A : Type 0} (m : Stored) (refused : ℕ → A) {answer : A} → plain m ≡ true → ifSet m answer refused ≡ answer
 if-set m refused z = rw z
-
--- and so of two sets
-pub if-sets : {A : Type 0} (a b : Stored) (refused : ℕ → A) {answer : A} → plain a ≡ true → plain b ≡ true → ifSets a b answer refused ≡ answer
-if-sets a b refused y z = rw (y, z)
 
 -- the ranges of a set have value 0
 plain-spans : (kind : Kind) (ss es : List ℤ) (vs : List ℕ) → noughts vs ≡ true → Plain (spans kind ss es vs)
@@ -141,10 +134,3 @@ module _ (kind : Kind) {a b : Stored} (s : SoundSet kind a) (t : SoundSet kind b
   pub totals-add : spanTotal (united (ranges kind a) (ranges kind b)) + spanTotal (common (ranges kind a) (ranges kind b))
       ≡ spanTotal (ranges kind a) + spanTotal (ranges kind b)
   totals-add = total-both (ranges kind a) (ranges kind b) (set-ordered kind s) (set-ordered kind t) (set-plain kind s) (set-plain kind t)
-
--- ONE OUTCOME of a list that is written: the answer, and both lent lists. A total has `one-answer`
-pub written-one : {r t : Counted} {ss es ss′ es′ : List ℤ} {w : Written}
-    → record { answer = r; starts = ss; ends = es } ≡ w → record { answer = t; starts = ss′; ends = es′ } ≡ w → (r ≡ t) × (ss ≡ ss′) × (es ≡ es′)
-written-one a b =
-    let same = one-answer a b in
-    (ap (λ (w : Written). w .answer) same, ap (λ (w : Written). w .starts) same, ap (λ (w : Written). w .ends) same)

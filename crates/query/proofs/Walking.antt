@@ -68,10 +68,6 @@ module _ (xs : List Span) (i p : ℕ) (o : Ordered 0 xs) (s : Standing xs i p) w
     trails = s .trails;
   }
 
--- place 0 trails everything
-pub trails-first : (xs : List Span) (p : ℕ) → Trails xs 0 p
-trails-first xs p = record { placed = omega arith; gone = λ k lo. refl }
-
 module _ (xs : List Span) (i p : ℕ) (s : Trails xs i p) where
   -- what trails p trails what is later
   pub trails-later : (e : ℕ) → p ≤ e → Trails xs i e

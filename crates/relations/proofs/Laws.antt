@@ -14,11 +14,9 @@ use Rattle.key.specs.Rank.{rank, lesser, greater}
 use Rattle.key.specs.Range.{Kind, spanOf, empty}
 use Rattle.key.proofs.Laws.{rank-greater}
 use Rattle.key.proofs.Lawful.{Lawful}
-use Rattle.key.proofs.Answers.{one-answer}
 use Rattle.relations.specs.Relations.{spansTouch, related, rangeContains, rangesOverlap, rangesTouch, rangesIntersect}
 use Rattle.relations.specs.declared.Relation.{Relation}
 use Rattle.relations.specs.declared.Relation.the-variants.{Yes, No, Empty}
-use Rattle.relations.specs.declared.Common.{Common}
 use Rattle.relations.specs.declared.Common.the-variants.{Between, Nothing}
 use Rattle.relations.proofs.Returns.{contains-yes, overlaps-yes, touches-yes, intersect-some}
 
@@ -109,16 +107,3 @@ module _ (kind : Kind) (lawful : Lawful kind) (s e s′ e′ : ℤ) where
 
   pub none-shares : rangesIntersect kind s e s′ e′ ≡ Nothing → (k : ℕ) → Within (spanOf kind s e 0 .lo) (spanOf kind s e 0 .hi) k → Within (spanOf kind s′ e′ 0 .lo) (spanOf kind s′ e′ 0 .hi) k → ⊥
   none-shares n k v w = let z : _≡_ {A = ℕ} 0 1 = cc (n, shares-some k v w) in omega arith
-
--- ONE ANSWER: two answers that meet a promise are equal
-pub contains-one : {r t : Relation} (kind : Kind) (s e k : ℤ) → r ≡ rangeContains kind s e k → t ≡ rangeContains kind s e k → r ≡ t
-contains-one kind s e k = one-answer
-
-pub overlaps-one : {r t : Relation} (kind : Kind) (s e s′ e′ : ℤ) → r ≡ rangesOverlap kind s e s′ e′ → t ≡ rangesOverlap kind s e s′ e′ → r ≡ t
-overlaps-one kind s e s′ e′ = one-answer
-
-pub touches-one : {r t : Relation} (kind : Kind) (s e s′ e′ : ℤ) → r ≡ rangesTouch kind s e s′ e′ → t ≡ rangesTouch kind s e s′ e′ → r ≡ t
-touches-one kind s e s′ e′ = one-answer
-
-pub intersect-one : {r t : Common} (kind : Kind) (s e s′ e′ : ℤ) → r ≡ rangesIntersect kind s e s′ e′ → t ≡ rangesIntersect kind s e s′ e′ → r ≡ t
-intersect-one kind s e s′ e′ = one-answer

@@ -14,7 +14,6 @@ use Rattle.span.specs.Labels.{through, passed}
 use Rattle.span.specs.Operations.{count, unless}
 use Rattle.key.specs.Rank.{rank}
 use Rattle.key.specs.Range.{halfOpen}
-use Rattle.key.proofs.Answers.{one-answer}
 use Rattle.outcomes.specs.Stored.{places, Stored, ranges}
 use Rattle.outcomes.specs.Outcomes.{formed}
 use Rattle.outcomes.proofs.Formed as Formed
@@ -29,10 +28,9 @@ use Rattle.duty.proofs.Sums.{duties-sum, unrecorded-free, free-unrecorded}
 use Rattle.log_day.specs.Days.{dayOf}
 use Rattle.log_day.specs.declared.Day.{Day}
 use Rattle.log_day.specs.declared.Day.the-variants as Day
-use Rattle.report.specs.Report.{withKeys, dayReportSound, dayReport, reportedInC}
+use Rattle.report.specs.Report.{withKeys, dayReportSound, dayReport}
 use Rattle.report.specs.declared.Reported.{Reported}
 use Rattle.report.specs.declared.Reported.the-variants as Reported
-use Rattle.report.specs.declared.DayReport.{DayReport}
 use Rattle.report.proofs.Returns.{Window, day-window}
 
 -- a report that is no refusal: the map is well formed, the day is the date's, no strange status is in it, and its seconds are counted
@@ -81,10 +79,6 @@ pub strange-day : (m : Stored) (z y mo d : ℕ) (s e : ℤ) → formed halfOpen 
     → dayReport m z y mo d ≡ Reported.Refused badStatus
 unfolding dayReport tallySound
 strange-day m z y mo d s e h q c = rw (h, q, c)
-
--- THE ONE REPORT
-pub report-one : {r t : DayReport} (m : Stored) (z y mo d : ℕ) → r ≡ reportedInC (dayReport m z y mo d) → t ≡ reportedInC (dayReport m z y mo d) → r ≡ t
-report-one m z y mo d = one-answer
 
 -- WHAT IS IN IT
 module _ (m : Stored) (z y mo d : ℕ) (s e : ℤ) (t : Totals) (q : dayReport m z y mo d ≡ Reported.Totals s e t) where

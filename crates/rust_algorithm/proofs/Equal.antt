@@ -13,8 +13,8 @@ use mir.Syntax.{w64}
 use mir.Val.{SFits}
 use borrow.Author.Tests.{lt-ltb, le-ltb, le-leb, lt-leb, eqb-true, eqb-false, eq-eqb}
 use Rattle.answers.specs.Answers.{done}
-use Rattle.span.specs.Span.{Span, span, inside, at, Ordered, Upto, given, Real, history, Edit, put}
-use Rattle.span.specs.Operations.{Plain, puts, spansOverlap, holds, spanOrder, uncovered, common, united}
+use Rattle.span.specs.Span.{Span, span, inside, at, Ordered, Upto, given, Real, history, Edit}
+use Rattle.span.specs.Operations.{Plain, holds, uncovered, common, united}
 use Rattle.span.proofs.Tests.{cases}
 use Rattle.span.proofs.Laws.{nothing, tidy-given, at-given}
 use Rattle.span.proofs.Sets.{plain-at, at-zero}

@@ -6,14 +6,13 @@ use native.Mathlib.Omega.{arith}
 use mathlib.Core.Path.{_≡_, refl, sym, ap, _∙_}
 use mathlib.Core.List.{List, [], _∷_}
 use mathlib.Core.Option.{Option, some, none}
-use lib.IntN.{ℤ}
 use Rattle.span.specs.Span.{Edit, history, last}
 use Rattle.span.proofs.Tests.{in-no}
 use Rattle.span.proofs.Laws.{only, nothing, history-means}
 use Rattle.key.specs.Rank.{keys}
 use Rattle.key.specs.Range.{Kind, halfOpen, inclusive}
 use Rattle.outcomes.specs.Stored.{Stored, ranges}
-use Rattle.outcomes.specs.Outcomes.{Change, spanEdits}
+use Rattle.outcomes.specs.Outcomes.{spanEdits}
 use Rattle.rust_algorithm.specs.InclusiveMap.{StepFns}
 use Rattle.rust_algorithm.specs.Answers.{Functions, halfOpenRust, inclusiveRust}
 use Rattle.rust_algorithm.proofs.InclusiveHistory.{By}

@@ -39,14 +39,11 @@ use Rattle.one_map.proofs.Memory.{history-memory, history-read-back}
 use Rattle.map.specs.declared.RangeMap.{RangeMap}
 use Rattle.map.specs.Map as Map
 use Rattle.map.specs.Promises.{RangeMapInsert, RangeMapRemove, RangeMapInsertUnchecked, RangeMapRemoveUnchecked}
-use Rattle.inclusive_map.specs.declared.RangeInclusiveMap.{RangeInclusiveMap}
 use Rattle.inclusive_map.specs.Map as InclusiveMap
 use Rattle.inclusive_map.specs.Promises.{RangeInclusiveMapInsert, RangeInclusiveMapRemove}
 use Rattle.inclusive_map.specs.Promises.{RangeInclusiveMapInsertUnchecked, RangeInclusiveMapRemoveUnchecked}
-use Rattle.set.specs.declared.RangeSet.{RangeSet}
 use Rattle.set.specs.Set as Set
 use Rattle.set.specs.Promises.{RangeSetInsert, RangeSetRemove}
-use Rattle.inclusive_set.specs.declared.RangeInclusiveSet.{RangeInclusiveSet}
 use Rattle.inclusive_set.specs.Set as InclusiveSet
 use Rattle.inclusive_set.specs.Promises.{RangeInclusiveSetInsert, RangeInclusiveSetRemove}
 use Rattle.map_bytes.specs.Promises.{RangeMapRead}
