@@ -1,4 +1,6 @@
 // The table of answers of document 01. Each number stands here once in code, and once in specs/Answers.
+#![tactic(auto)]
+
 ghost use Rattle.std.specs.Prelude.{◌≡◌};
 ghost use Rattle.answers.specs.Answers.{numbers};
 

@@ -3,7 +3,6 @@ ghost use Rattle.std.specs.Prelude.{◌≡◌, ◌+◌, ◌%◌, ◌≤◌, ◌<
 ghost use Rattle.std.proofs.lemmas.List.Edits.{sets};
 ghost use Rattle.std.specs.Int.{w64};
 ghost use Rattle.std.proofs.Common.{to_z, of_z};
-ghost use Rattle.lent.specs.Moments.{was, becomes};
 ghost use Rattle.byte_form.specs.Bytes.{u32_size, i64_size, bytes_of, number_in, key_bytes, key_of};
 
 // How many bytes a u32 is.
@@ -42,7 +41,7 @@ fn low(n: u64) -> u8
 // Writes a number into the first 4 bytes.
 pub fn put_u32(out: &mut [u8], n: u64)
     requires { u32_size ≤ length out.old }
-    ensures { becomes out ≡ sets (was out) 0 (bytes_of u32_size n) }
+    ensures { out.new ≡ sets out.old 0 (bytes_of u32_size n) }
 {
     let b = n / 256;
     let c = b / 256;
@@ -56,7 +55,7 @@ pub fn put_u32(out: &mut [u8], n: u64)
 // Writes a number into the first 8 bytes.
 fn put_u64(out: &mut [u8], n: u64)
     requires { i64_size ≤ length out.old }
-    ensures { becomes out ≡ sets (was out) 0 (bytes_of i64_size n) }
+    ensures { out.new ≡ sets out.old 0 (bytes_of i64_size n) }
 {
     put_u32(out, n);
     put_u32(&mut out[U32_SIZE..], n / 4294967296);
@@ -65,7 +64,7 @@ fn put_u64(out: &mut [u8], n: u64)
 // Writes an i64 into its bytes, which come first.
 pub fn put_key(out: &mut [u8], a: i64)
     requires { i64_size ≤ length out.old }
-    ensures { becomes out ≡ sets (was out) 0 (key_bytes a) }
+    ensures { out.new ≡ sets out.old 0 (key_bytes a) }
 {
     put_u64(out, bits_of(a));
 }
@@ -80,7 +79,7 @@ fn wide(b: u8) -> u64
 // Reads a number from the 4 bytes at `at`.
 pub fn u32_at(bytes: &[u8], at: usize) -> u64
     requires { at + u32_size ≤ length bytes.now }
-    ensures { (result ≡ number_in (take u32_size (drop at (was bytes)))) × (result < 4294967296) }
+    ensures { (result ≡ number_in (take u32_size (drop at bytes.now))) × (result < 4294967296) }
 {
     wide(bytes[at])
         + wide(bytes[at + 1]) * 256
@@ -91,7 +90,7 @@ pub fn u32_at(bytes: &[u8], at: usize) -> u64
 // Reads a number from the 8 bytes at `at`.
 fn u64_at(bytes: &[u8], at: usize) -> u64
     requires { at + i64_size ≤ length bytes.now }
-    ensures { result ≡ number_in (take i64_size (drop at (was bytes))) }
+    ensures { result ≡ number_in (take i64_size (drop at bytes.now)) }
 {
     u32_at(bytes, at) + u32_at(bytes, at + U32_SIZE) * 4294967296
 }
@@ -99,7 +98,7 @@ fn u64_at(bytes: &[u8], at: usize) -> u64
 // Reads an i64 from the bytes at `at`.
 pub fn key_at(bytes: &[u8], at: usize) -> i64
     requires { at + i64_size ≤ length bytes.now }
-    ensures { result ≡ key_of (take i64_size (drop at (was bytes))) }
+    ensures { result ≡ key_of (take i64_size (drop at bytes.now)) }
 {
     key_of(u64_at(bytes, at))
 }

@@ -2,7 +2,6 @@
 // Where each stands is known here alone.
 ghost use Rattle.std.specs.Prelude.{◌≡◌, ◌+◌, ◌≤◌, ◌<◌, length, take, drop};
 ghost use Rattle.std.proofs.lemmas.List.Edits.{sets};
-ghost use Rattle.lent.specs.Moments.{was, becomes};
 ghost use Rattle.key.specs.InnerDecides.{Decides};
 ghost use Rattle.outcomes.specs.Stored.{places};
 ghost use Rattle.byte_form.specs.Layout.{rm01, head_of, head_size, form_size};
@@ -46,7 +45,7 @@ pub fn form_size(count: usize) -> usize
 // Writes the mark and the count into the first bytes.
 pub fn put_head(out: &mut [u8], count: usize)
     requires { head_size rm01 ≤ length out.old }
-    ensures { becomes out ≡ sets (was out) 0 (head_of rm01 count) }
+    ensures { out.new ≡ sets out.old 0 (head_of rm01 count) }
 {
     put_u32(out, MARK);
     put_u32(&mut out[U32_SIZE..], count as u64);
@@ -55,7 +54,7 @@ pub fn put_head(out: &mut [u8], count: usize)
 // Writes one range into its bytes.
 pub fn put_range(out: &mut [u8], start: i64, end: i64, value: Value)
     requires { rm01.size ≤ length out.old }
-    ensures { becomes out ≡ sets (was out) 0 (rm01.written (record { start = start; end = end; value = value })) }
+    ensures { out.new ≡ sets out.old 0 (rm01.written (record { start = start; end = end; value = value })) }
 {
     put_key(out, start);
     put_key(&mut out[END_AT..], end);
@@ -65,7 +64,7 @@ pub fn put_range(out: &mut [u8], start: i64, end: i64, value: Value)
 // Whether the mark stands first.
 pub fn has_mark(bytes: &[u8]) -> bool
     requires { head_size rm01 ≤ length bytes.now }
-    ensures { Decides result (take (length rm01.mark) (was bytes) ≡ rm01.mark) }
+    ensures { Decides result (take (length rm01.mark) bytes.now ≡ rm01.mark) }
 {
     u32_at(bytes, 0) == MARK
 }
@@ -73,7 +72,7 @@ pub fn has_mark(bytes: &[u8]) -> bool
 // The count, which stands after the mark.
 pub fn count_in(bytes: &[u8]) -> u64
     requires { head_size rm01 ≤ length bytes.now }
-    ensures { (result ≡ count_in rm01 (was bytes)) × (result < 4294967296) }
+    ensures { (result ≡ count_in rm01 bytes.now) × (result < 4294967296) }
 {
     u32_at(bytes, U32_SIZE)
 }
@@ -81,7 +80,7 @@ pub fn count_in(bytes: &[u8]) -> u64
 // The start of the range whose bytes begin at `at`.
 pub fn start_at(bytes: &[u8], at: usize) -> i64
     requires { at + rm01.size ≤ length bytes.now }
-    ensures { result ≡ (rm01.read (drop at (was bytes))).start }
+    ensures { result ≡ (rm01.read (drop at bytes.now)).start }
 {
     key_at(bytes, at)
 }
@@ -89,7 +88,7 @@ pub fn start_at(bytes: &[u8], at: usize) -> i64
 // Its end.
 pub fn end_at(bytes: &[u8], at: usize) -> i64
     requires { at + rm01.size ≤ length bytes.now }
-    ensures { result ≡ (rm01.read (drop at (was bytes))).end }
+    ensures { result ≡ (rm01.read (drop at bytes.now)).end }
 {
     key_at(bytes, at + END_AT)
 }
@@ -97,7 +96,7 @@ pub fn end_at(bytes: &[u8], at: usize) -> i64
 // Its value.
 pub fn value_at(bytes: &[u8], at: usize) -> u8
     requires { at + rm01.size ≤ length bytes.now }
-    ensures { result ≡ (rm01.read (drop at (was bytes))).value }
+    ensures { result ≡ (rm01.read (drop at bytes.now)).value }
 {
     bytes[at + VALUE_AT]
 }

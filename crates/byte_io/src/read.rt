@@ -1,9 +1,8 @@
 // The reader of document 01's byte form. The bytes are checked first, where they stand; nothing is written before the answer is known.
 ghost use Rattle.std.specs.Prelude.{◌≡◌, ◌<◌};
-ghost use Rattle.lent.specs.Moments.{was, becomes};
 ghost use Rattle.key.specs.InnerDecides.{Decides};
 ghost use Rattle.key.specs.Range.{half_open};
-ghost use Rattle.outcomes.specs.Stored.{at_entry, at_exit};
+ghost use Rattle.outcomes.specs.Stored.{stored};
 ghost use Rattle.outcomes.specs.Outcomes.{leaving};
 ghost use Rattle.store.specs.InnerCheck.{Step, Steps};
 ghost use Rattle.byte_form.specs.Layout.{rm01};
@@ -20,7 +19,7 @@ use outcomes::PLACES;
 // Whether the range at `k` is not empty, and the next one may follow it.
 fn step(bytes: &[u8], count: usize, k: usize) -> bool
     requires { (k < count) × Sized rm01 count bytes.now }
-    ensures { Decides result (Step half_open (told rm01 count (was bytes)) k) }
+    ensures { Decides result (Step half_open (told rm01 count bytes.now) k) }
 {
     let at = form_size(k);
     let start = start_at(bytes, at);
@@ -47,7 +46,7 @@ fn step(bytes: &[u8], count: usize, k: usize) -> bool
 // Whether all ranges are so.
 fn tidy(bytes: &[u8], count: usize) -> bool
     requires { Sized rm01 count bytes.now }
-    ensures { Decides result (Steps half_open (told rm01 count (was bytes))) }
+    ensures { Decides result (Steps half_open (told rm01 count bytes.now)) }
 {
     let mut k = 0;
     while k < count {
@@ -61,7 +60,7 @@ fn tidy(bytes: &[u8], count: usize) -> bool
 
 // Whether bytes are the form of a well-formed map.
 fn is_form(bytes: &[u8]) -> bool
-    ensures { result ≡ is_form rm01 (was bytes) }
+    ensures { result ≡ is_form rm01 bytes.now }
 {
     if bytes.len() < HEAD_SIZE {
         return false;
@@ -89,8 +88,8 @@ fn fill(
     count: usize,
 )
     requires { Sized rm01 count bytes.now }
-    ensures { Filled rm01 count (was bytes) (was starts) (was ends) (was values)
-        (becomes starts) (becomes ends) (becomes values) }
+    ensures { Filled rm01 count bytes.now starts.old ends.old values.old
+        starts.new ends.new values.new }
 {
     let mut i = 0;
     while i < count {
@@ -109,8 +108,8 @@ fn clear_rest(
     values: &mut [Value; PLACES],
     count: usize,
 )
-    ensures { Cleared count (was starts) (was ends) (was values)
-        (becomes starts) (becomes ends) (becomes values) }
+    ensures { Cleared count starts.old ends.old values.old
+        starts.new ends.new values.new }
 {
     splice::clear_keys(starts, count, PLACES);
     splice::clear_keys(ends, count, PLACES);
@@ -125,8 +124,8 @@ pub fn read(
     values: &mut [Value; PLACES],
     bytes: &[u8],
 ) -> u8
-    ensures { leaving result (at_exit count starts ends values)
-        ≡ read rm01 (at_entry count starts ends values) (was bytes) }
+    ensures { leaving result (stored count.new starts.new ends.new values.new)
+        ≡ read rm01 (stored count.old starts.old ends.old values.old) bytes.now }
 {
     if !is_form(bytes) {
         return NO_MAP;

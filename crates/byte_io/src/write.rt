@@ -1,9 +1,8 @@
 // The writer of document 01's byte form. Nothing is written before it is known that the map is well formed and that the lent output is long enough.
 ghost use Rattle.std.specs.Prelude.{◌≡◌, ◌≤◌};
 ghost use Rattle.std.proofs.lemmas.List.Edits.{sets};
-ghost use Rattle.lent.specs.Moments.{was, becomes};
 ghost use Rattle.key.specs.Range.{half_open};
-ghost use Rattle.outcomes.specs.Stored.{places, stored, lent, Sound, at_entry, at_entry_with};
+ghost use Rattle.outcomes.specs.Stored.{places, stored, Sound};
 ghost use Rattle.byte_form.specs.Layout.{rm01, head_size};
 ghost use Rattle.byte_form.specs.Form.{entries_of, ranges_bytes, form_of, output, into_output, write, Wrote};
 ghost use Rattle.byte_io.specs.InnerWrite.{OutputRoom};
@@ -17,8 +16,8 @@ use store::check::well_formed;
 // Range after range, each into its own bytes.
 fn write_ranges(starts: &[i64], ends: &[i64], values: &[Value], count: usize, out: &mut [u8])
     requires { OutputRoom rm01 count starts.now ends.now values.now out.old }
-    ensures { becomes out ≡ sets (was out) (head_size rm01)
-        (ranges_bytes rm01 (entries_of (at_entry_with count starts ends values))) }
+    ensures { out.new ≡ sets out.old (head_size rm01)
+        (ranges_bytes rm01 (entries_of (stored count starts.now ends.now values.now))) }
 {
     let mut i = 0;
     while i < count {
@@ -37,8 +36,8 @@ fn write_formed(
     out: &mut [u8],
 ) -> Counted
     requires { Sound half_open (stored count starts.now ends.now values.now) × (count ≤ places) }
-    ensures { output result (becomes out)
-        ≡ into_output (form_of rm01 (at_entry_with count starts ends values)) (was out) }
+    ensures { output result out.new
+        ≡ into_output (form_of rm01 (stored count starts.now ends.now values.now)) out.old }
 {
     let n = form_size(count);
     if out.len() < n {
@@ -57,8 +56,8 @@ pub fn write(
     values: &[Value; PLACES],
     out: &mut [u8],
 ) -> Counted
-    ensures { output result (becomes out)
-        ≡ write rm01 (at_entry count starts ends values) (was out) }
+    ensures { output result out.new
+        ≡ write rm01 (stored count.now starts.now ends.now values.now) out.old }
 {
     if !well_formed(RangeKind::HalfOpen, *count, starts, ends, values) {
         return Counted::Refused(NOT_FORMED);
@@ -74,8 +73,8 @@ pub fn write_number(
     values: &[Value; PLACES],
     out: &mut [u8],
 ) -> Count
-    ensures { Wrote result (becomes out)
-        (write rm01 (at_entry count starts ends values) (was out)) }
+    ensures { Wrote result out.new
+        (write rm01 (stored count.now starts.now ends.now values.now) out.old) }
 {
     count_of(write(count, starts, ends, values, out))
 }

@@ -1,10 +1,12 @@
 // The Gregorian calendar for the years 1970 to 2100: lengths of months, day numbers since 1970-01-01, and the Sundays on which clocks change.
+#![tactic(auto)]
+
 ghost use Rattle.std.specs.Prelude.{◌≡◌, true, ◌*◌, ◌≤◌, ◌<◌};
 ghost use Rattle.calendar.specs.Calendar.{leap, month_length, years_before, months_before, day_number, is_date, next_date, sunday_from, march_sunday, november_sunday};
 ghost use Rattle.calendar.specs.Years.{Known};
 
 // A date, which need not be there.
-#[derive(Drop)]
+#[derive(Clone, Copy)]
 pub struct Date {
     pub year: u16,
     pub month: u8,
@@ -12,7 +14,7 @@ pub struct Date {
 }
 
 // A day, counted from 1970-01-01. It is a type of its own, so that days are never mixed with keys, which count seconds.
-#[derive(Drop)]
+#[derive(Clone, Copy)]
 pub struct DayNumber(pub u32);
 
 // The lengths of the months 1 to 12; February's in a year that is no leap year.

@@ -1,9 +1,10 @@
 // The words of the command line: which command they are.
+#![tactic(auto)]
+
 mod number;
 pub mod said;
 
 ghost use Rattle.std.specs.Prelude.{◌≡◌, [], ◌∷◌};
-ghost use Rattle.lent.specs.Moments.{was};
 ghost use Rattle.decimal.specs.Reading.{read_signed};
 ghost use Rattle.command.specs.Words.{dated_by, query_in, command_of};
 
@@ -12,7 +13,7 @@ use decimal::{Numeral, Signed};
 use number::number_of;
 
 // What is shown of a day.
-#[derive(Drop)]
+#[derive(Clone, Copy)]
 pub enum View {
     Report,
     Graph,
@@ -20,7 +21,7 @@ pub enum View {
 }
 
 // What the program is asked for: of a day its zone, year, month and day, and of a query its window.
-#[derive(Drop)]
+#[derive(Clone, Copy)]
 pub enum Command {
     Ranges,
     Dated(View, u8, u16, u8, u8),
@@ -36,7 +37,7 @@ const SMALL: u64 = 255;
 const YEAR: u64 = 65535;
 
 fn dated_by(view: View, zone: &[u8], year: &[u8], month: &[u8], day: &[u8]) -> Command
-    ensures { result ≡ dated_by view (was zone) (was year) (was month) (was day) }
+    ensures { result ≡ dated_by view zone.now year.now month.now day.now }
 {
     let Numeral::Is(z) = number_of(SMALL, zone) else {
         return Command::Other;
@@ -54,7 +55,7 @@ fn dated_by(view: View, zone: &[u8], year: &[u8], month: &[u8], day: &[u8]) -> C
 }
 
 fn query_in(start: &[u8], end: &[u8]) -> Command
-    ensures { result ≡ query_in (read_signed (was start)) (read_signed (was end)) }
+    ensures { result ≡ query_in (read_signed start.now) (read_signed end.now) }
 {
     let Signed::Is(s) = decimal::read_i64(start) else {
         return Command::Other;
@@ -67,7 +68,7 @@ fn query_in(start: &[u8], end: &[u8]) -> Command
 
 // The command of one word.
 pub fn one(word: &[u8]) -> Command
-    ensures { result ≡ command_of (was word ∷ []) }
+    ensures { result ≡ command_of (word.now ∷ []) }
 {
     if same(word, b"ranges") {
         return Command::Ranges;
@@ -83,7 +84,7 @@ pub fn one(word: &[u8]) -> Command
 
 // That of five.
 pub fn five(word: &[u8], a: &[u8], b: &[u8], c: &[u8], d: &[u8]) -> Command
-    ensures { result ≡ command_of (was word ∷ was a ∷ was b ∷ was c ∷ was d ∷ []) }
+    ensures { result ≡ command_of (word.now ∷ a.now ∷ b.now ∷ c.now ∷ d.now ∷ []) }
 {
     if same(word, b"day") {
         return dated_by(View::Report, a, b, c, d);
@@ -96,7 +97,7 @@ pub fn five(word: &[u8], a: &[u8], b: &[u8], c: &[u8], d: &[u8]) -> Command
 
 // That of six.
 pub fn six(word: &[u8], a: &[u8], b: &[u8], c: &[u8], d: &[u8], e: &[u8]) -> Command
-    ensures { result ≡ command_of (was word ∷ was a ∷ was b ∷ was c ∷ was d ∷ was e ∷ []) }
+    ensures { result ≡ command_of (word.now ∷ a.now ∷ b.now ∷ c.now ∷ d.now ∷ e.now ∷ []) }
 {
     if same(word, b"query") {
         return query_in(a, b);

@@ -1,6 +1,5 @@
 // A number of a zone or a date.
 ghost use Rattle.std.specs.Prelude.{◌≡◌, ◌&&◌, min, leb};
-ghost use Rattle.lent.specs.Moments.{was};
 ghost use Rattle.command.specs.Words.{digits, natural, decimal, number_of};
 
 use check::same;
@@ -14,7 +13,7 @@ fn lesser(a: u64, b: u64) -> u64
 
 // Whether all bytes are digits.
 fn are_digits(text: &[u8]) -> bool
-    ensures { result ≡ digits (was text) }
+    ensures { result ≡ digits text.now }
 {
     let mut i = 0;
     while i < text.len() {
@@ -31,7 +30,7 @@ fn are_digits(text: &[u8]) -> bool
 
 // Whether a text is one or more digits, with no zero before others.
 fn is_natural(text: &[u8]) -> bool
-    ensures { result ≡ natural (was text) }
+    ensures { result ≡ natural text.now }
 {
     if text.len() == 0 {
         return false;
@@ -47,7 +46,7 @@ fn is_natural(text: &[u8]) -> bool
 
 // Whether a text is a decimal number, however large.
 fn is_decimal(text: &[u8]) -> bool
-    ensures { result ≡ decimal (was text) }
+    ensures { result ≡ decimal text.now }
 {
     if text.len() == 0 {
         return false;
@@ -64,7 +63,7 @@ fn is_decimal(text: &[u8]) -> bool
 
 // The number that a word is, or `most` for every other decimal number.
 pub fn number_of(most: u64, word: &[u8]) -> Numeral
-    ensures { result ≡ number_of most (was word) }
+    ensures { result ≡ number_of most word.now }
 {
     let read = decimal::read_u64(word);
     match read {

@@ -1,5 +1,4 @@
 // What is said of a refusal.
-ghost use Rattle.lent.specs.Moments.{was, becomes};
 ghost use Rattle.filling.specs.Filling.{AddsWithin};
 ghost use Rattle.command.specs.Words.{refusal_text};
 
@@ -10,7 +9,7 @@ pub const REFUSAL_ROOM: usize = 22;
 
 // It is put at the start of lent bytes, and its length is answered.
 pub fn refusal_text(answer: u8, out: &mut [u8; REFUSAL_ROOM]) -> usize
-    ensures { AddsWithin 22 (refusal_text answer) (was out) 0 (becomes out) result }
+    ensures { AddsWithin 22 (refusal_text answer) out.old 0 out.new result }
 {
     let numbers = [answer as u64];
     fill(out, 0, b"{\n", &numbers)

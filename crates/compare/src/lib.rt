@@ -1,9 +1,11 @@
 // The comparison of two lent maps, place by place. An end of either kind ascends with its key, so one piece of code serves both kinds of map:
 // the contract speaks of half-open ranges, and `one_order` of the proofs says that inclusive ranges compare no differently.
+#![tactic(auto)]
+
 ghost use Rattle.std.specs.Prelude.{◌≡◌, [], ◌∷◌, ◌≤◌, length};
 ghost use Rattle.span.specs.Operations.{span_order};
 ghost use Rattle.key.specs.Range.{half_open, span_of};
-ghost use Rattle.outcomes.specs.Stored.{at_entry_with};
+ghost use Rattle.outcomes.specs.Stored.{stored};
 ghost use Rattle.outcomes.specs.Outcomes.{order_sound, compared_by};
 
 use key::Value;
@@ -54,7 +56,7 @@ pub fn compare(
 ) -> Compared
     requires count_in_bounds { (count ≤ length starts.now) × (length ends.now ≡ length starts.now) × (length values.now ≡ length starts.now) }
     requires count2_in_bounds { (count2 ≤ length starts2.now) × (length ends2.now ≡ length starts2.now) × (length values2.now ≡ length starts2.now) }
-    ensures { result ≡ compared_by (order_sound half_open (at_entry_with count starts ends values) (at_entry_with count2 starts2 ends2 values2)) }
+    ensures { result ≡ compared_by (order_sound half_open (stored count starts.now ends.now values.now) (stored count2 starts2.now ends2.now values2.now)) }
 {
     let mut k = 0;
     while k < count {

@@ -1,6 +1,7 @@
 // Numbers as decimal text: put into lent bytes, where each function answers the place behind its text, and read.
+#![tactic(auto)]
+
 ghost use Rattle.std.specs.Prelude.{◌+◌, ◌<◌, ◌≤◌, max, ◌≡◌, length};
-ghost use Rattle.lent.specs.Moments.{was, becomes};
 ghost use Rattle.text.specs.Text.{Adds, right_of};
 ghost use Rattle.decimal.specs.Decimal.{longest_number, digit, digits_text, decimal_text, signed_text};
 ghost use Rattle.decimal.specs.Reading.{no_leading_zero, next_of, read_number, as_natural, as_negative, read_signed};
@@ -8,14 +9,14 @@ ghost use Rattle.decimal.specs.Reading.{no_leading_zero, next_of, read_number, a
 use text::{put_byte, put_right};
 
 // What a text is as a u64.
-#[derive(Drop)]
+#[derive(Clone, Copy)]
 pub enum Numeral {
     Is(u64),
     Not,
 }
 
 // What a text is as an i64.
-#[derive(Drop)]
+#[derive(Clone, Copy)]
 pub enum Signed {
     Is(i64),
     Not,
@@ -43,7 +44,7 @@ fn digit_byte(d: u64) -> u8
 // The last k digits of a number, with zeros before it where it has fewer. The last digit is put first.
 pub fn put_digits(out: &mut [u8], at: usize, k: usize, n: u64) -> usize
     requires { at + k ≤ length out.old }
-    ensures { Adds (digits_text k n) (was out) at (becomes out) result }
+    ensures { Adds (digits_text k n) out.old at out.new result }
 {
     let mut i = k;
     let mut rest = n;
@@ -71,7 +72,7 @@ fn places(n: u64) -> usize
 // A number, where there is room for it.
 fn put_number(out: &mut [u8], at: usize, n: u64) -> usize
     requires { at + length (decimal_text n) ≤ length out.old }
-    ensures { Adds (decimal_text n) (was out) at (becomes out) result }
+    ensures { Adds (decimal_text n) out.old at out.new result }
 {
     put_digits(out, at, places(n), n)
 }
@@ -79,7 +80,7 @@ fn put_number(out: &mut [u8], at: usize, n: u64) -> usize
 // A number.
 pub fn put_u64(out: &mut [u8], at: usize, n: u64) -> usize
     requires { at + longest_number ≤ length out.old }
-    ensures { Adds (decimal_text n) (was out) at (becomes out) result }
+    ensures { Adds (decimal_text n) out.old at out.new result }
 {
     put_number(out, at, n)
 }
@@ -87,7 +88,7 @@ pub fn put_u64(out: &mut [u8], at: usize, n: u64) -> usize
 // A number with a sign. The rank of a key tells how far it is from 0, and nothing overflows there.
 pub fn put_i64(out: &mut [u8], at: usize, n: i64) -> usize
     requires { at + longest_number ≤ length out.old }
-    ensures { Adds (signed_text n) (was out) at (becomes out) result }
+    ensures { Adds (signed_text n) out.old at out.new result }
 {
     let rank = key::rank_of(n);
     if rank < ZERO {
@@ -100,7 +101,7 @@ pub fn put_i64(out: &mut [u8], at: usize, n: i64) -> usize
 // A number at the right of its columns. One that is wider than they are stands whole.
 pub fn put_u64_right(out: &mut [u8], at: usize, width: usize, n: u64) -> usize
     requires { at + max width longest_number ≤ length out.old }
-    ensures { Adds (right_of width (decimal_text n)) (was out) at (becomes out) result }
+    ensures { Adds (right_of width (decimal_text n)) out.old at out.new result }
 {
     let mut digits = [0u8; LONGEST];
     let k = put_u64(&mut digits, 0, n);
@@ -110,7 +111,7 @@ pub fn put_u64_right(out: &mut [u8], at: usize, width: usize, n: u64) -> usize
 // The same with a sign.
 pub fn put_i64_right(out: &mut [u8], at: usize, width: usize, n: i64) -> usize
     requires { at + max width longest_number ≤ length out.old }
-    ensures { Adds (right_of width (signed_text n)) (was out) at (becomes out) result }
+    ensures { Adds (right_of width (signed_text n)) out.old at out.new result }
 {
     let mut text = [0u8; LONGEST];
     let k = put_i64(&mut text, 0, n);
@@ -121,7 +122,7 @@ pub fn put_i64_right(out: &mut [u8], at: usize, width: usize, n: i64) -> usize
 
 // Whether a text is not empty, and no zero stands before other bytes.
 fn is_plain(text: &[u8]) -> bool
-    ensures { result ≡ no_leading_zero (was text) }
+    ensures { result ≡ no_leading_zero text.now }
 {
     if text.len() == 0 {
         return false;
@@ -151,7 +152,7 @@ fn next(n: u64, byte: u8) -> Numeral
 
 // The number below 2 ^ 64 that a text says.
 pub fn read_u64(text: &[u8]) -> Numeral
-    ensures { result ≡ read_number (was text) }
+    ensures { result ≡ read_number text.now }
 {
     if !is_plain(text) {
         return Numeral::Not;
@@ -199,7 +200,7 @@ fn negative(a: Numeral) -> Signed
 
 // The i64 that a text says.
 pub fn read_i64(text: &[u8]) -> Signed
-    ensures { result ≡ read_signed (was text) }
+    ensures { result ≡ read_signed text.now }
 {
     if text.len() == 0 {
         return Signed::Not;

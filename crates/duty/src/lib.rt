@@ -1,10 +1,11 @@
 // The seconds of each duty in a window of a half-open map, from one key up to another. They are counted by status, and then gathered.
+#![tactic(auto)]
+
 ghost use Rattle.std.specs.Prelude.{◌≡◌, ◌+◌, ◌-◌, ◌≤◌, ◌<◌, min, max, length, get_or};
-ghost use Rattle.lent.specs.Moments.{was, becomes};
 ghost use Rattle.key.specs.InnerDecides.{Decides};
 ghost use Rattle.key.specs.Rank.{rank};
 ghost use Rattle.key.specs.Range.{half_open};
-ghost use Rattle.outcomes.specs.Stored.{Sound, stored, ranges, at_entry_with};
+ghost use Rattle.outcomes.specs.Stored.{Sound, stored, ranges};
 ghost use Rattle.store.specs.InnerSearch.{Reached};
 ghost use Rattle.duty.specs.Duty.{tally_sound};
 ghost use Rattle.duty.specs.InnerWalk.{u32_limit, table_length, gathering, tally_sum, completing, walk_finds};
@@ -16,7 +17,7 @@ use key::{Bounds, RangeKind, Value};
 use store::search::{first_past, reaching};
 
 // The seconds of each duty, and those that are unrecorded.
-#[derive(Drop)]
+#[derive(Clone, Copy)]
 pub struct Totals {
     pub off_duty: u32,
     pub sleeper_berth: u32,
@@ -25,7 +26,7 @@ pub struct Totals {
     pub unrecorded: u32,
 }
 
-#[derive(Drop)]
+#[derive(Clone, Copy)]
 pub enum Tallied {
     Seconds(Totals),
     Refused(u8),
@@ -35,7 +36,7 @@ pub enum Tallied {
 const TABLE_LENGTH: usize = 5;
 
 // The seconds of the four duties.
-#[derive(Drop)]
+#[derive(Clone, Copy)]
 struct Tally {
     off_duty: u32,
     sleeper_berth: u32,
@@ -44,7 +45,7 @@ struct Tally {
 }
 
 // What a walk over the places finds.
-#[derive(Drop)]
+#[derive(Clone, Copy)]
 enum Walked {
     Counted(Tally),
     Strange,
@@ -85,7 +86,7 @@ fn amiss(value: Value) -> u8
 // Whether the values from the place `from` up to the place `to` are all statuses. With no early return the loop takes several places at a time.
 fn statuses(values: &[Value], from: usize, to: usize) -> bool
     requires { (from ≤ to) × (to ≤ length values.now) }
-    ensures { Decides result (Statuses (was values) from to) }
+    ensures { Decides result (Statuses values.now from to) }
 {
     let mut seen = 0;
     let mut k = from;
@@ -102,7 +103,7 @@ fn statuses(values: &[Value], from: usize, to: usize) -> bool
 // Adds seconds to the status `value`, in a table of seconds by status.
 fn credit(t: &mut [u32; TABLE_LENGTH], value: Value, n: u32)
     requires { (value < table_length) × (get_or t.old value 0 + n < u32_limit) }
-    ensures { becomes t ≡ credited (was t) value n }
+    ensures { t.new ≡ credited t.old value n }
 {
     let status = value as usize;
     t[status] += n;
@@ -134,7 +135,7 @@ fn clipped(
 ) -> [u32; TABLE_LENGTH]
     requires { Met starts.now ends.now values.now window from to × Statuses values.now from to
         × TableRoom window (part starts.now ends.now values.now from to) table }
-    ensures { Added window (part (was starts) (was ends) (was values) from to) table result }
+    ensures { Added window (part starts.now ends.now values.now from to) table result }
 {
     let mut t = table;
     let mut k = from;
@@ -160,7 +161,7 @@ fn whole(
     requires { Met starts.now ends.now values.now window from to × Statuses values.now from to
         × EachApart starts.now ends.now from to × Inside starts.now window from to
         × TableRoom window (part starts.now ends.now values.now from to) table }
-    ensures { Added window (part (was starts) (was ends) (was values) from to) table result }
+    ensures { Added window (part starts.now ends.now values.now from to) table result }
 {
     let mut t = table;
     let mut u = [0; TABLE_LENGTH];
@@ -187,7 +188,7 @@ fn table_of(
 ) -> [u32; TABLE_LENGTH]
     requires { Met starts.now ends.now values.now window from to × Statuses values.now from to
         × EachApart starts.now ends.now from to × TableRoom window (part starts.now ends.now values.now from to) no_seconds }
-    ensures { Added window (part (was starts) (was ends) (was values) from to) no_seconds result }
+    ensures { Added window (part starts.now ends.now values.now from to) no_seconds result }
 {
     let t = [0; TABLE_LENGTH];
     if from == to {
@@ -238,7 +239,7 @@ fn walk(
 ) -> Walked
     requires { Sound half_open (stored count starts.now ends.now values.now) × Reached half_open count ends.now window.start from
         × (rank window.start < rank window.end) × (rank window.end - rank window.start < u32_limit) }
-    ensures { result ≡ walk_finds (rank window.start) (rank window.end) (ranges half_open (at_entry_with count starts ends values)) }
+    ensures { result ≡ walk_finds (rank window.start) (rank window.end) (ranges half_open (stored count starts.now ends.now values.now)) }
 {
     let to = first_past(RangeKind::HalfOpen, starts, from, count, window.end);
     if !statuses(values, from, to) {
@@ -258,7 +259,7 @@ pub fn between(
 ) -> Tallied
     requires { Sound half_open (stored count starts.now ends.now values.now)
         × (rank window.start < rank window.end) × (rank window.end - rank window.start < u32_limit) }
-    ensures { result ≡ tally_sound (at_entry_with count starts ends values) window.start window.end }
+    ensures { result ≡ tally_sound (stored count starts.now ends.now values.now) window.start window.end }
 {
     let from = reaching(RangeKind::HalfOpen, ends, count, window.start);
     let w = walk(count, starts, ends, values, from, window);

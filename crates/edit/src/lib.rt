@@ -1,14 +1,15 @@
 // Insert and remove in a map of either kind that is well formed: the unchecked doors. A plan says which places go and which ranges come, and one
 // function carries it out; nothing is written before the answer is known. An insert and a remove are one change: a value comes, or none does.
 // The kinds differ in three places, all of the keys: `full`, `after`, `end_before`.
+#![tactic(auto)]
+
 mod plan;
 mod sides;
 
 ghost use Rattle.std.specs.Prelude.{◌≡◌, ◌<◌, ◌≤◌, length};
 ghost use Rattle.std.proofs.Math.Option.{some, none};
-ghost use Rattle.lent.specs.Moments.{was};
 ghost use Rattle.key.specs.Range.{kind_of};
-ghost use Rattle.outcomes.specs.Stored.{places, stored, lent, Sound, at_entry, at_entry_with, at_exit};
+ghost use Rattle.outcomes.specs.Stored.{places, stored, Sound};
 ghost use Rattle.outcomes.specs.Outcomes.{leaving, edit_sound};
 ghost use Rattle.outcomes.specs.InnerOutcome.{Leaves};
 ghost use Rattle.edit.specs.InnerPlan.{HasKey, Meets, Overlaid, Planned, asked};
@@ -22,7 +23,7 @@ use store::search::reaching;
 use store::walk::first_past;
 
 // What is asked: the instants of a range get the value, or where none comes they get none.
-#[derive(Drop)]
+#[derive(Clone, Copy)]
 pub struct Change {
     pub start: i64,
     pub end: i64,
@@ -32,7 +33,7 @@ pub struct Change {
 
 // The places from `from` up to `to` are those that a change meets or touches. A range that ends with `below` just touches it, and so does one that
 // starts at `above`: there old ranges are cut.
-#[derive(Drop)]
+#[derive(Clone, Copy)]
 pub struct Met {
     pub from: usize,
     pub to: usize,
@@ -51,7 +52,7 @@ fn touched(
     change: Change,
 ) -> Met
     requires { Sound (kind_of kind) (stored count starts.now ends.now values.now) × HasKey (kind_of kind) change }
-    ensures { Meets (kind_of kind) (at_entry_with count starts ends values) change result }
+    ensures { Meets (kind_of kind) (stored count starts.now ends.now values.now) change result }
 {
     let start = change.start;
     let end = change.end;
@@ -76,7 +77,7 @@ fn plan_over(
     change: Change,
 ) -> Replacement
     requires { (met.from < met.to) × (met.to ≤ length starts.now) × (met.to ≤ length ends.now) × (met.to ≤ length values.now) }
-    ensures { Overlaid (was starts) (was ends) (was values) met change result }
+    ensures { Overlaid starts.now ends.now values.now met change result }
 {
     let from = met.from;
     let to = met.to;
@@ -125,7 +126,7 @@ fn plan_of(
     change: Change,
 ) -> Replacement
     requires { Sound (kind_of kind) (stored count starts.now ends.now values.now) × HasKey (kind_of kind) change }
-    ensures { Planned (kind_of kind) (at_entry_with count starts ends values) change result }
+    ensures { Planned (kind_of kind) (stored count starts.now ends.now values.now) change result }
 {
     let start = change.start;
     let end = change.end;
@@ -160,9 +161,9 @@ fn edit(
     values: &mut [Value],
     change: Change,
 ) -> u8
-    requires { Sound (kind_of kind) (lent count starts ends values) }
-    ensures { leaving result (at_exit count starts ends values)
-        ≡ edit_sound (kind_of kind) (length (was starts)) (at_entry count starts ends values)
+    requires { Sound (kind_of kind) (stored count.old starts.old ends.old values.old) }
+    ensures { leaving result (stored count.new starts.new ends.new values.new)
+        ≡ edit_sound (kind_of kind) (length starts.old) (stored count.old starts.old ends.old values.old)
         change.start change.end (asked change) }
 {
     let start = change.start;
@@ -185,9 +186,9 @@ pub fn insert(
     end: i64,
     value: Value,
 ) -> Outcome
-    requires { Sound (kind_of kind) (lent count starts ends values) }
-    ensures { Leaves result (at_exit count starts ends values)
-        (edit_sound (kind_of kind) places (at_entry count starts ends values) start end (some value)) }
+    requires { Sound (kind_of kind) (stored count.old starts.old ends.old values.old) }
+    ensures { Leaves result (stored count.new starts.new ends.new values.new)
+        (edit_sound (kind_of kind) places (stored count.old starts.old ends.old values.old) start end (some value)) }
 {
     let change = Change {
         start: start,
@@ -208,9 +209,9 @@ pub fn remove(
     start: i64,
     end: i64,
 ) -> Outcome
-    requires { Sound (kind_of kind) (lent count starts ends values) }
-    ensures { Leaves result (at_exit count starts ends values)
-        (edit_sound (kind_of kind) places (at_entry count starts ends values) start end none) }
+    requires { Sound (kind_of kind) (stored count.old starts.old ends.old values.old) }
+    ensures { Leaves result (stored count.new starts.new ends.new values.new)
+        (edit_sound (kind_of kind) places (stored count.old starts.old ends.old values.old) start end none) }
 {
     let nothing = Change {
         start: start,

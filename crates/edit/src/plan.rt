@@ -1,6 +1,6 @@
 // A plan is made from what comes, and carried out.
 ghost use Rattle.std.specs.Prelude.{◌≡◌, [], suc, ◌≤◌};
-ghost use Rattle.outcomes.specs.Stored.{lent, at_entry, at_exit};
+ghost use Rattle.outcomes.specs.Stored.{stored};
 ghost use Rattle.outcomes.specs.Outcomes.{leaving};
 ghost use Rattle.splice.specs.InnerReplace.{Apt};
 ghost use Rattle.edit.specs.InnerPlan.{Blank, Brings, coming, in_front, carried, ColumnsOf};
@@ -11,7 +11,7 @@ use key::Value;
 use splice::{Entry, Replacement};
 
 // A range, and whether the plan keeps it.
-#[derive(Drop)]
+#[derive(Clone, Copy)]
 pub struct Part {
     pub kept: bool,
     pub start: i64,
@@ -75,9 +75,9 @@ pub fn carry_out(
     values: &mut [Value],
     p: Replacement,
 ) -> u8
-    requires { ColumnsOf (lent count starts ends values) × Apt count.old p }
-    ensures { leaving result (at_exit count starts ends values)
-        ≡ carried (at_entry count starts ends values) p }
+    requires { ColumnsOf (stored count.old starts.old ends.old values.old) × Apt count.old p }
+    ensures { leaving result (stored count.new starts.new ends.new values.new)
+        ≡ carried (stored count.old starts.old ends.old values.old) p }
 {
     let held = *count;
     let from = p.from;

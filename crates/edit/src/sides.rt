@@ -43,7 +43,7 @@ fn same(old: Value, change: Change) -> bool
 }
 
 // One side of a change: whether a part of the old range there is kept, and the key with which the new range starts or ends there.
-#[derive(Drop)]
+#[derive(Clone, Copy)]
 pub struct Side {
     pub kept: bool,
     pub key: i64,

@@ -1,10 +1,11 @@
 // The lines of `make`: a text of edits, done in order on a map that holds nothing at first.
+#![tactic(auto)]
+
 pub mod said;
 mod words;
 
 ghost use Rattle.std.specs.Prelude.{◌≡◌, ◌+◌, ◌≤◌, min};
-ghost use Rattle.lent.specs.Moments.{was};
-ghost use Rattle.outcomes.specs.Stored.{at_entry, at_exit};
+ghost use Rattle.outcomes.specs.Stored.{stored};
 ghost use Rattle.edit_lines.specs.InnerStep.{made_by};
 ghost use Rattle.edit_lines.specs.Parts.{lines_of};
 ghost use Rattle.edit_lines.specs.Making.{line_of, change_of, making, line_done, makes, made_of};
@@ -14,7 +15,7 @@ use key::{RangeKind, Value};
 use outcomes::{Outcome, PLACES};
 
 // What a line is.
-#[derive(Drop)]
+#[derive(Clone, Copy)]
 pub enum Line {
     Insert(i64, i64, u8),
     Remove(i64, i64),
@@ -22,7 +23,7 @@ pub enum Line {
 }
 
 // How the lines of a text went. Lines count from 1; a refusal has the number of document 01's table.
-#[derive(Drop)]
+#[derive(Clone, Copy)]
 pub enum Made {
     Done,
     Refused(usize, u8),
@@ -50,9 +51,9 @@ fn line_done(
     ends: &mut [i64; PLACES],
     values: &mut [Value; PLACES],
 ) -> Made
-    ensures { making result (at_exit count starts ends values)
-        ≡ line_done n (at_entry count starts ends values)
-        (change_of (line_of (was line))) (making Made.Done) }
+    ensures { making result (stored count.new starts.new ends.new values.new)
+        ≡ line_done n (stored count.old starts.old ends.old values.old)
+        (change_of (line_of line.now)) (making Made.Done) }
 {
     let is = words::line_of(line);
     match is {
@@ -84,8 +85,8 @@ fn lines_done(
     ends: &mut [i64; PLACES],
     values: &mut [Value; PLACES],
 ) -> Made
-    ensures { making result (at_exit count starts ends values)
-        ≡ makes 0 (at_entry count starts ends values) (lines_of (was text)) }
+    ensures { making result (stored count.new starts.new ends.new values.new)
+        ≡ makes 0 (stored count.old starts.old ends.old values.old) (lines_of text.now) }
 {
     let mut from = 0;
     let mut n = 0;
@@ -109,7 +110,7 @@ pub fn make(
     ends: &mut [i64; PLACES],
     values: &mut [Value; PLACES],
 ) -> Made
-    ensures { making result (at_exit count starts ends values) ≡ made_of (was text) }
+    ensures { making result (stored count.new starts.new ends.new values.new) ≡ made_of text.now }
 {
     map_ops::change::clear(count, starts, ends, values);
     lines_done(text, count, starts, ends, values)

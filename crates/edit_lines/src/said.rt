@@ -1,5 +1,4 @@
 // What is said of a text that makes nothing.
-ghost use Rattle.lent.specs.Moments.{was, becomes};
 ghost use Rattle.filling.specs.Filling.{AddsWithin};
 ghost use Rattle.edit_lines.specs.Making.{told_text};
 
@@ -11,7 +10,7 @@ pub const TOLD_ROOM: usize = 50;
 
 // It is put at the start of lent bytes, and its length is answered: 0 of a text that was done.
 pub fn told_text(made: Made, out: &mut [u8; TOLD_ROOM]) -> usize
-    ensures { AddsWithin 50 (told_text made) (was out) 0 (becomes out) result }
+    ensures { AddsWithin 50 (told_text made) out.old 0 out.new result }
 {
     match made {
         Made::Done => 0,

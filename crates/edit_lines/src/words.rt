@@ -1,6 +1,5 @@
 // One line: its words, taken off one after the other, and the edit that they are.
 ghost use Rattle.std.specs.Prelude.{◌≡◌, ◌≤◌, [], ◌∷◌, length};
-ghost use Rattle.lent.specs.Moments.{was};
 ghost use Rattle.edit_lines.specs.Parts.{words_of};
 ghost use Rattle.edit_lines.specs.Making.{words_line, line_of};
 ghost use Rattle.edit_lines.specs.InnerStep.{SpaceAt};
@@ -14,14 +13,14 @@ const SPACE: u8 = 32;
 
 // The place of the first space, or the length where there is none.
 fn space_of(text: &[u8]) -> usize
-    ensures { SpaceAt (was text) result }
+    ensures { SpaceAt text.now result }
 {
     find(text, 0, text.len(), SPACE)
 }
 
 // A line of three words.
 fn remove_of(word: &[u8], start: &[u8], end: &[u8]) -> Line
-    ensures { result ≡ words_line (was word ∷ was start ∷ was end ∷ []) }
+    ensures { result ≡ words_line (word.now ∷ start.now ∷ end.now ∷ []) }
 {
     if !same(word, b"remove") {
         return Line::Neither;
@@ -37,7 +36,7 @@ fn remove_of(word: &[u8], start: &[u8], end: &[u8]) -> Line
 
 // A line of four words.
 fn insert_of(word: &[u8], start: &[u8], end: &[u8], value: &[u8]) -> Line
-    ensures { result ≡ words_line (was word ∷ was start ∷ was end ∷ was value ∷ []) }
+    ensures { result ≡ words_line (word.now ∷ start.now ∷ end.now ∷ value.now ∷ []) }
 {
     if !same(word, b"insert") {
         return Line::Neither;
@@ -59,7 +58,7 @@ fn insert_of(word: &[u8], start: &[u8], end: &[u8], value: &[u8]) -> Line
 
 // A line of which three words are taken off.
 fn behind_three(word: &[u8], start: &[u8], end: &[u8], rest: &[u8]) -> Line
-    ensures { result ≡ words_line (was word ∷ was start ∷ was end ∷ words_of (was rest)) }
+    ensures { result ≡ words_line (word.now ∷ start.now ∷ end.now ∷ words_of rest.now) }
 {
     if space_of(rest) == rest.len() {
         return insert_of(word, start, end, rest);
@@ -69,7 +68,7 @@ fn behind_three(word: &[u8], start: &[u8], end: &[u8], rest: &[u8]) -> Line
 
 // A line of which two words are taken off.
 fn behind_two(word: &[u8], start: &[u8], rest: &[u8]) -> Line
-    ensures { result ≡ words_line (was word ∷ was start ∷ words_of (was rest)) }
+    ensures { result ≡ words_line (word.now ∷ start.now ∷ words_of rest.now) }
 {
     let n = space_of(rest);
     if n == rest.len() {
@@ -81,7 +80,7 @@ fn behind_two(word: &[u8], start: &[u8], rest: &[u8]) -> Line
 
 // A line of which a word is taken off.
 fn behind_one(word: &[u8], rest: &[u8]) -> Line
-    ensures { result ≡ words_line (was word ∷ words_of (was rest)) }
+    ensures { result ≡ words_line (word.now ∷ words_of rest.now) }
 {
     let n = space_of(rest);
     if n == rest.len() {
@@ -93,7 +92,7 @@ fn behind_one(word: &[u8], rest: &[u8]) -> Line
 
 // What the bytes of a line are.
 pub fn line_of(line: &[u8]) -> Line
-    ensures { result ≡ line_of (was line) }
+    ensures { result ≡ line_of line.now }
 {
     let n = space_of(line);
     if n == line.len() {

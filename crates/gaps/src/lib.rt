@@ -3,12 +3,13 @@
 // there may be too many.
 // The kinds differ in three places, all of the keys: whether a range from one key to another is empty (`full`, by which the search goes too),
 // which end is written for a range up to a key (`end_before`), and which key follows a range (`after`).
+#![tactic(auto)]
+
 ghost use Rattle.std.specs.Prelude.{◌≡◌, ◌+◌, ◌≤◌, ◌<◌, length};
-ghost use Rattle.lent.specs.Moments.{was, becomes};
 ghost use Rattle.key.specs.InnerDecides.{Decides};
 ghost use Rattle.key.specs.Rank.{rank};
 ghost use Rattle.key.specs.Range.{kind_of};
-ghost use Rattle.outcomes.specs.Stored.{Sound, stored, at_entry_with};
+ghost use Rattle.outcomes.specs.Stored.{Sound, stored};
 ghost use Rattle.outcomes.specs.Outcomes.{gaps_sound};
 ghost use Rattle.range_list.specs.InnerLists.{wrote, ListRoom, Puts};
 ghost use Rattle.gaps.specs.InnerWalk.{gap, gaps_found, Places};
@@ -39,7 +40,7 @@ fn counted(
     outer: Bounds,
 ) -> usize
     requires { Places count from starts.now ends.now × (rank outer.start < (kind_of kind).past outer.end) }
-    ensures { result ≡ length (gaps_found (kind_of kind) (was starts) (was ends) count from outer) }
+    ensures { result ≡ length (gaps_found (kind_of kind) starts.now ends.now count from outer) }
 {
     let end = outer.end;
     let mut n = 0;
@@ -72,7 +73,7 @@ fn fits(
     room: usize,
 ) -> bool
     requires { Places count from starts.now ends.now × (rank outer.start < (kind_of kind).past outer.end) }
-    ensures { Decides result (length (gaps_found (kind_of kind) (was starts) (was ends) count from outer) ≤ room) }
+    ensures { Decides result (length (gaps_found (kind_of kind) starts.now ends.now count from outer) ≤ room) }
 {
     if count - from < room {
         return true;
@@ -95,7 +96,7 @@ fn write_before(
     requires { ListRoom n (gap (rank cursor) (rank next)) out_starts.old out_ends.old }
     ensures { (result ≡ n + length (gap (rank cursor) (rank next)))
         × Puts (kind_of kind) n (gap (rank cursor) (rank next))
-        (was out_starts) (was out_ends) (becomes out_starts) (becomes out_ends) }
+        out_starts.old out_ends.old out_starts.new out_ends.new }
 {
     if cursor < next {
         put(out_starts, out_ends, n, cursor, end_before(kind, next));
@@ -117,9 +118,9 @@ fn write(
 ) -> usize
     requires { Places count from starts.now ends.now × (rank outer.start < (kind_of kind).past outer.end)
         × ListRoom 0 (gaps_found (kind_of kind) starts.now ends.now count from outer) out_starts.old out_ends.old }
-    ensures { (result ≡ length (gaps_found (kind_of kind) (was starts) (was ends) count from outer))
-        × Puts (kind_of kind) 0 (gaps_found (kind_of kind) (was starts) (was ends) count from outer)
-        (was out_starts) (was out_ends) (becomes out_starts) (becomes out_ends) }
+    ensures { (result ≡ length (gaps_found (kind_of kind) starts.now ends.now count from outer))
+        × Puts (kind_of kind) 0 (gaps_found (kind_of kind) starts.now ends.now count from outer)
+        out_starts.old out_ends.old out_starts.new out_ends.new }
 {
     let end = outer.end;
     let mut at = 0;
@@ -156,9 +157,9 @@ pub fn gaps(
     out_ends: &mut [i64],
 ) -> Counted
     requires { Sound (kind_of kind) (stored count starts.now ends.now values.now) }
-    ensures { wrote result (becomes out_starts) (becomes out_ends)
-        ≡ gaps_sound (kind_of kind) (at_entry_with count starts ends values) start end
-        (was out_starts) (was out_ends) }
+    ensures { wrote result out_starts.new out_ends.new
+        ≡ gaps_sound (kind_of kind) (stored count starts.now ends.now values.now) start end
+        out_starts.old out_ends.old }
 {
     if !full(kind, start, end) {
         return Counted::Refused(EMPTY_RANGE);

@@ -1,9 +1,10 @@
 // The grid of a day as text, put into lent bytes from their start on. What each quarter of an hour shows is asked of the crate `duty`.
+#![tactic(auto)]
+
 ghost use Rattle.std.specs.Prelude.{◌≡◌, ◌+◌, ◌*◌, ◌≤◌, ◌<◌, length};
-ghost use Rattle.lent.specs.Moments.{was, becomes};
 ghost use Rattle.key.specs.Rank.{rank, keys};
 ghost use Rattle.key.specs.Range.{half_open};
-ghost use Rattle.outcomes.specs.Stored.{stored, ranges, at_entry_with};
+ghost use Rattle.outcomes.specs.Stored.{stored, ranges};
 ghost use Rattle.filling.specs.Filling.{series, AddsWithin};
 ghost use Rattle.report_text.specs.Rows.{row_count};
 ghost use Rattle.graph_text.specs.Grid.{quarters_in, clock_hour, is_marked, mark_of, blank_of, shown, cell, Drawable};
@@ -64,7 +65,7 @@ pub fn is_marked(
     q: usize,
 ) -> bool
     requires { Quarter (stored count starts.now ends.now values.now) start q × (row < row_count) × (q < most_quarters) }
-    ensures { result ≡ is_marked (ranges half_open (at_entry_with count starts ends values)) start row q }
+    ensures { result ≡ is_marked (ranges half_open (stored count starts.now ends.now values.now)) start row q }
 {
     let quarter = Bounds {
         start: quarter_start(start, q),
@@ -108,7 +109,7 @@ fn shown_at(
     q: usize,
 ) -> u8
     requires { Quarter (stored count starts.now ends.now values.now) start q × (row < row_count) × (q < most_quarters) }
-    ensures { result ≡ shown (ranges half_open (at_entry_with count starts ends values)) start row q }
+    ensures { result ≡ shown (ranges half_open (stored count starts.now ends.now values.now)) start row q }
 {
     if is_marked(count, starts, ends, values, start, row, q) {
         return mark_of(row);
@@ -129,7 +130,7 @@ fn put_cells(
     at: usize,
 ) -> usize
     requires { Quarters (stored count starts.now ends.now values.now) start n × (row < row_count) × (at + n ≤ length out.old) }
-    ensures { AddsWithin n (series (cell (ranges half_open (at_entry_with count starts ends values)) start row) n) (was out) at (becomes out) result }
+    ensures { AddsWithin n (series (cell (ranges half_open (stored count starts.now ends.now values.now)) start row) n) out.old at out.new result }
 {
     let mut to = at;
     let mut q = 0;
@@ -144,7 +145,7 @@ fn put_cells(
 // A total behind the quarters.
 fn put_total(out: &mut [u8], at: usize, n: u64) -> usize
     requires { at + 29 ≤ length out.old }
-    ensures { AddsWithin 29 (total_column n) (was out) at (becomes out) result }
+    ensures { AddsWithin 29 (total_column n) out.old at out.new result }
 {
     let to = put_clock_column(out, at, n);
     put_byte(out, to, b'\n')
@@ -164,7 +165,7 @@ fn put_row(
     at: usize,
 ) -> usize
     requires { Quarters (stored count starts.now ends.now values.now) start n × (row < row_count) × (at + graph_line_room ≤ length out.old) }
-    ensures { AddsWithin graph_line_room (row_line (ranges half_open (at_entry_with count starts ends values)) start n t row) (was out) at (becomes out) result }
+    ensures { AddsWithin graph_line_room (row_line (ranges half_open (stored count starts.now ends.now values.now)) start n t row) out.old at out.new result }
 {
     let cells = put_row_column(out, at, row);
     let total = put_cells(count, starts, ends, values, start, n, row, out, cells);
@@ -185,7 +186,7 @@ fn put_rows(
 ) -> usize
     requires { Quarters (stored count starts.now ends.now values.now) start n × (at + row_count * graph_line_room ≤ length out.old) }
     ensures { AddsWithin (row_count * graph_line_room) (series
-        (row_line (ranges half_open (at_entry_with count starts ends values)) start n t) row_count) (was out) at (becomes out) result }
+        (row_line (ranges half_open (stored count starts.now ends.now values.now)) start n t) row_count) out.old at out.new result }
 {
     let mut to = at;
     let mut row = 0;
@@ -199,7 +200,7 @@ fn put_rows(
 // An hour in its columns.
 fn put_hour(out: &mut [u8], at: usize, n: usize, h: usize) -> usize
     requires { (n ≤ most_hours) × (h < n) × (at + 20 ≤ length out.old) }
-    ensures { AddsWithin 4 (hour_column n h) (was out) at (becomes out) result }
+    ensures { AddsWithin 4 (hour_column n h) out.old at out.new result }
 {
     let to = put_u64(out, at, clock_hour(n, h) as u64);
     put_spaces(out, to, at + 4 - to)
@@ -208,7 +209,7 @@ fn put_hour(out: &mut [u8], at: usize, n: usize, h: usize) -> usize
 // The hours of a day of n hours.
 fn put_hours(out: &mut [u8], at: usize, n: usize) -> usize
     requires { (n ≤ most_hours) × (at + 120 ≤ length out.old) }
-    ensures { AddsWithin 100 (series (hour_column n) n) (was out) at (becomes out) result }
+    ensures { AddsWithin 100 (series (hour_column n) n) out.old at out.new result }
 {
     let mut to = at;
     let mut h = 0;
@@ -222,7 +223,7 @@ fn put_hours(out: &mut [u8], at: usize, n: usize) -> usize
 // The line of the hours.
 fn put_hours_line(out: &mut [u8], at: usize, n: usize) -> usize
     requires { (n ≤ most_hours) × (at + graph_line_room ≤ length out.old) }
-    ensures { AddsWithin graph_line_room (hours_line n) (was out) at (becomes out) result }
+    ensures { AddsWithin graph_line_room (hours_line n) out.old at out.new result }
 {
     let first = put_name_column(out, at, b"");
     let to = put_hours(out, first, n);
@@ -232,7 +233,7 @@ fn put_hours_line(out: &mut [u8], at: usize, n: usize) -> usize
 // The line of the sum.
 fn put_sum_line(out: &mut [u8], at: usize, n: usize, t: Totals) -> usize
     requires { (n ≤ most_quarters) × (at + graph_line_room ≤ length out.old) }
-    ensures { AddsWithin graph_line_room (sum_line n t) (was out) at (becomes out) result }
+    ensures { AddsWithin graph_line_room (sum_line n t) out.old at out.new result }
 {
     let blank = put_name_column(out, at, b"sum");
     let total = put_spaces(out, blank, n);
@@ -251,7 +252,7 @@ pub fn graph_text(
     out: &mut [u8; GRAPH_ROOM],
 ) -> usize
     requires { Drawable (stored count starts.now ends.now values.now) start end }
-    ensures { AddsWithin graph_room (graph_text (ranges half_open (at_entry_with count starts ends values)) start end t) (was out) 0 (becomes out) result }
+    ensures { AddsWithin graph_room (graph_text (ranges half_open (stored count starts.now ends.now values.now)) start end t) out.old 0 out.new result }
 {
     let n = quarters_of(start, end);
     let first = put_hours_line(out, 0, n / 4);

@@ -11,7 +11,7 @@ use outcomes::{Counted, PLACES};
 use range_text::{RESULTS, RESULTS_ROOM, result_text};
 
 // A file that is asked of: its map was loaded, or it was refused, or it could not be opened, which was said.
-#[derive(Drop)]
+#[derive(Clone, Copy)]
 enum Taken {
     Map,
     Refused(u8),

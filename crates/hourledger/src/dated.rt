@@ -1,6 +1,6 @@
 // `day` and `graph`: what is shown of a day. The zone and the date are judged before the form is read.
 ghost use Rattle.key.specs.Range.{half_open};
-ghost use Rattle.outcomes.specs.Stored.{stored, lent, Sound};
+ghost use Rattle.outcomes.specs.Stored.{stored, Sound};
 ghost use Rattle.graph_text.specs.Grid.{Drawable};
 
 use crate::form::{ROOM, load, read_form};
@@ -84,7 +84,7 @@ fn of_map<'a>(
     month: u8,
     day: u8,
 )
-    requires { Sound half_open (lent count starts ends values) }
+    requires { Sound half_open (stored count.now starts.now ends.now values.now) }
 {
     let told = report::checked(count, starts, ends, values, zone, year, month, day);
     match told {

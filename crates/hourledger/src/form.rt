@@ -1,8 +1,7 @@
 // A byte form: read from a descriptor, and loaded into a map.
 ghost use Rattle.std.specs.Prelude.{◌≡◌};
-ghost use Rattle.lent.specs.Moments.{was, becomes};
 ghost use Rattle.io.specs.Counts.{IsPrefixLen};
-ghost use Rattle.outcomes.specs.Stored.{at_entry, at_exit};
+ghost use Rattle.outcomes.specs.Stored.{stored};
 ghost use Rattle.outcomes.specs.Outcomes.{leaving};
 ghost use Rattle.byte_form.specs.Layout.{rm01};
 ghost use Rattle.byte_form.specs.Form.{read};
@@ -18,7 +17,7 @@ pub const ROOM: usize = LONGEST + 1;
 
 // Reads a form. What is too long, or is not read to its end, is taken as bytes that are longer than any form.
 pub fn read_form(fd: i32, bytes: &mut [u8; ROOM]) -> usize
-    ensures { IsPrefixLen result (becomes bytes) }
+    ensures { IsPrefixLen result bytes.new }
 {
     let got = read_all(fd, bytes);
     match got {
@@ -36,9 +35,9 @@ pub fn load(
     ends: &mut [i64; PLACES],
     values: &mut [Value; PLACES],
 ) -> u8
-    ensures values_value { leaving result (at_exit count starts ends values)
-        ≡ read rm01 (at_entry count starts ends values) (was form) }
-    ensures loaded { result ≡ 0 → Loaded (at_exit count starts ends values) }
+    ensures values_value { leaving result (stored count.new starts.new ends.new values.new)
+        ≡ read rm01 (stored count.old starts.old ends.old values.old) form.now }
+    ensures loaded { result ≡ 0 → Loaded (stored count.new starts.new ends.new values.new) }
 {
     byte_io::read::read(count, starts, ends, values, form)
 }

@@ -1,9 +1,8 @@
 // Bytes that are read to their end. A read that fails is told apart from the end, and so is a text that is too long.
-ghost use Rattle.lent.specs.Moments.{becomes};
 ghost use Rattle.hourledger.specs.InnerInput.{Held};
 
 // How many bytes were read; or that there are too many; or that a read failed.
-#[derive(Drop)]
+#[derive(Clone, Copy)]
 pub enum Input {
     Bytes(usize),
     TooLong,
@@ -12,7 +11,7 @@ pub enum Input {
 
 // Reads to the end, into lent bytes that have room for one byte more than is taken: each turn leaves less room.
 pub fn read_all(fd: i32, bytes: &mut [u8]) -> Input
-    ensures { Held result (becomes bytes) }
+    ensures { Held result bytes.new }
 {
     let mut n = 0;
     while n < bytes.len() {

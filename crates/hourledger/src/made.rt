@@ -1,5 +1,4 @@
 // `make`: lines of edits in, a byte form out.
-ghost use Rattle.lent.specs.Moments.{becomes};
 ghost use Rattle.hourledger.specs.InnerInput.{Held};
 
 use crate::input::{Input, read_all};
@@ -47,7 +46,7 @@ fn of_text(text: &[u8]) {
 
 // Reads the lines. The array is lent as one, so that no proof writes its bytes out.
 fn read_lines(bytes: &mut [u8; ROOM]) -> Input
-    ensures { Held result (becomes bytes) }
+    ensures { Held result bytes.new }
 {
     read_all(STDIN_FILENO, bytes)
 }

@@ -1,4 +1,6 @@
 // hourledger: docs/PROGRAM.md says what it does. It reads, calls what is proved, and writes.
+#![tactic(auto)]
+
 mod asked;
 mod dated;
 mod form;

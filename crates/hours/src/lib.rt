@@ -1,4 +1,6 @@
 // Seconds as hours.
+#![tactic(auto)]
+
 ghost use Rattle.std.specs.Prelude.{◌≡◌};
 ghost use Rattle.hours.specs.Hours.{hours_of};
 

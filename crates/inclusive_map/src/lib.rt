@@ -1,8 +1,9 @@
 // Module 3: the inclusive map, from inclusive_map.rs of rangemap. The exported functions, for C and Rust, are here: each lends all the fields of
 // its map to a function of `map_abi`, which answers in numbers, or of `map_ops` where that does. Rattle callers use `map_ops`.
-ghost use Rattle.lent.specs.Moments.{was, becomes};
+#![tactic(auto)]
+
 ghost use Rattle.key.specs.Range.{inclusive};
-ghost use Rattle.outcomes.specs.Stored.{Sound};
+ghost use Rattle.outcomes.specs.Stored.{Sound, stored};
 ghost use Rattle.inclusive_map.specs.Map.{held};
 ghost use Rattle.inclusive_map.specs.Promises.{RangeInclusiveMapNew, RangeInclusiveMapIsEmpty, RangeInclusiveMapLen, RangeInclusiveMapRangeAt};
 ghost use Rattle.inclusive_map.specs.Promises.{RangeInclusiveMapFirstRangeValue, RangeInclusiveMapLastRangeValue, RangeInclusiveMapGetKeyValue};
@@ -44,7 +45,7 @@ pub extern "C" fn range_inclusive_map_new() -> RangeInclusiveMap
 // Whether nothing is held.
 #[unsafe(no_mangle)]
 pub extern "C" fn range_inclusive_map_is_empty(m: &RangeInclusiveMap) -> Told
-    ensures { RangeInclusiveMapIsEmpty (was m) result }
+    ensures { RangeInclusiveMapIsEmpty m.now result }
 {
     map_abi::is_empty(KIND, &m.count, &m.starts, &m.ends, &m.values)
 }
@@ -52,7 +53,7 @@ pub extern "C" fn range_inclusive_map_is_empty(m: &RangeInclusiveMap) -> Told
 // How many ranges are held.
 #[unsafe(no_mangle)]
 pub extern "C" fn range_inclusive_map_len(m: &RangeInclusiveMap) -> Count
-    ensures { RangeInclusiveMapLen (was m) result }
+    ensures { RangeInclusiveMapLen m.now result }
 {
     map_abi::len(KIND, &m.count, &m.starts, &m.ends, &m.values)
 }
@@ -60,7 +61,7 @@ pub extern "C" fn range_inclusive_map_len(m: &RangeInclusiveMap) -> Count
 // The range and the value at a place.
 #[unsafe(no_mangle)]
 pub extern "C" fn range_inclusive_map_range_at(m: &RangeInclusiveMap, place: usize) -> Range
-    ensures { RangeInclusiveMapRangeAt (was m) place result }
+    ensures { RangeInclusiveMapRangeAt m.now place result }
 {
     map_abi::range_at(KIND, &m.count, &m.starts, &m.ends, &m.values, place)
 }
@@ -68,7 +69,7 @@ pub extern "C" fn range_inclusive_map_range_at(m: &RangeInclusiveMap, place: usi
 // The first range and its value.
 #[unsafe(no_mangle)]
 pub extern "C" fn range_inclusive_map_first_range_value(m: &RangeInclusiveMap) -> Range
-    ensures { RangeInclusiveMapFirstRangeValue (was m) result }
+    ensures { RangeInclusiveMapFirstRangeValue m.now result }
 {
     map_abi::first_range_value(KIND, &m.count, &m.starts, &m.ends, &m.values)
 }
@@ -76,7 +77,7 @@ pub extern "C" fn range_inclusive_map_first_range_value(m: &RangeInclusiveMap) -
 // The last range and its value.
 #[unsafe(no_mangle)]
 pub extern "C" fn range_inclusive_map_last_range_value(m: &RangeInclusiveMap) -> Range
-    ensures { RangeInclusiveMapLastRangeValue (was m) result }
+    ensures { RangeInclusiveMapLastRangeValue m.now result }
 {
     map_abi::last_range_value(KIND, &m.count, &m.starts, &m.ends, &m.values)
 }
@@ -84,7 +85,7 @@ pub extern "C" fn range_inclusive_map_last_range_value(m: &RangeInclusiveMap) ->
 // The range that holds the key, and its value.
 #[unsafe(no_mangle)]
 pub extern "C" fn range_inclusive_map_get_key_value(m: &RangeInclusiveMap, key: i64) -> Range
-    ensures { RangeInclusiveMapGetKeyValue (was m) key result }
+    ensures { RangeInclusiveMapGetKeyValue m.now key result }
 {
     map_abi::get_key_value(KIND, &m.count, &m.starts, &m.ends, &m.values, key)
 }
@@ -92,7 +93,7 @@ pub extern "C" fn range_inclusive_map_get_key_value(m: &RangeInclusiveMap, key: 
 // Whether some range holds the key.
 #[unsafe(no_mangle)]
 pub extern "C" fn range_inclusive_map_contains_key(m: &RangeInclusiveMap, key: i64) -> Told
-    ensures { RangeInclusiveMapContainsKey (was m) key result }
+    ensures { RangeInclusiveMapContainsKey m.now key result }
 {
     map_abi::contains_key(KIND, &m.count, &m.starts, &m.ends, &m.values, key)
 }
@@ -100,7 +101,7 @@ pub extern "C" fn range_inclusive_map_contains_key(m: &RangeInclusiveMap, key: i
 // Whether some range has a key of the query.
 #[unsafe(no_mangle)]
 pub extern "C" fn range_inclusive_map_overlaps(m: &RangeInclusiveMap, start: i64, end: i64) -> Told
-    ensures { RangeInclusiveMapOverlaps (was m) start end result }
+    ensures { RangeInclusiveMapOverlaps m.now start end result }
 {
     map_abi::overlaps(KIND, &m.count, &m.starts, &m.ends, &m.values, start, end)
 }
@@ -112,7 +113,7 @@ pub extern "C" fn range_inclusive_map_overlapping(
     start: i64,
     end: i64,
 ) -> Stretch
-    ensures { RangeInclusiveMapOverlapping (was m) start end result }
+    ensures { RangeInclusiveMapOverlapping m.now start end result }
 {
     map_abi::overlapping(KIND, &m.count, &m.starts, &m.ends, &m.values, start, end)
 }
@@ -126,7 +127,7 @@ pub extern "C" fn range_inclusive_map_gaps(
     out_starts: &mut [i64],
     out_ends: &mut [i64],
 ) -> Count
-    ensures { RangeInclusiveMapGaps (was m) start end (was out_starts) (becomes out_starts) (was out_ends) (becomes out_ends) result }
+    ensures { RangeInclusiveMapGaps m.now start end out_starts.old out_starts.new out_ends.old out_ends.new result }
 {
     map_abi::gaps(
         KIND, &m.count, &m.starts, &m.ends, &m.values, start, end, out_starts, out_ends,
@@ -136,7 +137,7 @@ pub extern "C" fn range_inclusive_map_gaps(
 // Whether two maps hold the same ranges with the same values.
 #[unsafe(no_mangle)]
 pub extern "C" fn range_inclusive_map_eq(a: &RangeInclusiveMap, b: &RangeInclusiveMap) -> Told
-    ensures { RangeInclusiveMapEq (was a) (was b) result }
+    ensures { RangeInclusiveMapEq a.now b.now result }
 {
     map_abi::eq(
         KIND, &a.count, &a.starts, &a.ends, &a.values, &b.count, &b.starts, &b.ends, &b.values,
@@ -146,7 +147,7 @@ pub extern "C" fn range_inclusive_map_eq(a: &RangeInclusiveMap, b: &RangeInclusi
 // Which of two maps comes first: -1, 0 or 1.
 #[unsafe(no_mangle)]
 pub extern "C" fn range_inclusive_map_cmp(a: &RangeInclusiveMap, b: &RangeInclusiveMap) -> Order
-    ensures { RangeInclusiveMapCmp (was a) (was b) result }
+    ensures { RangeInclusiveMapCmp a.now b.now result }
 {
     map_abi::cmp(
         KIND, &a.count, &a.starts, &a.ends, &a.values, &b.count, &b.starts, &b.ends, &b.values,
@@ -161,7 +162,7 @@ pub extern "C" fn range_inclusive_map_insert(
     end: i64,
     value: Value,
 ) -> u8
-    ensures { RangeInclusiveMapInsert (was m) (becomes m) start end value result }
+    ensures { RangeInclusiveMapInsert m.old m.new start end value result }
 {
     map_abi::insert(
         KIND,
@@ -178,7 +179,7 @@ pub extern "C" fn range_inclusive_map_insert(
 // Uncovers exactly the instants of start..=end.
 #[unsafe(no_mangle)]
 pub extern "C" fn range_inclusive_map_remove(m: &mut RangeInclusiveMap, start: i64, end: i64) -> u8
-    ensures { RangeInclusiveMapRemove (was m) (becomes m) start end result }
+    ensures { RangeInclusiveMapRemove m.old m.new start end result }
 {
     map_abi::remove(
         KIND,
@@ -194,7 +195,7 @@ pub extern "C" fn range_inclusive_map_remove(m: &mut RangeInclusiveMap, start: i
 // Leaves nothing held, whatever the map was.
 #[unsafe(no_mangle)]
 pub extern "C" fn range_inclusive_map_clear(m: &mut RangeInclusiveMap)
-    ensures { RangeInclusiveMapClear (was m) (becomes m) }
+    ensures { RangeInclusiveMapClear m.old m.new }
 {
     map_ops::change::clear(&mut m.count, &mut m.starts, &mut m.ends, &mut m.values)
 }
@@ -207,7 +208,7 @@ pub extern "C" fn range_inclusive_map_extend(
     ends: &[i64],
     values: &[Value],
 ) -> Applied
-    ensures { RangeInclusiveMapExtend (was m) (becomes m) (was starts) (was ends) (was values) result }
+    ensures { RangeInclusiveMapExtend m.old m.new starts.now ends.now values.now result }
 {
     map_ops::change::bulk::extend(
         KIND,
@@ -224,7 +225,7 @@ pub extern "C" fn range_inclusive_map_extend(
 // Whether a map is well formed.
 #[unsafe(no_mangle)]
 pub extern "C" fn range_inclusive_map_well_formed(m: &RangeInclusiveMap) -> bool
-    ensures { RangeInclusiveMapWellFormed (was m) result }
+    ensures { RangeInclusiveMapWellFormed m.now result }
 {
     map_abi::well_formed(KIND, &m.count, &m.starts, &m.ends, &m.values)
 }
@@ -236,7 +237,7 @@ pub extern "C" fn range_inclusive_map_get_key_value_unchecked(
     key: i64,
 ) -> Range
     requires { Sound inclusive (held m.now) }
-    ensures { RangeInclusiveMapGetKeyValueUnchecked (was m) key result }
+    ensures { RangeInclusiveMapGetKeyValueUnchecked m.now key result }
 {
     map_abi::get_key_value_unchecked(KIND, &m.count, &m.starts, &m.ends, &m.values, key)
 }
@@ -251,7 +252,7 @@ pub extern "C" fn range_inclusive_map_gaps_unchecked(
     out_ends: &mut [i64],
 ) -> Count
     requires { Sound inclusive (held m.now) }
-    ensures { RangeInclusiveMapGapsUnchecked (was m) start end (was out_starts) (becomes out_starts) (was out_ends) (becomes out_ends) result }
+    ensures { RangeInclusiveMapGapsUnchecked m.now start end out_starts.old out_starts.new out_ends.old out_ends.new result }
 {
     map_abi::gaps_unchecked(
         KIND, &m.count, &m.starts, &m.ends, &m.values, start, end, out_starts, out_ends,
@@ -267,7 +268,7 @@ pub extern "C" fn range_inclusive_map_insert_unchecked(
     value: Value,
 ) -> u8
     requires { Sound inclusive (held m.old) }
-    ensures { RangeInclusiveMapInsertUnchecked (was m) (becomes m) start end value result }
+    ensures { RangeInclusiveMapInsertUnchecked m.old m.new start end value result }
 {
     map_abi::insert_unchecked(
         KIND,
@@ -289,7 +290,7 @@ pub extern "C" fn range_inclusive_map_remove_unchecked(
     end: i64,
 ) -> u8
     requires { Sound inclusive (held m.old) }
-    ensures { RangeInclusiveMapRemoveUnchecked (was m) (becomes m) start end result }
+    ensures { RangeInclusiveMapRemoveUnchecked m.old m.new start end result }
 {
     map_abi::remove_unchecked(
         KIND,

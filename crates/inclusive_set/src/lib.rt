@@ -1,6 +1,7 @@
 // Module 5: the inclusive set, from inclusive_set.rs of rangemap. The exported functions, for C and Rust, are here: each lends all the fields of its set
 // to a function of `set_abi`, which answers in numbers, or of `set_ops` or `map_ops` where these do. Rattle callers use `set_ops`.
-ghost use Rattle.lent.specs.Moments.{was, becomes};
+#![tactic(auto)]
+
 ghost use Rattle.inclusive_set.specs.Promises.{RangeInclusiveSetNew, RangeInclusiveSetIsEmpty, RangeInclusiveSetLen, RangeInclusiveSetRangeAt};
 ghost use Rattle.inclusive_set.specs.Promises.{RangeInclusiveSetFirst, RangeInclusiveSetLast, RangeInclusiveSetGet, RangeInclusiveSetContains};
 ghost use Rattle.inclusive_set.specs.Promises.{RangeInclusiveSetOverlaps, RangeInclusiveSetOverlapping, RangeInclusiveSetGaps, RangeInclusiveSetEq};
@@ -41,7 +42,7 @@ pub extern "C" fn range_inclusive_set_new() -> RangeInclusiveSet
 // Whether nothing is held.
 #[unsafe(no_mangle)]
 pub extern "C" fn range_inclusive_set_is_empty(m: &RangeInclusiveSet) -> Told
-    ensures { RangeInclusiveSetIsEmpty (was m) result }
+    ensures { RangeInclusiveSetIsEmpty m.now result }
 {
     set_abi::is_empty(KIND, &m.count, &m.starts, &m.ends, &m.values)
 }
@@ -49,7 +50,7 @@ pub extern "C" fn range_inclusive_set_is_empty(m: &RangeInclusiveSet) -> Told
 // How many ranges are held.
 #[unsafe(no_mangle)]
 pub extern "C" fn range_inclusive_set_len(m: &RangeInclusiveSet) -> Count
-    ensures { RangeInclusiveSetLen (was m) result }
+    ensures { RangeInclusiveSetLen m.now result }
 {
     set_abi::len(KIND, &m.count, &m.starts, &m.ends, &m.values)
 }
@@ -57,7 +58,7 @@ pub extern "C" fn range_inclusive_set_len(m: &RangeInclusiveSet) -> Count
 // The range at a place.
 #[unsafe(no_mangle)]
 pub extern "C" fn range_inclusive_set_range_at(m: &RangeInclusiveSet, place: usize) -> Range
-    ensures { RangeInclusiveSetRangeAt (was m) place result }
+    ensures { RangeInclusiveSetRangeAt m.now place result }
 {
     set_abi::range_at(KIND, &m.count, &m.starts, &m.ends, &m.values, place)
 }
@@ -65,7 +66,7 @@ pub extern "C" fn range_inclusive_set_range_at(m: &RangeInclusiveSet, place: usi
 // The first range.
 #[unsafe(no_mangle)]
 pub extern "C" fn range_inclusive_set_first(m: &RangeInclusiveSet) -> Range
-    ensures { RangeInclusiveSetFirst (was m) result }
+    ensures { RangeInclusiveSetFirst m.now result }
 {
     set_abi::first(KIND, &m.count, &m.starts, &m.ends, &m.values)
 }
@@ -73,7 +74,7 @@ pub extern "C" fn range_inclusive_set_first(m: &RangeInclusiveSet) -> Range
 // The last range.
 #[unsafe(no_mangle)]
 pub extern "C" fn range_inclusive_set_last(m: &RangeInclusiveSet) -> Range
-    ensures { RangeInclusiveSetLast (was m) result }
+    ensures { RangeInclusiveSetLast m.now result }
 {
     set_abi::last(KIND, &m.count, &m.starts, &m.ends, &m.values)
 }
@@ -81,7 +82,7 @@ pub extern "C" fn range_inclusive_set_last(m: &RangeInclusiveSet) -> Range
 // The range that holds the key.
 #[unsafe(no_mangle)]
 pub extern "C" fn range_inclusive_set_get(m: &RangeInclusiveSet, key: i64) -> Range
-    ensures { RangeInclusiveSetGet (was m) key result }
+    ensures { RangeInclusiveSetGet m.now key result }
 {
     set_abi::get(KIND, &m.count, &m.starts, &m.ends, &m.values, key)
 }
@@ -89,7 +90,7 @@ pub extern "C" fn range_inclusive_set_get(m: &RangeInclusiveSet, key: i64) -> Ra
 // Whether some range holds the key.
 #[unsafe(no_mangle)]
 pub extern "C" fn range_inclusive_set_contains(m: &RangeInclusiveSet, key: i64) -> Told
-    ensures { RangeInclusiveSetContains (was m) key result }
+    ensures { RangeInclusiveSetContains m.now key result }
 {
     set_abi::contains(KIND, &m.count, &m.starts, &m.ends, &m.values, key)
 }
@@ -97,7 +98,7 @@ pub extern "C" fn range_inclusive_set_contains(m: &RangeInclusiveSet, key: i64) 
 // Whether some range has a key of the query.
 #[unsafe(no_mangle)]
 pub extern "C" fn range_inclusive_set_overlaps(m: &RangeInclusiveSet, start: i64, end: i64) -> Told
-    ensures { RangeInclusiveSetOverlaps (was m) start end result }
+    ensures { RangeInclusiveSetOverlaps m.now start end result }
 {
     set_abi::overlaps(KIND, &m.count, &m.starts, &m.ends, &m.values, start, end)
 }
@@ -109,7 +110,7 @@ pub extern "C" fn range_inclusive_set_overlapping(
     start: i64,
     end: i64,
 ) -> Stretch
-    ensures { RangeInclusiveSetOverlapping (was m) start end result }
+    ensures { RangeInclusiveSetOverlapping m.now start end result }
 {
     set_abi::overlapping(KIND, &m.count, &m.starts, &m.ends, &m.values, start, end)
 }
@@ -123,7 +124,7 @@ pub extern "C" fn range_inclusive_set_gaps(
     out_starts: &mut [i64],
     out_ends: &mut [i64],
 ) -> Count
-    ensures { RangeInclusiveSetGaps (was m) start end (was out_starts) (becomes out_starts) (was out_ends) (becomes out_ends) result }
+    ensures { RangeInclusiveSetGaps m.now start end out_starts.old out_starts.new out_ends.old out_ends.new result }
 {
     set_abi::gaps(
         KIND, &m.count, &m.starts, &m.ends, &m.values, start, end, out_starts, out_ends,
@@ -133,7 +134,7 @@ pub extern "C" fn range_inclusive_set_gaps(
 // Whether two sets hold the same ranges.
 #[unsafe(no_mangle)]
 pub extern "C" fn range_inclusive_set_eq(a: &RangeInclusiveSet, b: &RangeInclusiveSet) -> Told
-    ensures { RangeInclusiveSetEq (was a) (was b) result }
+    ensures { RangeInclusiveSetEq a.now b.now result }
 {
     set_abi::eq(
         KIND, &a.count, &a.starts, &a.ends, &a.values, &b.count, &b.starts, &b.ends, &b.values,
@@ -143,7 +144,7 @@ pub extern "C" fn range_inclusive_set_eq(a: &RangeInclusiveSet, b: &RangeInclusi
 // Which of two sets comes first: -1, 0 or 1.
 #[unsafe(no_mangle)]
 pub extern "C" fn range_inclusive_set_cmp(a: &RangeInclusiveSet, b: &RangeInclusiveSet) -> Order
-    ensures { RangeInclusiveSetCmp (was a) (was b) result }
+    ensures { RangeInclusiveSetCmp a.now b.now result }
 {
     set_abi::cmp(
         KIND, &a.count, &a.starts, &a.ends, &a.values, &b.count, &b.starts, &b.ends, &b.values,
@@ -153,7 +154,7 @@ pub extern "C" fn range_inclusive_set_cmp(a: &RangeInclusiveSet, b: &RangeInclus
 // Covers each instant of start..=end, and no other.
 #[unsafe(no_mangle)]
 pub extern "C" fn range_inclusive_set_insert(m: &mut RangeInclusiveSet, start: i64, end: i64) -> u8
-    ensures { RangeInclusiveSetInsert (was m) (becomes m) start end result }
+    ensures { RangeInclusiveSetInsert m.old m.new start end result }
 {
     set_abi::insert(
         KIND,
@@ -169,7 +170,7 @@ pub extern "C" fn range_inclusive_set_insert(m: &mut RangeInclusiveSet, start: i
 // Uncovers exactly the instants of start..=end.
 #[unsafe(no_mangle)]
 pub extern "C" fn range_inclusive_set_remove(m: &mut RangeInclusiveSet, start: i64, end: i64) -> u8
-    ensures { RangeInclusiveSetRemove (was m) (becomes m) start end result }
+    ensures { RangeInclusiveSetRemove m.old m.new start end result }
 {
     set_abi::remove(
         KIND,
@@ -189,7 +190,7 @@ pub extern "C" fn range_inclusive_set_extend(
     starts: &[i64],
     ends: &[i64],
 ) -> Applied
-    ensures { RangeInclusiveSetExtend (was m) (becomes m) (was starts) (was ends) result }
+    ensures { RangeInclusiveSetExtend m.old m.new starts.now ends.now result }
 {
     set_ops::bulk::extend(
         KIND,
@@ -205,7 +206,7 @@ pub extern "C" fn range_inclusive_set_extend(
 // Leaves nothing covered, whatever the set was.
 #[unsafe(no_mangle)]
 pub extern "C" fn range_inclusive_set_clear(m: &mut RangeInclusiveSet)
-    ensures { RangeInclusiveSetClear (was m) (becomes m) }
+    ensures { RangeInclusiveSetClear m.old m.new }
 {
     map_ops::change::clear(&mut m.count, &mut m.starts, &mut m.ends, &mut m.values)
 }
@@ -213,7 +214,7 @@ pub extern "C" fn range_inclusive_set_clear(m: &mut RangeInclusiveSet)
 // Whether a map is well formed.
 #[unsafe(no_mangle)]
 pub extern "C" fn range_inclusive_set_well_formed(m: &RangeInclusiveSet) -> bool
-    ensures { RangeInclusiveSetWellFormed (was m) result }
+    ensures { RangeInclusiveSetWellFormed m.now result }
 {
     set_abi::well_formed(KIND, &m.count, &m.starts, &m.ends, &m.values)
 }
@@ -226,7 +227,7 @@ pub extern "C" fn range_inclusive_set_intersection(
     out_starts: &mut [i64],
     out_ends: &mut [i64],
 ) -> Count
-    ensures { RangeInclusiveSetIntersection (was a) (was b) (was out_starts) (becomes out_starts) (was out_ends) (becomes out_ends) result }
+    ensures { RangeInclusiveSetIntersection a.now b.now out_starts.old out_starts.new out_ends.old out_ends.new result }
 {
     set_abi::combine(
         KIND,
@@ -252,7 +253,7 @@ pub extern "C" fn range_inclusive_set_union(
     out_starts: &mut [i64],
     out_ends: &mut [i64],
 ) -> Count
-    ensures { RangeInclusiveSetUnion (was a) (was b) (was out_starts) (becomes out_starts) (was out_ends) (becomes out_ends) result }
+    ensures { RangeInclusiveSetUnion a.now b.now out_starts.old out_starts.new out_ends.old out_ends.new result }
 {
     set_abi::combine(
         KIND,
@@ -273,7 +274,7 @@ pub extern "C" fn range_inclusive_set_union(
 // How many keys are covered, as a u64; 9 if that is over 2^64 - 1.
 #[unsafe(no_mangle)]
 pub extern "C" fn range_inclusive_set_total(m: &RangeInclusiveSet) -> Total
-    ensures { RangeInclusiveSetTotal (was m) result }
+    ensures { RangeInclusiveSetTotal m.now result }
 {
     set_abi::total(KIND, &m.count, &m.starts, &m.ends, &m.values)
 }

@@ -1,6 +1,5 @@
 // THE WALK over two sets that finds what they have in common, with two positions; the range that ends first goes.
 ghost use Rattle.std.specs.Prelude.{◌≡◌, ◌+◌, ◌≤◌, ◌<◌, length};
-ghost use Rattle.lent.specs.Moments.{was, becomes};
 ghost use Rattle.key.specs.Rank.{rank};
 ghost use Rattle.key.specs.Range.{kind_of};
 ghost use Rattle.two_sets.specs.InnerLists.{Ended};
@@ -12,7 +11,7 @@ use range_list::put;
 use two_sets::{Position, meets, pick};
 
 // A step of the walk: what the two ranges at hand have in common, whether that is anything, and whether the left one goes.
-#[derive(Drop)]
+#[derive(Clone, Copy)]
 pub struct Overlap {
     pub start: i64,
     pub end: i64,
@@ -45,8 +44,8 @@ pub fn step(
     j: usize,
 ) -> Overlap
     requires { (i < length starts_a.now) × (i < length ends_a.now) × (j < length starts_b.now) × (j < length ends_b.now) }
-    ensures { Stepped kind (key_rank (was starts_a) i) (key_rank (was ends_a) i)
-        (key_rank (was starts_b) j) (key_rank (was ends_b) j) result.start result.end result.found result.left }
+    ensures { Stepped kind (key_rank starts_a.now i) (key_rank ends_a.now i)
+        (key_rank starts_b.now j) (key_rank ends_b.now j) result.start result.end result.found result.left }
 {
     step_over(kind, starts_a[i], ends_a[i], starts_b[j], ends_b[j])
 }
@@ -54,7 +53,7 @@ pub fn step(
 // The end at place `i`, if the set has such a place.
 fn end_at(ends: &[i64], count: usize, i: usize) -> i64
     requires { count ≤ length ends.now }
-    ensures { i < count → rank result ≡ key_rank (was ends) i }
+    ensures { i < count → rank result ≡ key_rank ends.now i }
 {
     if i < count {
         return ends[i];
@@ -63,7 +62,7 @@ fn end_at(ends: &[i64], count: usize, i: usize) -> i64
 }
 
 // A step, and the ends at hand after it, of the first set and of the second.
-#[derive(Drop)]
+#[derive(Clone, Copy)]
 struct Carried {
     start: i64,
     end: i64,
@@ -88,7 +87,7 @@ fn step_ahead(
 ) -> Carried
     requires { (i < length starts_a.now) × (i + 1 < length ends_a.now) × (j < length starts_b.now) × (j + 1 < length ends_b.now)
         × (rank end_a ≡ key_rank ends_a.now i) × (rank end_b ≡ key_rank ends_b.now j) }
-    ensures { Carries kind (was starts_a) (was ends_a) i (was starts_b) (was ends_b) j result }
+    ensures { Carries kind starts_a.now ends_a.now i starts_b.now ends_b.now j result }
 {
     let next_a = ends_a[i + 1];
     let next_b = ends_b[j + 1];
@@ -118,8 +117,8 @@ fn write_most(
     out_ends: &mut [i64],
 ) -> Position
     requires { Ready kind starts_a.now ends_a.now count_a starts_b.now ends_b.now count_b from out_starts.old out_ends.old }
-    ensures { Gone kind (was starts_a) (was ends_a) count_a (was starts_b) (was ends_b) count_b
-        from (was out_starts) (was out_ends) result (becomes out_starts) (becomes out_ends) }
+    ensures { Gone kind starts_a.now ends_a.now count_a starts_b.now ends_b.now count_b
+        from out_starts.old out_ends.old result out_starts.new out_ends.new }
 {
     let mut at = from.at;
     let mut i = from.i;
@@ -162,9 +161,9 @@ fn write_rest(
     out_ends: &mut [i64],
 ) -> usize
     requires { Ready kind starts_a.now ends_a.now count_a starts_b.now ends_b.now count_b from out_starts.old out_ends.old }
-    ensures { Ended (kind_of kind) from.at (open_shared kind (was starts_a) (was ends_a) count_a
-        (was starts_b) (was ends_b) count_b from)
-        (was out_starts) (was out_ends) result (becomes out_starts) (becomes out_ends) }
+    ensures { Ended (kind_of kind) from.at (open_shared kind starts_a.now ends_a.now count_a
+        starts_b.now ends_b.now count_b from)
+        out_starts.old out_ends.old result out_starts.new out_ends.new }
 {
     let mut at = from.at;
     let mut i = from.i;
@@ -198,9 +197,9 @@ pub fn write_from(
     out_ends: &mut [i64],
 ) -> usize
     requires { Ready kind starts_a.now ends_a.now count_a starts_b.now ends_b.now count_b from out_starts.old out_ends.old }
-    ensures { Ended (kind_of kind) from.at (open_shared kind (was starts_a) (was ends_a) count_a
-        (was starts_b) (was ends_b) count_b from)
-        (was out_starts) (was out_ends) result (becomes out_starts) (becomes out_ends) }
+    ensures { Ended (kind_of kind) from.at (open_shared kind starts_a.now ends_a.now count_a
+        starts_b.now ends_b.now count_b from)
+        out_starts.old out_ends.old result out_starts.new out_ends.new }
 {
     let most = write_most(
         kind, starts_a, ends_a, count_a, starts_b, ends_b, count_b, from, out_starts, out_ends,

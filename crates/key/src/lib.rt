@@ -1,5 +1,7 @@
 // Keys are the i64, both ends included; a range is a start and an end.
 // Contracts speak of a key's rank, its place among all keys counted from 0, so that nothing overflows in them.
+#![tactic(auto)]
+
 ghost use Rattle.std.specs.Prelude.{◌≡◌, ◌+◌, ◌<◌};
 ghost use Rattle.key.specs.InnerDecides.{Decides};
 ghost use Rattle.key.specs.Rank.{rank, keys, lesser, greater};
@@ -15,14 +17,14 @@ pub const LEAST: i64 = -9223372036854775808;
 pub const GREATEST: i64 = 9223372036854775807;
 
 // The two kinds of range: start..end, and start..=end.
-#[derive(Drop)]
+#[derive(Clone, Copy)]
 pub enum RangeKind {
     HalfOpen,
     Inclusive,
 }
 
 // The start and the end of a range, of either kind.
-#[derive(Drop)]
+#[derive(Clone, Copy)]
 pub struct Bounds {
     pub start: i64,
     pub end: i64,

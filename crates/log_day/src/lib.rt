@@ -1,4 +1,6 @@
 // Log days: the start and end of a date's day in a zone, as keys.
+#![tactic(auto)]
+
 ghost use Rattle.std.specs.Prelude.{◌≡◌, ◌&&◌, ◌*◌, ◌<◌, ◌≤◌, pos};
 ghost use Rattle.calendar.specs.Years.{Known};
 ghost use Rattle.log_day.specs.Days.{zones, standard, changes_clock, daylight, offset, midnight, accepted, day_of, day_in_c};
@@ -8,7 +10,7 @@ use answers::{BAD_DAY, DONE};
 use calendar::{Date, DayNumber};
 
 // A day as its start and end, or the number of a refusal.
-#[derive(Drop)]
+#[derive(Clone, Copy)]
 pub enum Day {
     Span(i64, i64),
     Refused(u8),
@@ -16,7 +18,7 @@ pub enum Day {
 
 // A day as C and Rust see it: answer 0 with start and end, or 8.
 #[repr(C)]
-#[derive(Drop)]
+#[derive(Clone, Copy)]
 pub struct LogDay {
     pub answer: u8,
     pub start: i64,

@@ -1,11 +1,13 @@
 // Lookup in a map of either kind. These are the unchecked doors: they check nothing. From map.rs and inclusive_map.rs of rangemap.
 // The kinds differ in two places: whether an end is in its range (`reaching`, of the search), and whether a range from one key to another is
 // empty (`full`, of the keys).
+#![tactic(auto)]
+
 ghost use Rattle.std.specs.Prelude.{◌≡◌, ◌≤◌, length};
 ghost use Rattle.span.specs.Operations.{holds};
 ghost use Rattle.key.specs.Rank.{rank};
 ghost use Rattle.key.specs.Range.{kind_of};
-ghost use Rattle.outcomes.specs.Stored.{stored, ranges, Sound, at_entry_with};
+ghost use Rattle.outcomes.specs.Stored.{stored, ranges, Sound};
 ghost use Rattle.outcomes.specs.Outcomes.{range_at_sound, first_place, lookup_sound, contains_sound, overlaps_sound, overlapping_sound};
 
 use key::{RangeKind, Value, full};
@@ -16,7 +18,7 @@ use store::walk::first_past;
 // The range and the value at a place. The kind of range is no matter here.
 pub fn range_at(count: usize, starts: &[i64], ends: &[i64], values: &[Value], place: usize) -> Found
     requires { (count ≤ length starts.now) × (count ≤ length ends.now) × (count ≤ length values.now) }
-    ensures { result ≡ range_at_sound (at_entry_with count starts ends values) place }
+    ensures { result ≡ range_at_sound (stored count starts.now ends.now values.now) place }
 {
     if place >= count {
         return Found::Nothing;
@@ -34,7 +36,7 @@ fn place_of(
     key: i64,
 ) -> usize
     requires { Sound (kind_of kind) (stored count starts.now ends.now values.now) }
-    ensures { result ≡ first_place (holds (rank key)) (ranges (kind_of kind) (at_entry_with count starts ends values)) }
+    ensures { result ≡ first_place (holds (rank key)) (ranges (kind_of kind) (stored count starts.now ends.now values.now)) }
 {
     let place = reaching(kind, ends, count, key);
     if count <= place {
@@ -56,7 +58,7 @@ pub fn get_key_value(
     key: i64,
 ) -> Found
     requires { Sound (kind_of kind) (stored count starts.now ends.now values.now) }
-    ensures { result ≡ lookup_sound (kind_of kind) (at_entry_with count starts ends values) key }
+    ensures { result ≡ lookup_sound (kind_of kind) (stored count starts.now ends.now values.now) key }
 {
     let place = place_of(kind, count, starts, ends, values, key);
     range_at(count, starts, ends, values, place)
@@ -72,7 +74,7 @@ pub fn contains_key(
     key: i64,
 ) -> Asked
     requires { Sound (kind_of kind) (stored count starts.now ends.now values.now) }
-    ensures { result ≡ contains_sound (kind_of kind) (at_entry_with count starts ends values) key }
+    ensures { result ≡ contains_sound (kind_of kind) (stored count starts.now ends.now values.now) key }
 {
     if place_of(kind, count, starts, ends, values, key) < count {
         return Asked::Yes;
@@ -91,7 +93,7 @@ pub fn overlaps(
     end: i64,
 ) -> Asked
     requires { Sound (kind_of kind) (stored count starts.now ends.now values.now) }
-    ensures { result ≡ overlaps_sound (kind_of kind) (at_entry_with count starts ends values) start end }
+    ensures { result ≡ overlaps_sound (kind_of kind) (stored count starts.now ends.now values.now) start end }
 {
     if !full(kind, start, end) {
         return Asked::Refused(answers::EMPTY_RANGE);
@@ -118,7 +120,7 @@ pub fn overlapping(
     end: i64,
 ) -> Part
     requires { Sound (kind_of kind) (stored count starts.now ends.now values.now) }
-    ensures { result ≡ overlapping_sound (kind_of kind) (at_entry_with count starts ends values) start end }
+    ensures { result ≡ overlapping_sound (kind_of kind) (stored count starts.now ends.now values.now) start end }
 {
     if !full(kind, start, end) {
         return Part::Refused(answers::EMPTY_RANGE);

@@ -1,8 +1,9 @@
 // Module 2: the half-open map, from map.rs of rangemap. The exported functions, for C and Rust, are here: each lends all the fields of
 // its map to a function of `map_abi`, which answers in numbers, or of `map_ops` where that does. Rattle callers use `map_ops`.
-ghost use Rattle.lent.specs.Moments.{was, becomes};
+#![tactic(auto)]
+
 ghost use Rattle.key.specs.Range.{half_open};
-ghost use Rattle.outcomes.specs.Stored.{Sound};
+ghost use Rattle.outcomes.specs.Stored.{Sound, stored};
 ghost use Rattle.map.specs.Map.{held};
 ghost use Rattle.map.specs.Promises.{RangeMapNew, RangeMapIsEmpty, RangeMapLen, RangeMapRangeAt, RangeMapFirstRangeValue, RangeMapLastRangeValue};
 ghost use Rattle.map.specs.Promises.{RangeMapGetKeyValue, RangeMapContainsKey, RangeMapOverlaps, RangeMapOverlapping, RangeMapGaps, RangeMapEq};
@@ -41,7 +42,7 @@ pub extern "C" fn range_map_new() -> RangeMap
 // Whether nothing is held.
 #[unsafe(no_mangle)]
 pub extern "C" fn range_map_is_empty(m: &RangeMap) -> Told
-    ensures { RangeMapIsEmpty (was m) result }
+    ensures { RangeMapIsEmpty m.now result }
 {
     map_abi::is_empty(KIND, &m.count, &m.starts, &m.ends, &m.values)
 }
@@ -49,7 +50,7 @@ pub extern "C" fn range_map_is_empty(m: &RangeMap) -> Told
 // How many ranges are held.
 #[unsafe(no_mangle)]
 pub extern "C" fn range_map_len(m: &RangeMap) -> Count
-    ensures { RangeMapLen (was m) result }
+    ensures { RangeMapLen m.now result }
 {
     map_abi::len(KIND, &m.count, &m.starts, &m.ends, &m.values)
 }
@@ -57,7 +58,7 @@ pub extern "C" fn range_map_len(m: &RangeMap) -> Count
 // The range and the value at a place.
 #[unsafe(no_mangle)]
 pub extern "C" fn range_map_range_at(m: &RangeMap, place: usize) -> Range
-    ensures { RangeMapRangeAt (was m) place result }
+    ensures { RangeMapRangeAt m.now place result }
 {
     map_abi::range_at(KIND, &m.count, &m.starts, &m.ends, &m.values, place)
 }
@@ -65,7 +66,7 @@ pub extern "C" fn range_map_range_at(m: &RangeMap, place: usize) -> Range
 // The first range and its value.
 #[unsafe(no_mangle)]
 pub extern "C" fn range_map_first_range_value(m: &RangeMap) -> Range
-    ensures { RangeMapFirstRangeValue (was m) result }
+    ensures { RangeMapFirstRangeValue m.now result }
 {
     map_abi::first_range_value(KIND, &m.count, &m.starts, &m.ends, &m.values)
 }
@@ -73,7 +74,7 @@ pub extern "C" fn range_map_first_range_value(m: &RangeMap) -> Range
 // The last range and its value.
 #[unsafe(no_mangle)]
 pub extern "C" fn range_map_last_range_value(m: &RangeMap) -> Range
-    ensures { RangeMapLastRangeValue (was m) result }
+    ensures { RangeMapLastRangeValue m.now result }
 {
     map_abi::last_range_value(KIND, &m.count, &m.starts, &m.ends, &m.values)
 }
@@ -81,7 +82,7 @@ pub extern "C" fn range_map_last_range_value(m: &RangeMap) -> Range
 // The range that holds the key, and its value.
 #[unsafe(no_mangle)]
 pub extern "C" fn range_map_get_key_value(m: &RangeMap, key: i64) -> Range
-    ensures { RangeMapGetKeyValue (was m) key result }
+    ensures { RangeMapGetKeyValue m.now key result }
 {
     map_abi::get_key_value(KIND, &m.count, &m.starts, &m.ends, &m.values, key)
 }
@@ -89,7 +90,7 @@ pub extern "C" fn range_map_get_key_value(m: &RangeMap, key: i64) -> Range
 // Whether some range holds the key.
 #[unsafe(no_mangle)]
 pub extern "C" fn range_map_contains_key(m: &RangeMap, key: i64) -> Told
-    ensures { RangeMapContainsKey (was m) key result }
+    ensures { RangeMapContainsKey m.now key result }
 {
     map_abi::contains_key(KIND, &m.count, &m.starts, &m.ends, &m.values, key)
 }
@@ -97,7 +98,7 @@ pub extern "C" fn range_map_contains_key(m: &RangeMap, key: i64) -> Told
 // Whether some range has a key of the query.
 #[unsafe(no_mangle)]
 pub extern "C" fn range_map_overlaps(m: &RangeMap, start: i64, end: i64) -> Told
-    ensures { RangeMapOverlaps (was m) start end result }
+    ensures { RangeMapOverlaps m.now start end result }
 {
     map_abi::overlaps(KIND, &m.count, &m.starts, &m.ends, &m.values, start, end)
 }
@@ -105,7 +106,7 @@ pub extern "C" fn range_map_overlaps(m: &RangeMap, start: i64, end: i64) -> Told
 // Which consecutive stored part meets the query.
 #[unsafe(no_mangle)]
 pub extern "C" fn range_map_overlapping(m: &RangeMap, start: i64, end: i64) -> Stretch
-    ensures { RangeMapOverlapping (was m) start end result }
+    ensures { RangeMapOverlapping m.now start end result }
 {
     map_abi::overlapping(KIND, &m.count, &m.starts, &m.ends, &m.values, start, end)
 }
@@ -119,7 +120,7 @@ pub extern "C" fn range_map_gaps(
     out_starts: &mut [i64],
     out_ends: &mut [i64],
 ) -> Count
-    ensures { RangeMapGaps (was m) start end (was out_starts) (becomes out_starts) (was out_ends) (becomes out_ends) result }
+    ensures { RangeMapGaps m.now start end out_starts.old out_starts.new out_ends.old out_ends.new result }
 {
     map_abi::gaps(
         KIND, &m.count, &m.starts, &m.ends, &m.values, start, end, out_starts, out_ends,
@@ -129,7 +130,7 @@ pub extern "C" fn range_map_gaps(
 // Whether two maps hold the same ranges with the same values.
 #[unsafe(no_mangle)]
 pub extern "C" fn range_map_eq(a: &RangeMap, b: &RangeMap) -> Told
-    ensures { RangeMapEq (was a) (was b) result }
+    ensures { RangeMapEq a.now b.now result }
 {
     map_abi::eq(
         KIND, &a.count, &a.starts, &a.ends, &a.values, &b.count, &b.starts, &b.ends, &b.values,
@@ -139,7 +140,7 @@ pub extern "C" fn range_map_eq(a: &RangeMap, b: &RangeMap) -> Told
 // Which of two maps comes first: -1, 0 or 1.
 #[unsafe(no_mangle)]
 pub extern "C" fn range_map_cmp(a: &RangeMap, b: &RangeMap) -> Order
-    ensures { RangeMapCmp (was a) (was b) result }
+    ensures { RangeMapCmp a.now b.now result }
 {
     map_abi::cmp(
         KIND, &a.count, &a.starts, &a.ends, &a.values, &b.count, &b.starts, &b.ends, &b.values,
@@ -149,7 +150,7 @@ pub extern "C" fn range_map_cmp(a: &RangeMap, b: &RangeMap) -> Order
 // Gives the value to each instant of start..end and to no other.
 #[unsafe(no_mangle)]
 pub extern "C" fn range_map_insert(m: &mut RangeMap, start: i64, end: i64, value: Value) -> u8
-    ensures { RangeMapInsert (was m) (becomes m) start end value result }
+    ensures { RangeMapInsert m.old m.new start end value result }
 {
     map_abi::insert(
         KIND,
@@ -166,7 +167,7 @@ pub extern "C" fn range_map_insert(m: &mut RangeMap, start: i64, end: i64, value
 // Uncovers exactly the instants of start..end.
 #[unsafe(no_mangle)]
 pub extern "C" fn range_map_remove(m: &mut RangeMap, start: i64, end: i64) -> u8
-    ensures { RangeMapRemove (was m) (becomes m) start end result }
+    ensures { RangeMapRemove m.old m.new start end result }
 {
     map_abi::remove(
         KIND,
@@ -182,7 +183,7 @@ pub extern "C" fn range_map_remove(m: &mut RangeMap, start: i64, end: i64) -> u8
 // Leaves nothing held, whatever the map was.
 #[unsafe(no_mangle)]
 pub extern "C" fn range_map_clear(m: &mut RangeMap)
-    ensures { RangeMapClear (was m) (becomes m) }
+    ensures { RangeMapClear m.old m.new }
 {
     map_ops::change::clear(&mut m.count, &mut m.starts, &mut m.ends, &mut m.values)
 }
@@ -195,7 +196,7 @@ pub extern "C" fn range_map_extend(
     ends: &[i64],
     values: &[Value],
 ) -> Applied
-    ensures { RangeMapExtend (was m) (becomes m) (was starts) (was ends) (was values) result }
+    ensures { RangeMapExtend m.old m.new starts.now ends.now values.now result }
 {
     map_ops::change::bulk::extend(
         KIND,
@@ -212,7 +213,7 @@ pub extern "C" fn range_map_extend(
 // Whether a map is well formed.
 #[unsafe(no_mangle)]
 pub extern "C" fn range_map_well_formed(m: &RangeMap) -> bool
-    ensures { RangeMapWellFormed (was m) result }
+    ensures { RangeMapWellFormed m.now result }
 {
     map_abi::well_formed(KIND, &m.count, &m.starts, &m.ends, &m.values)
 }
@@ -221,7 +222,7 @@ pub extern "C" fn range_map_well_formed(m: &RangeMap) -> bool
 #[unsafe(no_mangle)]
 pub extern "C" fn range_map_get_key_value_unchecked(m: &RangeMap, key: i64) -> Range
     requires { Sound half_open (held m.now) }
-    ensures { RangeMapGetKeyValueUnchecked (was m) key result }
+    ensures { RangeMapGetKeyValueUnchecked m.now key result }
 {
     map_abi::get_key_value_unchecked(KIND, &m.count, &m.starts, &m.ends, &m.values, key)
 }
@@ -236,7 +237,7 @@ pub extern "C" fn range_map_gaps_unchecked(
     out_ends: &mut [i64],
 ) -> Count
     requires { Sound half_open (held m.now) }
-    ensures { RangeMapGapsUnchecked (was m) start end (was out_starts) (becomes out_starts) (was out_ends) (becomes out_ends) result }
+    ensures { RangeMapGapsUnchecked m.now start end out_starts.old out_starts.new out_ends.old out_ends.new result }
 {
     map_abi::gaps_unchecked(
         KIND, &m.count, &m.starts, &m.ends, &m.values, start, end, out_starts, out_ends,
@@ -252,7 +253,7 @@ pub extern "C" fn range_map_insert_unchecked(
     value: Value,
 ) -> u8
     requires { Sound half_open (held m.old) }
-    ensures { RangeMapInsertUnchecked (was m) (becomes m) start end value result }
+    ensures { RangeMapInsertUnchecked m.old m.new start end value result }
 {
     map_abi::insert_unchecked(
         KIND,
@@ -270,7 +271,7 @@ pub extern "C" fn range_map_insert_unchecked(
 #[unsafe(no_mangle)]
 pub extern "C" fn range_map_remove_unchecked(m: &mut RangeMap, start: i64, end: i64) -> u8
     requires { Sound half_open (held m.old) }
-    ensures { RangeMapRemoveUnchecked (was m) (becomes m) start end result }
+    ensures { RangeMapRemoveUnchecked m.old m.new start end result }
 {
     map_abi::remove_unchecked(
         KIND,

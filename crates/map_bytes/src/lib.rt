@@ -1,5 +1,6 @@
 // The byte form of a `RangeMap`: the exported functions, for C and Rust. Each lends all the fields of its map to the writer or to the reader.
-ghost use Rattle.lent.specs.Moments.{was, becomes};
+#![tactic(auto)]
+
 ghost use Rattle.map_bytes.specs.Promises.{RangeMapWrite, RangeMapRead};
 
 use map::RangeMap;
@@ -8,7 +9,7 @@ use outcomes::Count;
 // Writes the form of the map into the first places of a lent output, and tells its length.
 #[unsafe(no_mangle)]
 pub extern "C" fn range_map_write(m: &RangeMap, out: &mut [u8]) -> Count
-    ensures { RangeMapWrite (was m) (was out) (becomes out) result }
+    ensures { RangeMapWrite m.now out.old out.new result }
 {
     byte_io::write::write_number(&m.count, &m.starts, &m.ends, &m.values, out)
 }
@@ -16,7 +17,7 @@ pub extern "C" fn range_map_write(m: &RangeMap, out: &mut [u8]) -> Count
 // Reads the map whose form the bytes are. It overwrites the map, so it does not check it.
 #[unsafe(no_mangle)]
 pub extern "C" fn range_map_read(m: &mut RangeMap, bytes: &[u8]) -> u8
-    ensures { RangeMapRead (was m) (becomes m) (was bytes) result }
+    ensures { RangeMapRead m.old m.new bytes.now result }
 {
     byte_io::read::read(
         &mut m.count,

@@ -8,7 +8,7 @@ pub mod bulk;
 
 ghost use Rattle.std.specs.Prelude.{◌≡◌};
 ghost use Rattle.key.specs.Range.{Kind, kind_of};
-ghost use Rattle.outcomes.specs.Stored.{lent, at_entry, at_exit};
+ghost use Rattle.outcomes.specs.Stored.{stored};
 ghost use Rattle.outcomes.specs.Outcomes.{clear, insert, remove};
 ghost use Rattle.outcomes.specs.InnerOutcome.{Leaves};
 
@@ -23,8 +23,8 @@ pub fn insert(
     end: i64,
     value: Value,
 ) -> Outcome
-    ensures { Leaves result (at_exit count starts ends values)
-        (insert (kind_of kind) (at_entry count starts ends values) start end value) }
+    ensures { Leaves result (stored count.new starts.new ends.new values.new)
+        (insert (kind_of kind) (stored count.old starts.old ends.old values.old) start end value) }
 {
     if !well_formed(kind, *count, starts, ends, values) {
         return Outcome::Refused(NOT_FORMED);
@@ -42,8 +42,8 @@ pub fn remove(
     start: i64,
     end: i64,
 ) -> Outcome
-    ensures { Leaves result (at_exit count starts ends values)
-        (remove (kind_of kind) (at_entry count starts ends values) start end) }
+    ensures { Leaves result (stored count.new starts.new ends.new values.new)
+        (remove (kind_of kind) (stored count.old starts.old ends.old values.old) start end) }
 {
     if !well_formed(kind, *count, starts, ends, values) {
         return Outcome::Refused(NOT_FORMED);
@@ -58,7 +58,7 @@ pub fn clear(
     ends: &mut [i64; PLACES],
     values: &mut [Value; PLACES],
 )
-    ensures { (k : Kind) → at_exit count starts ends values ≡ clear k }
+    ensures { (k : Kind) → stored count.new starts.new ends.new values.new ≡ clear k }
 {
     *count = 0;
     splice::clear_keys(starts, 0, PLACES);

@@ -1,9 +1,8 @@
 // What a map holds at a key and over a range, over all its fields, for either kind: the check of the lent map, and then the unchecked door.
 // Any map is taken.
 ghost use Rattle.std.specs.Prelude.{◌≡◌};
-ghost use Rattle.lent.specs.Moments.{was, becomes};
 ghost use Rattle.key.specs.Range.{kind_of};
-ghost use Rattle.outcomes.specs.Stored.{lent, at_entry};
+ghost use Rattle.outcomes.specs.Stored.{stored};
 ghost use Rattle.outcomes.specs.Outcomes.{contains, gaps, lookup, overlaps, overlapping};
 ghost use Rattle.range_list.specs.InnerLists.{wrote};
 
@@ -21,7 +20,7 @@ pub fn get_key_value(
     values: &[Value; PLACES],
     key: i64,
 ) -> Found
-    ensures { result ≡ lookup (kind_of kind) (at_entry count starts ends values) key }
+    ensures { result ≡ lookup (kind_of kind) (stored count.now starts.now ends.now values.now) key }
 {
     if !well_formed(kind, *count, starts, ends, values) {
         return Found::Refused(NOT_FORMED);
@@ -38,7 +37,7 @@ pub fn contains_key(
     values: &[Value; PLACES],
     key: i64,
 ) -> Asked
-    ensures { result ≡ contains (kind_of kind) (at_entry count starts ends values) key }
+    ensures { result ≡ contains (kind_of kind) (stored count.now starts.now ends.now values.now) key }
 {
     if !well_formed(kind, *count, starts, ends, values) {
         return Asked::Refused(NOT_FORMED);
@@ -56,7 +55,7 @@ pub fn overlaps(
     start: i64,
     end: i64,
 ) -> Asked
-    ensures { result ≡ overlaps (kind_of kind) (at_entry count starts ends values) start end }
+    ensures { result ≡ overlaps (kind_of kind) (stored count.now starts.now ends.now values.now) start end }
 {
     if !well_formed(kind, *count, starts, ends, values) {
         return Asked::Refused(NOT_FORMED);
@@ -74,7 +73,7 @@ pub fn overlapping(
     start: i64,
     end: i64,
 ) -> Part
-    ensures { result ≡ overlapping (kind_of kind) (at_entry count starts ends values) start end }
+    ensures { result ≡ overlapping (kind_of kind) (stored count.now starts.now ends.now values.now) start end }
 {
     if !well_formed(kind, *count, starts, ends, values) {
         return Part::Refused(NOT_FORMED);
@@ -94,8 +93,8 @@ pub fn gaps(
     out_starts: &mut [i64],
     out_ends: &mut [i64],
 ) -> Counted
-    ensures { wrote result (becomes out_starts) (becomes out_ends)
-        ≡ gaps (kind_of kind) (at_entry count starts ends values) start end (was out_starts) (was out_ends) }
+    ensures { wrote result out_starts.new out_ends.new
+        ≡ gaps (kind_of kind) (stored count.now starts.now ends.now values.now) start end out_starts.old out_ends.old }
 {
     if !well_formed(kind, *count, starts, ends, values) {
         return Counted::Refused(NOT_FORMED);

@@ -1,7 +1,7 @@
 // What a map holds as a list, over all its fields, for either kind: the check of the lent map, and then the answer. Any map is taken.
 ghost use Rattle.std.specs.Prelude.{◌≡◌, ◌-◌};
 ghost use Rattle.key.specs.Range.{kind_of};
-ghost use Rattle.outcomes.specs.Stored.{lent, at_entry};
+ghost use Rattle.outcomes.specs.Stored.{stored};
 ghost use Rattle.outcomes.specs.Outcomes.{count_of, equal, first_of, is_empty, last_of, order, range_at};
 
 use answers::NOT_FORMED;
@@ -27,7 +27,7 @@ pub fn is_empty(
     ends: &[i64; PLACES],
     values: &[Value; PLACES],
 ) -> Asked
-    ensures { result ≡ is_empty (kind_of kind) (at_entry count starts ends values) }
+    ensures { result ≡ is_empty (kind_of kind) (stored count.now starts.now ends.now values.now) }
 {
     if !well_formed(kind, *count, starts, ends, values) {
         return Asked::Refused(NOT_FORMED);
@@ -46,7 +46,7 @@ pub fn len(
     ends: &[i64; PLACES],
     values: &[Value; PLACES],
 ) -> Counted
-    ensures { result ≡ count_of (kind_of kind) (at_entry count starts ends values) }
+    ensures { result ≡ count_of (kind_of kind) (stored count.now starts.now ends.now values.now) }
 {
     if !well_formed(kind, *count, starts, ends, values) {
         return Counted::Refused(NOT_FORMED);
@@ -63,7 +63,7 @@ pub fn range_at(
     values: &[Value; PLACES],
     place: usize,
 ) -> Found
-    ensures { result ≡ range_at (kind_of kind) (at_entry count starts ends values) place }
+    ensures { result ≡ range_at (kind_of kind) (stored count.now starts.now ends.now values.now) place }
 {
     if !well_formed(kind, *count, starts, ends, values) {
         return Found::Refused(NOT_FORMED);
@@ -79,7 +79,7 @@ pub fn first_range_value(
     ends: &[i64; PLACES],
     values: &[Value; PLACES],
 ) -> Found
-    ensures { result ≡ first_of (kind_of kind) (at_entry count starts ends values) }
+    ensures { result ≡ first_of (kind_of kind) (stored count.now starts.now ends.now values.now) }
 {
     if !well_formed(kind, *count, starts, ends, values) {
         return Found::Refused(NOT_FORMED);
@@ -95,7 +95,7 @@ pub fn last_range_value(
     ends: &[i64; PLACES],
     values: &[Value; PLACES],
 ) -> Found
-    ensures { result ≡ last_of (kind_of kind) (at_entry count starts ends values) }
+    ensures { result ≡ last_of (kind_of kind) (stored count.now starts.now ends.now values.now) }
 {
     if !well_formed(kind, *count, starts, ends, values) {
         return Found::Refused(NOT_FORMED);
@@ -115,7 +115,7 @@ pub fn cmp(
     ends2: &[i64; PLACES],
     values2: &[Value; PLACES],
 ) -> Compared
-    ensures { result ≡ order (kind_of kind) (at_entry count starts ends values) (at_entry count2 starts2 ends2 values2) }
+    ensures { result ≡ order (kind_of kind) (stored count.now starts.now ends.now values.now) (stored count2.now starts2.now ends2.now values2.now) }
 {
     if !well_formed(kind, *count, starts, ends, values) {
         return Compared::Refused(NOT_FORMED);
@@ -140,7 +140,7 @@ pub fn eq(
     ends2: &[i64; PLACES],
     values2: &[Value; PLACES],
 ) -> Asked
-    ensures { result ≡ equal (kind_of kind) (at_entry count starts ends values) (at_entry count2 starts2 ends2 values2) }
+    ensures { result ≡ equal (kind_of kind) (stored count.now starts.now ends.now values.now) (stored count2.now starts2.now ends2.now values2.now) }
 {
     outcomes::equal_of(cmp(
         kind, count, starts, ends, values, count2, starts2, ends2, values2,

@@ -1,7 +1,6 @@
 // One instant of a query of two maps.
 ghost use Rattle.std.specs.Prelude.{◌≡◌};
-ghost use Rattle.lent.specs.Moments.{was};
-ghost use Rattle.outcomes.specs.Stored.{at_entry};
+ghost use Rattle.outcomes.specs.Stored.{stored};
 ghost use Rattle.outcomes.specs.Numbers.{asked_in_c};
 ghost use Rattle.query.specs.Answers.{query_at};
 ghost use Rattle.map_query.specs.Promises.{RangeMapQueryAt};
@@ -25,8 +24,8 @@ fn in_numbers(
     bytes: &[u8],
     key: i64,
 ) -> Told
-    ensures { result ≡ asked_in_c (query_at (at_entry count_a starts_a ends_a values_a)
-        (at_entry count_b starts_b ends_b values_b) start end (was bytes) key) }
+    ensures { result ≡ asked_in_c (query_at (stored count_a.now starts_a.now ends_a.now values_a.now)
+        (stored count_b.now starts_b.now ends_b.now values_b.now) start end bytes.now key) }
 {
     told_of(query::instant::query_at(
         count_a, starts_a, ends_a, values_a, count_b, starts_b, ends_b, values_b, start, end,
@@ -45,7 +44,7 @@ pub extern "C" fn range_map_query_at(
     bytes: &[u8],
     key: i64,
 ) -> Told
-    ensures { RangeMapQueryAt (was a) (was b) start end (was bytes) key result }
+    ensures { RangeMapQueryAt a.now b.now start end bytes.now key result }
 {
     in_numbers(
         &a.count, &a.starts, &a.ends, &a.values, &b.count, &b.starts, &b.ends, &b.values, start,

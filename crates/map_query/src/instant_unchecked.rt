@@ -1,8 +1,7 @@
 // The unchecked door of one instant of a query.
 ghost use Rattle.std.specs.Prelude.{◌≡◌};
-ghost use Rattle.lent.specs.Moments.{was};
 ghost use Rattle.key.specs.Range.{half_open};
-ghost use Rattle.outcomes.specs.Stored.{lent, Sound, at_entry};
+ghost use Rattle.outcomes.specs.Stored.{Sound, stored};
 ghost use Rattle.outcomes.specs.Numbers.{asked_in_c};
 ghost use Rattle.map.specs.Map.{held};
 ghost use Rattle.query.specs.Answers.{query_at_sound};
@@ -27,9 +26,9 @@ fn in_numbers(
     bytes: &[u8],
     key: i64,
 ) -> Told
-    requires { Sound half_open (lent count_a starts_a ends_a values_a) × Sound half_open (lent count_b starts_b ends_b values_b) }
-    ensures { result ≡ asked_in_c (query_at_sound (at_entry count_a starts_a ends_a values_a)
-        (at_entry count_b starts_b ends_b values_b) start end (was bytes) key) }
+    requires { Sound half_open (stored count_a.now starts_a.now ends_a.now values_a.now) × Sound half_open (stored count_b.now starts_b.now ends_b.now values_b.now) }
+    ensures { result ≡ asked_in_c (query_at_sound (stored count_a.now starts_a.now ends_a.now values_a.now)
+        (stored count_b.now starts_b.now ends_b.now values_b.now) start end bytes.now key) }
 {
     told_of(query::instant::query_at_unchecked(
         *count_a, starts_a, ends_a, values_a, *count_b, starts_b, ends_b, values_b, start, end,
@@ -48,7 +47,7 @@ pub extern "C" fn range_map_query_at_unchecked(
     key: i64,
 ) -> Told
     requires { Sound half_open (held a.now) × Sound half_open (held b.now) }
-    ensures { RangeMapQueryAtUnchecked (was a) (was b) start end (was bytes) key result }
+    ensures { RangeMapQueryAtUnchecked a.now b.now start end bytes.now key result }
 {
     in_numbers(
         &a.count, &a.starts, &a.ends, &a.values, &b.count, &b.starts, &b.ends, &b.values, start,

@@ -1,6 +1,5 @@
 // The ranges of a query of two maps.
-ghost use Rattle.lent.specs.Moments.{was, becomes};
-ghost use Rattle.outcomes.specs.Stored.{at_entry};
+ghost use Rattle.outcomes.specs.Stored.{stored};
 ghost use Rattle.outcomes.specs.Outcomes.{Listed};
 ghost use Rattle.query.specs.Answers.{query_ranges};
 ghost use Rattle.map_query.specs.Promises.{RangeMapQuery};
@@ -25,10 +24,10 @@ fn in_numbers(
     out_starts: &mut [i64],
     out_ends: &mut [i64],
 ) -> Count
-    ensures { Listed result (becomes out_starts) (becomes out_ends)
-        (query_ranges (at_entry count_a starts_a ends_a values_a)
-        (at_entry count_b starts_b ends_b values_b) start end (was bytes)
-        (was out_starts) (was out_ends)) }
+    ensures { Listed result out_starts.new out_ends.new
+        (query_ranges (stored count_a.now starts_a.now ends_a.now values_a.now)
+        (stored count_b.now starts_b.now ends_b.now values_b.now) start end bytes.now
+        out_starts.old out_ends.old) }
 {
     count_of(query::ranges::query(
         count_a, starts_a, ends_a, values_a, count_b, starts_b, ends_b, values_b, start, end,
@@ -48,7 +47,7 @@ pub extern "C" fn range_map_query(
     out_starts: &mut [i64],
     out_ends: &mut [i64],
 ) -> Count
-    ensures { RangeMapQuery (was a) (was b) start end (was bytes) (was out_starts) (becomes out_starts) (was out_ends) (becomes out_ends) result }
+    ensures { RangeMapQuery a.now b.now start end bytes.now out_starts.old out_starts.new out_ends.old out_ends.new result }
 {
     in_numbers(
         &a.count, &a.starts, &a.ends, &a.values, &b.count, &b.starts, &b.ends, &b.values, start,

@@ -1,7 +1,6 @@
 // The unchecked door of the ranges of a query.
-ghost use Rattle.lent.specs.Moments.{was, becomes};
 ghost use Rattle.key.specs.Range.{half_open};
-ghost use Rattle.outcomes.specs.Stored.{lent, Sound, at_entry};
+ghost use Rattle.outcomes.specs.Stored.{Sound, stored};
 ghost use Rattle.outcomes.specs.Outcomes.{Listed};
 ghost use Rattle.map.specs.Map.{held};
 ghost use Rattle.query.specs.Answers.{query_ranges_sound};
@@ -27,11 +26,11 @@ fn in_numbers(
     out_starts: &mut [i64],
     out_ends: &mut [i64],
 ) -> Count
-    requires { Sound half_open (lent count_a starts_a ends_a values_a) × Sound half_open (lent count_b starts_b ends_b values_b) }
-    ensures { Listed result (becomes out_starts) (becomes out_ends)
-        (query_ranges_sound (at_entry count_a starts_a ends_a values_a)
-        (at_entry count_b starts_b ends_b values_b) start end (was bytes)
-        (was out_starts) (was out_ends)) }
+    requires { Sound half_open (stored count_a.now starts_a.now ends_a.now values_a.now) × Sound half_open (stored count_b.now starts_b.now ends_b.now values_b.now) }
+    ensures { Listed result out_starts.new out_ends.new
+        (query_ranges_sound (stored count_a.now starts_a.now ends_a.now values_a.now)
+        (stored count_b.now starts_b.now ends_b.now values_b.now) start end bytes.now
+        out_starts.old out_ends.old) }
 {
     count_of(query::ranges::query_unchecked(
         *count_a, starts_a, ends_a, values_a, *count_b, starts_b, ends_b, values_b, start, end,
@@ -51,8 +50,8 @@ pub extern "C" fn range_map_query_unchecked(
     out_ends: &mut [i64],
 ) -> Count
     requires { Sound half_open (held a.now) × Sound half_open (held b.now) }
-    ensures { RangeMapQueryUnchecked (was a) (was b) start end (was bytes) (was out_starts) (becomes out_starts) (was out_ends)
-        (becomes out_ends) result }
+    ensures { RangeMapQueryUnchecked a.now b.now start end bytes.now out_starts.old out_starts.new out_ends.old
+        out_ends.new result }
 {
     in_numbers(
         &a.count, &a.starts, &a.ends, &a.values, &b.count, &b.starts, &b.ends, &b.values, start,

@@ -1,5 +1,4 @@
 // The unchecked door of a day's report.
-ghost use Rattle.lent.specs.Moments.{was};
 ghost use Rattle.map.specs.Map.{held};
 ghost use Rattle.key.specs.Range.{half_open};
 ghost use Rattle.outcomes.specs.Stored.{Sound};
@@ -18,7 +17,7 @@ pub extern "C" fn range_map_day_report_unchecked(
     day: u8,
 ) -> DayReport
     requires { Sound half_open (held m.now) }
-    ensures { RangeMapDayReportUnchecked (was m) zone year month day result }
+    ensures { RangeMapDayReportUnchecked m.now zone year month day result }
 {
     report::day_report_unchecked(
         &m.count, &m.starts, &m.ends, &m.values, zone, year, month, day,

@@ -1,6 +1,7 @@
 // A day's report of a map, for C and Rust. Each exported function has a file of its own, so that each line of code stands once in its file and a wrong one
 // can be tried.
-ghost use Rattle.lent.specs.Moments.{was};
+#![tactic(auto)]
+
 ghost use Rattle.map_report.specs.Promises.{RangeMapDayReport};
 
 use map::RangeMap;
@@ -17,7 +18,7 @@ pub extern "C" fn range_map_day_report(
     month: u8,
     day: u8,
 ) -> DayReport
-    ensures { RangeMapDayReport (was m) zone year month day result }
+    ensures { RangeMapDayReport m.now zone year month day result }
 {
     report::day_report(
         &m.count, &m.starts, &m.ends, &m.values, zone, year, month, day,

@@ -1,10 +1,11 @@
 // Module 4: the operations on two sets, from operations.rs of rangemap. They differ in their walk alone (crates `intersection` and `union`).
 // Nothing is written before it is known that the lent lists are long enough; the ranges are counted for that only where there may be too many.
+#![tactic(auto)]
+
 ghost use Rattle.std.specs.Prelude.{◌≡◌, ◌≤◌, length};
-ghost use Rattle.lent.specs.Moments.{was, becomes};
 ghost use Rattle.key.specs.InnerDecides.{Decides};
 ghost use Rattle.key.specs.Range.{kind_of};
-ghost use Rattle.outcomes.specs.Stored.{lent, stored, at_entry, at_entry_with};
+ghost use Rattle.outcomes.specs.Stored.{stored};
 ghost use Rattle.outcomes.specs.Sets.{SoundSet};
 ghost use Rattle.range_list.specs.InnerLists.{wrote, ListRoom};
 ghost use Rattle.two_sets.specs.InnerSides.{Side};
@@ -18,7 +19,7 @@ use range_list::shorter;
 use two_sets::{are_sets, roomy};
 
 // The operations: what two sets have in common, and what either has.
-#[derive(Drop)]
+#[derive(Clone, Copy)]
 pub enum Operation {
     Intersection,
     Union,
@@ -37,8 +38,8 @@ fn counted(
 ) -> usize
     requires { Side (kind_of kind) starts_a.now ends_a.now count_a
         × Side (kind_of kind) starts_b.now ends_b.now count_b }
-    ensures { result ≡ length (found_by operation kind (was starts_a) (was ends_a) count_a
-        (was starts_b) (was ends_b) count_b) }
+    ensures { result ≡ length (found_by operation kind starts_a.now ends_a.now count_a
+        starts_b.now ends_b.now count_b) }
 {
     match operation {
         Operation::Intersection => intersection::counted(
@@ -67,9 +68,9 @@ fn write(
         × Side (kind_of kind) starts_b.now ends_b.now count_b
         × ListRoom 0 (found_by operation kind starts_a.now ends_a.now count_a starts_b.now ends_b.now count_b)
         out_starts.old out_ends.old }
-    ensures { Ended (kind_of kind) 0 (found_by operation kind (was starts_a) (was ends_a) count_a
-        (was starts_b) (was ends_b) count_b)
-        (was out_starts) (was out_ends) result (becomes out_starts) (becomes out_ends) }
+    ensures { Ended (kind_of kind) 0 (found_by operation kind starts_a.now ends_a.now count_a
+        starts_b.now ends_b.now count_b)
+        out_starts.old out_ends.old result out_starts.new out_ends.new }
 {
     match operation {
         Operation::Intersection => intersection::write(
@@ -95,8 +96,8 @@ fn fits(
 ) -> bool
     requires { Side (kind_of kind) starts_a.now ends_a.now count_a
         × Side (kind_of kind) starts_b.now ends_b.now count_b }
-    ensures { Decides result (length (found_by operation kind (was starts_a) (was ends_a) count_a
-        (was starts_b) (was ends_b) count_b) ≤ room) }
+    ensures { Decides result (length (found_by operation kind starts_a.now ends_a.now count_a
+        starts_b.now ends_b.now count_b) ≤ room) }
 {
     if roomy(count_a, count_b, room) {
         return true;
@@ -127,10 +128,10 @@ pub fn combine_unchecked(
 ) -> Counted
     requires { SoundSet (kind_of kind) (stored count_a starts_a.now ends_a.now values_a.now)
         × SoundSet (kind_of kind) (stored count_b starts_b.now ends_b.now values_b.now) }
-    ensures { wrote result (becomes out_starts) (becomes out_ends) ≡ combined operation (kind_of kind)
-        (at_entry_with count_a starts_a ends_a values_a)
-        (at_entry_with count_b starts_b ends_b values_b)
-        (was out_starts) (was out_ends) }
+    ensures { wrote result out_starts.new out_ends.new ≡ combined operation (kind_of kind)
+        (stored count_a starts_a.now ends_a.now values_a.now)
+        (stored count_b starts_b.now ends_b.now values_b.now)
+        out_starts.old out_ends.old }
 {
     let room = shorter(out_starts.len(), out_ends.len());
     if !fits(
@@ -159,10 +160,10 @@ pub fn combine(
     out_starts: &mut [i64],
     out_ends: &mut [i64],
 ) -> Counted
-    ensures { wrote result (becomes out_starts) (becomes out_ends) ≡ combined_any operation (kind_of kind)
-        (at_entry count_a starts_a ends_a values_a)
-        (at_entry count_b starts_b ends_b values_b)
-        (was out_starts) (was out_ends) }
+    ensures { wrote result out_starts.new out_ends.new ≡ combined_any operation (kind_of kind)
+        (stored count_a.now starts_a.now ends_a.now values_a.now)
+        (stored count_b.now starts_b.now ends_b.now values_b.now)
+        out_starts.old out_ends.old }
 {
     if !are_sets(
         kind, *count_a, starts_a, ends_a, values_a, *count_b, starts_b, ends_b, values_b,

@@ -1,7 +1,5 @@
 -- Document 01, Domain: what a map stores, the ranges that it holds, and when it is well formed. `kind` is `half_open` or `inclusive`.
 use Rattle.std.specs.Prelude.{ℕ, ◌-◌, ◌≤◌, ◌≡◌, Bool, true, false, ◌&&◌, List, [], ◌∷◌, ◌++◌, map, eqb, leb, length, get_or, take, drop, replicate, ℤ, pos, negsuc}
-use Rattle.std.specs.Borrow.{Bor}
-use denote.Triple.Both.{Both}
 use Rattle.std.specs.Int.{w64}
 use Rattle.std.proofs.Common.{SFits}
 use Rattle.span.specs.Span.{Span, tidy}
@@ -21,22 +19,6 @@ pub record Stored : Type 0 where
 
 abbrev pub stored : ℕ → List ℤ → List ℤ → List ℕ → Stored
 stored n ss es vs = record { count = n; starts = ss; ends = es; values = vs }
-
--- the same, from the references to the parts: what a core's contract says of the map that it is lent
-abbrev pub lent : Bor ℕ → Bor (List ℤ) → Bor (List ℤ) → Bor (List ℕ) → Stored
-lent n ss es vs = stored n.now ss.now es.now vs.now
-
--- the map that a function is lent, at its entry and at its exit; where its count is no reference but a number, at its entry
-module _ {A B C D : Type 0} where
-  abbrev pub at_entry : Both (Bor ℕ) A → Both (Bor (List ℤ)) B → Both (Bor (List ℤ)) C → Both (Bor (List ℕ)) D → Stored
-  at_entry n ss es vs = lent n.entry ss.entry es.entry vs.entry
-
-  abbrev pub at_exit : Both A (Bor ℕ) → Both B (Bor (List ℤ)) → Both C (Bor (List ℤ)) → Both D (Bor (List ℕ)) → Stored
-  at_exit n ss es vs = lent n.exit ss.exit es.exit vs.exit
-
-module _ {B C D : Type 0} where
-  abbrev pub at_entry_with : ℕ → Both (Bor (List ℤ)) B → Both (Bor (List ℤ)) C → Both (Bor (List ℕ)) D → Stored
-  at_entry_with n ss es vs = stored n ss.entry.now es.entry.now vs.entry.now
 
 -- the ranges of three lists, place by place, as spans
 unfoldable pub spans : Kind → List ℤ → List ℤ → List ℕ → List Span

@@ -1,5 +1,7 @@
 // What the functions of a map answer. Inside, an answer is an enum whose refusing case holds the number of document 01's table;
 // C and Rust see it as a struct of numbers. Both kinds of map, and the sets, share them.
+#![tactic(auto)]
+
 ghost use Rattle.std.specs.Prelude.{◌≡◌};
 ghost use Rattle.outcomes.specs.Stored.{places};
 ghost use Rattle.outcomes.specs.Numbers.{asked_in_c, counted_in_c, found_in_c, part_in_c, compared_in_c, equal_of, totalled_in_c};
@@ -19,7 +21,7 @@ pub fn places_of() -> usize
 }
 
 // Yes or no.
-#[derive(Drop)]
+#[derive(Clone, Copy)]
 pub enum Asked {
     Yes,
     No,
@@ -27,28 +29,28 @@ pub enum Asked {
 }
 
 #[repr(C)]
-#[derive(Drop)]
+#[derive(Clone, Copy)]
 pub struct Told {
     pub answer: u8,
     pub yes: bool,
 }
 
 // How many.
-#[derive(Drop)]
+#[derive(Clone, Copy)]
 pub enum Counted {
     Count(usize),
     Refused(u8),
 }
 
 #[repr(C)]
-#[derive(Drop)]
+#[derive(Clone, Copy)]
 pub struct Count {
     pub answer: u8,
     pub count: usize,
 }
 
 // A stored range and its value, or that there is none.
-#[derive(Drop)]
+#[derive(Clone, Copy)]
 pub enum Found {
     Range(i64, i64, Value),
     Nothing,
@@ -56,7 +58,7 @@ pub enum Found {
 }
 
 #[repr(C)]
-#[derive(Drop)]
+#[derive(Clone, Copy)]
 pub struct Range {
     pub answer: u8,
     pub start: i64,
@@ -65,14 +67,14 @@ pub struct Range {
 }
 
 // A consecutive part of the places: the first, and how many.
-#[derive(Drop)]
+#[derive(Clone, Copy)]
 pub enum Part {
     Places(usize, usize),
     Refused(u8),
 }
 
 #[repr(C)]
-#[derive(Drop)]
+#[derive(Clone, Copy)]
 pub struct Stretch {
     pub answer: u8,
     pub place: usize,
@@ -80,7 +82,7 @@ pub struct Stretch {
 }
 
 // How two maps compare.
-#[derive(Drop)]
+#[derive(Clone, Copy)]
 pub enum Compared {
     Less,
     Equal,
@@ -89,28 +91,28 @@ pub enum Compared {
 }
 
 #[repr(C)]
-#[derive(Drop)]
+#[derive(Clone, Copy)]
 pub struct Order {
     pub answer: u8,
     pub order: i8,
 }
 
 // How many keys a set covers.
-#[derive(Drop)]
+#[derive(Clone, Copy)]
 pub enum Totalled {
     Total(u64),
     Refused(u8),
 }
 
 #[repr(C)]
-#[derive(Drop)]
+#[derive(Clone, Copy)]
 pub struct Total {
     pub answer: u8,
     pub total: u64,
 }
 
 // How an edit went.
-#[derive(Drop)]
+#[derive(Clone, Copy)]
 pub enum Outcome {
     Done,
     Refused(u8),
@@ -118,7 +120,7 @@ pub enum Outcome {
 
 // How a list of edits went: the first refusal, or 0, and how many were applied before it.
 #[repr(C)]
-#[derive(Drop)]
+#[derive(Clone, Copy)]
 pub struct Applied {
     pub answer: u8,
     pub applied: usize,

@@ -20,10 +20,10 @@ pub fn are_formed(
     ends_b: &[i64; PLACES],
     values_b: &[Value; PLACES],
 ) -> bool
-    ensures value { result ≡ (formed half_open (columns count_a starts_a.entry ends_a.entry values_a.entry)
-        && formed half_open (columns count_b starts_b.entry ends_b.entry values_b.entry)) }
-    ensures sound { result ≡ true → Sound half_open (columns count_a starts_a.entry ends_a.entry values_a.entry)
-        × Sound half_open (columns count_b starts_b.entry ends_b.entry values_b.entry) }
+    ensures value { result ≡ (formed half_open (columns count_a starts_a ends_a values_a)
+        && formed half_open (columns count_b starts_b ends_b values_b)) }
+    ensures sound { result ≡ true → Sound half_open (columns count_a starts_a ends_a values_a)
+        × Sound half_open (columns count_b starts_b ends_b values_b) }
 {
     if !well_formed(RangeKind::HalfOpen, count_a, starts_a, ends_a, values_a) {
         return false;

@@ -1,9 +1,8 @@
 // ONE INSTANT of a query: whether it is in the result.
 ghost use Rattle.std.specs.Prelude.{◌≡◌, ◌<◌};
-ghost use Rattle.lent.specs.Moments.{was};
 ghost use Rattle.key.specs.Rank.{rank};
 ghost use Rattle.key.specs.Range.{half_open};
-ghost use Rattle.outcomes.specs.Stored.{Sound, at_entry};
+ghost use Rattle.outcomes.specs.Stored.{Sound, stored};
 ghost use Rattle.outcomes.specs.Outcomes.{yes_no};
 ghost use Rattle.query.specs.InnerWalk.{says_at};
 ghost use Rattle.query.specs.InnerColumns.{columns, spans_of};
@@ -33,8 +32,8 @@ fn by_table(
 ) -> Asked
     requires { Sound half_open (columns count_a starts_a ends_a values_a) × Sound half_open (columns count_b starts_b ends_b values_b)
         × (rank key < rank end) }
-    ensures { result ≡ yes_no (says_at t (spans_of count_a starts_a.entry ends_a.entry values_a.entry)
-        (spans_of count_b starts_b.entry ends_b.entry values_b.entry) (rank key)) }
+    ensures { result ≡ yes_no (says_at t (spans_of count_a starts_a ends_a values_a)
+        (spans_of count_b starts_b ends_b values_b) (rank key)) }
 {
     let w = walk_at(key);
     let c = cell_at(
@@ -62,9 +61,9 @@ pub fn query_at_unchecked(
     key: i64,
 ) -> Asked
     requires { Sound half_open (columns count_a starts_a ends_a values_a) × Sound half_open (columns count_b starts_b ends_b values_b) }
-    ensures { result ≡ query_at_sound (columns count_a starts_a.entry ends_a.entry values_a.entry)
-        (columns count_b starts_b.entry ends_b.entry values_b.entry)
-        start end (was bytes) key }
+    ensures { result ≡ query_at_sound (columns count_a starts_a ends_a values_a)
+        (columns count_b starts_b ends_b values_b)
+        start end bytes.now key }
 {
     if start >= end {
         return Asked::Refused(EMPTY_RANGE);
@@ -98,8 +97,8 @@ pub fn query_at(
     bytes: &[u8],
     key: i64,
 ) -> Asked
-    ensures { result ≡ query_at (at_entry count_a starts_a ends_a values_a)
-        (at_entry count_b starts_b ends_b values_b) start end (was bytes) key }
+    ensures { result ≡ query_at (stored count_a.now starts_a.now ends_a.now values_a.now)
+        (stored count_b.now starts_b.now ends_b.now values_b.now) start end bytes.now key }
 {
     if !are_formed(
         *count_a, starts_a, ends_a, values_a, *count_b, starts_b, ends_b, values_b,

@@ -1,9 +1,8 @@
 // THE RANGES of a query: the true instants of a window, as maximal ranges, ascending.
 ghost use Rattle.std.specs.Prelude.{◌≡◌, ◌<◌};
-ghost use Rattle.lent.specs.Moments.{was, becomes};
 ghost use Rattle.key.specs.Rank.{rank};
 ghost use Rattle.key.specs.Range.{half_open};
-ghost use Rattle.outcomes.specs.Stored.{lent, Sound, at_entry};
+ghost use Rattle.outcomes.specs.Stored.{Sound, stored};
 ghost use Rattle.range_list.specs.InnerLists.{wrote};
 ghost use Rattle.query.specs.InnerColumns.{columns};
 ghost use Rattle.query.specs.Answers.{query_ranges_sound, query_ranges};
@@ -38,9 +37,9 @@ fn by_table(
     requires { Sound half_open (columns count_a starts_a ends_a values_a) × Sound half_open (columns count_b starts_b ends_b values_b)
         × (rank start < rank end) × Bounded t (columns count_a starts_a ends_a values_a)
         (columns count_b starts_b ends_b values_b) start end }
-    ensures { WritesAll t (columns count_a starts_a.entry ends_a.entry values_a.entry)
-        (columns count_b starts_b.entry ends_b.entry values_b.entry)
-        start end (was out_starts) (was out_ends) (wrote result (becomes out_starts) (becomes out_ends)) }
+    ensures { WritesAll t (columns count_a starts_a ends_a values_a)
+        (columns count_b starts_b ends_b values_b)
+        start end out_starts.old out_ends.old (wrote result out_starts.new out_ends.new) }
 {
     let w = walk_at(start);
     let room = shorter(out_starts.len(), out_ends.len());
@@ -72,10 +71,10 @@ pub fn query_unchecked(
     out_ends: &mut [i64],
 ) -> Counted
     requires { Sound half_open (columns count_a starts_a ends_a values_a) × Sound half_open (columns count_b starts_b ends_b values_b) }
-    ensures { wrote result (becomes out_starts) (becomes out_ends)
-        ≡ query_ranges_sound (columns count_a starts_a.entry ends_a.entry values_a.entry)
-        (columns count_b starts_b.entry ends_b.entry values_b.entry)
-        start end (was bytes) (was out_starts) (was out_ends) }
+    ensures { wrote result out_starts.new out_ends.new
+        ≡ query_ranges_sound (columns count_a starts_a ends_a values_a)
+        (columns count_b starts_b ends_b values_b)
+        start end bytes.now out_starts.old out_ends.old }
 {
     if start >= end {
         return Counted::Refused(EMPTY_RANGE);
@@ -105,10 +104,10 @@ pub fn query(
     out_starts: &mut [i64],
     out_ends: &mut [i64],
 ) -> Counted
-    ensures { wrote result (becomes out_starts) (becomes out_ends)
-        ≡ query_ranges (at_entry count_a starts_a ends_a values_a)
-        (at_entry count_b starts_b ends_b values_b)
-        start end (was bytes) (was out_starts) (was out_ends) }
+    ensures { wrote result out_starts.new out_ends.new
+        ≡ query_ranges (stored count_a.now starts_a.now ends_a.now values_a.now)
+        (stored count_b.now starts_b.now ends_b.now values_b.now)
+        start end bytes.now out_starts.old out_ends.old }
 {
     if !are_formed(
         *count_a, starts_a, ends_a, values_a, *count_b, starts_b, ends_b, values_b,

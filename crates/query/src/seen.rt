@@ -12,7 +12,7 @@ use key::Value;
 const OTHER: usize = 10;
 
 // What a map holds, by its class, up to which key, and at which place that was seen.
-#[derive(Drop)]
+#[derive(Clone, Copy)]
 pub struct Seen {
     pub class: usize,
     pub until: i64,
@@ -35,7 +35,7 @@ fn caught_up(
     key: i64,
 ) -> usize
     requires { Sound half_open (columns count starts ends values) × Trails (spans_of count starts ends values) place (rank key) }
-    ensures { Standing (spans_of count starts.entry ends.entry values.entry) result (rank key) }
+    ensures { Standing (spans_of count starts ends values) result (rank key) }
 {
     let mut here = place;
     while here < count {
@@ -59,7 +59,7 @@ fn seen_at(
 ) -> Seen
     requires { Sound half_open (columns count starts ends values)
         × Standing (spans_of count starts ends values) place (rank key) × (rank key < rank end) }
-    ensures { Sees (spans_of count starts.entry ends.entry values.entry) (rank key) (rank end) (rank result.until) result.class result.place }
+    ensures { Sees (spans_of count starts ends values) (rank key) (rank end) (rank result.until) result.class result.place }
 {
     if place >= count {
         return Seen {
@@ -95,7 +95,7 @@ pub fn look(
 ) -> Seen
     requires { Sound half_open (columns count starts ends values)
         × Trails (spans_of count starts ends values) place (rank key) × (rank key < rank end) }
-    ensures { Sees (spans_of count starts.entry ends.entry values.entry) (rank key) (rank end) (rank result.until) result.class result.place }
+    ensures { Sees (spans_of count starts ends values) (rank key) (rank end) (rank result.until) result.class result.place }
 {
     let here = caught_up(count, starts, ends, values, place, key);
     seen_at(count, starts, ends, values, here, key, end)

@@ -11,7 +11,7 @@ use key::Value;
 use query_text::truth::Truth;
 
 // Where a walk is: a key, and in each map a place that trails it, so that a walk need not look at both.
-#[derive(Drop)]
+#[derive(Clone, Copy)]
 pub struct Walk {
     pub key: i64,
     pub a: usize,
@@ -19,7 +19,7 @@ pub struct Walk {
 }
 
 // Whether the table says yes from a key on, and where that ends.
-#[derive(Drop)]
+#[derive(Clone, Copy)]
 pub struct Cell {
     pub yes: bool,
     pub next: Walk,
@@ -75,8 +75,8 @@ pub fn cell_at(
         × Sound half_open (columns count_b starts_b ends_b values_b)
         × Stands (spans_of count_a starts_a ends_a values_a)
         (spans_of count_b starts_b ends_b values_b) w × (rank w.key < rank end) }
-    ensures { Cells t (spans_of count_a starts_a.entry ends_a.entry values_a.entry)
-        (spans_of count_b starts_b.entry ends_b.entry values_b.entry) (rank w.key) (rank end) result }
+    ensures { Cells t (spans_of count_a starts_a ends_a values_a)
+        (spans_of count_b starts_b ends_b values_b) (rank w.key) (rank end) result }
 {
     let x = look(count_a, starts_a, ends_a, values_a, w.a, w.key, end);
     let y = look(count_b, starts_b, ends_b, values_b, w.b, w.key, end);
@@ -111,8 +111,8 @@ pub fn quick_cell(
         × Sound half_open (columns count_b starts_b ends_b values_b)
         × Stands (spans_of count_a starts_a ends_a values_a)
         (spans_of count_b starts_b ends_b values_b) w × (rank w.key < rank end) }
-    ensures { Cells t (spans_of count_a starts_a.entry ends_a.entry values_a.entry)
-        (spans_of count_b starts_b.entry ends_b.entry values_b.entry) (rank w.key) (rank end) result }
+    ensures { Cells t (spans_of count_a starts_a ends_a values_a)
+        (spans_of count_b starts_b ends_b values_b) (rank w.key) (rank end) result }
 {
     let x = look(count_a, starts_a, ends_a, values_a, w.a, w.key, end);
     if is_silent(t, x.class) {
@@ -155,8 +155,8 @@ pub fn edge(
         × Sound half_open (columns count_b starts_b ends_b values_b)
         × Stands (spans_of count_a starts_a ends_a values_a)
         (spans_of count_b starts_b ends_b values_b) w × (rank w.key ≤ rank end) }
-    ensures { Edges t (spans_of count_a starts_a.entry ends_a.entry values_a.entry)
-        (spans_of count_b starts_b.entry ends_b.entry values_b.entry) (rank w.key) (rank end) so result }
+    ensures { Edges t (spans_of count_a starts_a ends_a values_a)
+        (spans_of count_b starts_b ends_b values_b) (rank w.key) (rank end) so result }
 {
     let mut here = w;
     while here.key < end {

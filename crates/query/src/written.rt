@@ -1,6 +1,5 @@
 // The ranges of true instants from a walk on: whether there is room for them, and their writing.
 ghost use Rattle.std.specs.Prelude.{◌≡◌, false, ◌≤◌, ◌<◌, length};
-ghost use Rattle.lent.specs.Moments.{was, becomes};
 ghost use Rattle.key.specs.Rank.{rank};
 ghost use Rattle.key.specs.Range.{half_open};
 ghost use Rattle.outcomes.specs.Stored.{Sound};
@@ -32,8 +31,8 @@ fn count(
         × Sound half_open (columns count_b starts_b ends_b values_b)
         × Stands (spans_of count_a starts_a ends_a values_a)
         (spans_of count_b starts_b ends_b values_b) w × (rank w.key ≤ rank end) }
-    ensures { Counts t (spans_of count_a starts_a.entry ends_a.entry values_a.entry)
-        (spans_of count_b starts_b.entry ends_b.entry values_b.entry) (rank w.key) (rank end) result }
+    ensures { Counts t (spans_of count_a starts_a ends_a values_a)
+        (spans_of count_b starts_b ends_b values_b) (rank w.key) (rank end) result }
 {
     let mut n = 0;
     let mut s = edge(
@@ -73,8 +72,8 @@ pub fn fits(
         × Stands (spans_of count_a starts_a ends_a values_a)
         (spans_of count_b starts_b ends_b values_b) w × (rank w.key ≤ rank end)
         × Bounded t (columns count_a starts_a ends_a values_a) (columns count_b starts_b ends_b values_b) w.key end }
-    ensures { Measures t (spans_of count_a starts_a.entry ends_a.entry values_a.entry)
-        (spans_of count_b starts_b.entry ends_b.entry values_b.entry) (rank w.key) (rank end) room result }
+    ensures { Measures t (spans_of count_a starts_a ends_a values_a)
+        (spans_of count_b starts_b ends_b values_b) (rank w.key) (rank end) room result }
 {
     if roomy(count_a + 1, count_b, room) {
         return true;
@@ -98,7 +97,7 @@ fn shut(
     key: i64,
 ) -> usize
     requires { on ≡ false → rank start < rank key → (n < length out_starts.old) × (n < length out_ends.old) }
-    ensures { Shuts on n (rank start) (rank key) (was out_starts) (was out_ends) result (becomes out_starts) (becomes out_ends) }
+    ensures { Shuts on n (rank start) (rank key) out_starts.old out_ends.old result out_starts.new out_ends.new }
 {
     if key <= start {
         return n;
@@ -132,9 +131,9 @@ pub fn write(
         (spans_of count_b starts_b ends_b values_b) w × (rank w.key ≤ rank end)
         × HasRoom t (spans_of count_a starts_a ends_a values_a)
         (spans_of count_b starts_b ends_b values_b) (rank w.key) (rank end) 0 out_starts.old out_ends.old }
-    ensures { Writes t (spans_of count_a starts_a.entry ends_a.entry values_a.entry)
-        (spans_of count_b starts_b.entry ends_b.entry values_b.entry)
-        (rank w.key) (rank end) 0 (was out_starts) (was out_ends) result (becomes out_starts) (becomes out_ends) }
+    ensures { Writes t (spans_of count_a starts_a ends_a values_a)
+        (spans_of count_b starts_b ends_b values_b)
+        (rank w.key) (rank end) 0 out_starts.old out_ends.old result out_starts.new out_ends.new }
 {
     let mut n = 0;
     let mut start = w.key;

@@ -1,11 +1,10 @@
 // THE CURSOR: where a query is read, and how many marks `!` and `(` are open there.
 ghost use Rattle.std.specs.Prelude.{◌≡◌, ◌+◌, ◌-◌, ◌^◌, ◌≤◌, ◌<◌, leb, length, drop, get_or};
-ghost use Rattle.lent.specs.Moments.{was};
 ghost use Rattle.query_text.specs.Grammar.{open_limit};
 ghost use Rattle.query_text.specs.Reader.{starts};
 ghost use Rattle.query_text.specs.InnerCursor.{cursor, is_digit, starts_digit};
 
-#[derive(Drop)]
+#[derive(Clone, Copy)]
 pub struct Cursor {
     pub at: usize,
     pub marks: usize,
@@ -27,7 +26,7 @@ impl Cursor {
 
     // Whether a byte comes next.
     pub fn sees(self, bytes: &[u8], byte: u8) -> bool
-        ensures { result ≡ starts byte (drop self.at (was bytes)) }
+        ensures { result ≡ starts byte (drop self.at bytes.now) }
     {
         let at = self.at;
         if at >= bytes.len() {
@@ -38,7 +37,7 @@ impl Cursor {
 
     // Whether a digit comes next.
     pub fn sees_digit(self, bytes: &[u8]) -> bool
-        ensures { result ≡ starts_digit (drop self.at (was bytes)) }
+        ensures { result ≡ starts_digit (drop self.at bytes.now) }
     {
         let at = self.at;
         if at >= bytes.len() {
@@ -50,7 +49,7 @@ impl Cursor {
     // The digit that comes next.
     pub fn digit(self, bytes: &[u8]) -> usize
         requires { (self.at < length bytes.now) × (48 ≤ get_or bytes.now self.at 0) }
-        ensures { result ≡ get_or (was bytes) self.at 0 - 48 }
+        ensures { result ≡ get_or bytes.now self.at 0 - 48 }
     {
         let at = self.at;
         wide(bytes[at]) - 48

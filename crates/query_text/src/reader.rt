@@ -1,7 +1,6 @@
 // A query read into its table. The functions of the grammar's levels call each other in a cycle: what is in parentheses is a whole query again.
 
 ghost use Rattle.std.specs.Prelude.{◌-◌, ◌≤◌, ◌<◌, length, drop};
-ghost use Rattle.lent.specs.Moments.{was};
 ghost use Rattle.query_text.specs.Grammar.{open_limit, factor as Level·factor, term as Level·term, sum as Level·sum};
 ghost use Rattle.query_text.specs.Reader.{digit_then, atom as Reader·atom, query_of};
 ghost use Rattle.query_text.specs.InnerClasses.{atom_of};
@@ -12,7 +11,7 @@ use crate::cursor::Cursor;
 use crate::truth::Truth;
 
 // What was read, and where the cursor is then; or the bytes are no query.
-#[derive(Drop)]
+#[derive(Clone, Copy)]
 pub enum Reading {
     Got(Cursor, Truth),
     Bad,
@@ -21,7 +20,7 @@ pub enum Reading {
 // A digit: the second map holds it, or else the first.
 fn holding(bytes: &[u8], c: Cursor, second: bool) -> Reading
     requires { c.at ≤ length bytes.now }
-    ensures { ReadAs (was bytes) c.marks (digit_then (atom_of second) (drop c.at (was bytes))) result }
+    ensures { ReadAs bytes.now c.marks (digit_then (atom_of second) (drop c.at bytes.now)) result }
 {
     if !c.sees_digit(bytes) {
         return Reading::Bad;
@@ -32,7 +31,7 @@ fn holding(bytes: &[u8], c: Cursor, second: bool) -> Reading
 // A or B, then a digit.
 fn atom(bytes: &[u8], c: Cursor) -> Reading
     requires { c.at ≤ length bytes.now }
-    ensures { ReadAs (was bytes) c.marks (Reader·atom (drop c.at (was bytes))) result }
+    ensures { ReadAs bytes.now c.marks (Reader·atom (drop c.at bytes.now)) result }
 {
     if c.sees(bytes, b'A') {
         return holding(bytes, c.next(), false);
@@ -47,7 +46,7 @@ fn atom(bytes: &[u8], c: Cursor) -> Reading
 #[cycle(factor_grouped_negated_sum_term)]
 fn negated(bytes: &[u8], c: Cursor) -> Reading
     requires { (c.at < length bytes.now) × (c.marks ≤ open_limit) }
-    ensures { ReadAs (was bytes) c.marks (negation (open_limit - c.marks) (drop c.at (was bytes))) result }
+    ensures { ReadAs bytes.now c.marks (negation (open_limit - c.marks) (drop c.at bytes.now)) result }
 {
     if c.is_full() {
         return Reading::Bad;
@@ -62,7 +61,7 @@ fn negated(bytes: &[u8], c: Cursor) -> Reading
 #[cycle(factor_grouped_negated_sum_term)]
 fn grouped(bytes: &[u8], c: Cursor) -> Reading
     requires { (c.at < length bytes.now) × (c.marks ≤ open_limit) }
-    ensures { ReadAs (was bytes) c.marks (grouping (open_limit - c.marks) (drop c.at (was bytes))) result }
+    ensures { ReadAs bytes.now c.marks (grouping (open_limit - c.marks) (drop c.at bytes.now)) result }
 {
     if c.is_full() {
         return Reading::Bad;
@@ -80,7 +79,7 @@ fn grouped(bytes: &[u8], c: Cursor) -> Reading
 #[cycle(factor_grouped_negated_sum_term)]
 fn factor(bytes: &[u8], c: Cursor) -> Reading
     requires { Placed bytes.now c }
-    ensures { ReadAs (was bytes) c.marks (here Level·factor (was bytes) c) result }
+    ensures { ReadAs bytes.now c.marks (here Level·factor bytes.now c) result }
 {
     if c.sees(bytes, b'!') {
         return negated(bytes, c);
@@ -95,7 +94,7 @@ fn factor(bytes: &[u8], c: Cursor) -> Reading
 #[cycle(factor_grouped_negated_sum_term)]
 fn term(bytes: &[u8], c: Cursor) -> Reading
     requires { Placed bytes.now c }
-    ensures { ReadAs (was bytes) c.marks (here Level·term (was bytes) c) result }
+    ensures { ReadAs bytes.now c.marks (here Level·term bytes.now c) result }
 {
     let Reading::Got(d, t) = factor(bytes, c) else {
         return Reading::Bad;
@@ -113,7 +112,7 @@ fn term(bytes: &[u8], c: Cursor) -> Reading
 #[cycle(factor_grouped_negated_sum_term)]
 fn sum(bytes: &[u8], c: Cursor) -> Reading
     requires { Placed bytes.now c }
-    ensures { ReadAs (was bytes) c.marks (here Level·sum (was bytes) c) result }
+    ensures { ReadAs bytes.now c.marks (here Level·sum bytes.now c) result }
 {
     let Reading::Got(d, t) = term(bytes, c) else {
         return Reading::Bad;
@@ -132,7 +131,7 @@ const LONGEST: usize = 64;
 
 // THE QUERY that all the bytes are.
 pub fn read_query(bytes: &[u8]) -> Reading
-    ensures { ReadAs (was bytes) 0 (query_of (was bytes)) result }
+    ensures { ReadAs bytes.now 0 (query_of bytes.now) result }
 {
     if bytes.len() > LONGEST {
         return Reading::Bad;

@@ -4,7 +4,7 @@ ghost use Rattle.std.specs.Prelude.{◌≡◌, ◌&&◌, ◌||◌, not as Bool·
 ghost use Rattle.query_text.specs.InnerClasses.{atom_of, class_truth};
 ghost use Rattle.query_text.specs.InnerTable.{is_one, says as Table·says, Shows};
 
-#[derive(Drop)]
+#[derive(Clone, Copy)]
 pub struct Truth {
     pub low: u64,
     pub high: u64,

@@ -1,6 +1,7 @@
 // A lent list of ranges: two slices, of starts and of ends. It is as long as the shorter of the two.
+#![tactic(auto)]
+
 ghost use Rattle.std.specs.Prelude.{◌≡◌, ◌<◌, min, length, set};
-ghost use Rattle.lent.specs.Moments.{was, becomes};
 
 // The lesser of two lengths.
 pub fn shorter(a: usize, b: usize) -> usize
@@ -15,7 +16,7 @@ pub fn shorter(a: usize, b: usize) -> usize
 // Writes a range into place `n`.
 pub fn put(out_starts: &mut [i64], out_ends: &mut [i64], n: usize, start: i64, end: i64)
     requires { (n < length out_starts.old) × (n < length out_ends.old) }
-    ensures { (becomes out_starts ≡ set (was out_starts) n start) × (becomes out_ends ≡ set (was out_ends) n end) }
+    ensures { (out_starts.new ≡ set out_starts.old n start) × (out_ends.new ≡ set out_ends.old n end) }
 {
     out_starts[n] = start;
     out_ends[n] = end;

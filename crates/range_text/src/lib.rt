@@ -1,7 +1,8 @@
 // Ranges as text, line by line, put into lent bytes from their start on. Each function answers how many bytes it put.
+#![tactic(auto)]
+
 ghost use Rattle.std.specs.Prelude.{◌≡◌, ◌+◌, ◌*◌, ◌≤◌, length};
-ghost use Rattle.lent.specs.Moments.{was, becomes};
-ghost use Rattle.outcomes.specs.Stored.{places, at_entry_with};
+ghost use Rattle.outcomes.specs.Stored.{places, stored};
 ghost use Rattle.filling.specs.Filling.{AddsWithin};
 ghost use Rattle.range_text.specs.RangeText.{range_text, range_line, result_line, ranges_text, results, result_text};
 ghost use Rattle.range_text.specs.InnerRoom.{range_room, range_line_room, result_line_room, RangesRoom, ResultsRoom};
@@ -26,7 +27,7 @@ pub const RESULTS_ROOM: usize = RESULTS * 43;
 // A range, START..END.
 fn put_range(out: &mut [u8], at: usize, start: i64, end: i64) -> usize
     requires { at + range_room ≤ length out.old }
-    ensures { AddsWithin range_room (range_text start end) (was out) at (becomes out) result }
+    ensures { AddsWithin range_room (range_text start end) out.old at out.new result }
 {
     let dots = put_i64(out, at, start);
     let to = put(out, dots, b"..");
@@ -36,7 +37,7 @@ fn put_range(out: &mut [u8], at: usize, start: i64, end: i64) -> usize
 // The line of a range of a map.
 fn put_line(out: &mut [u8], at: usize, start: i64, end: i64, value: u8) -> usize
     requires { at + range_line_room ≤ length out.old }
-    ensures { AddsWithin range_line_room (range_line start end value) (was out) at (becomes out) result }
+    ensures { AddsWithin range_line_room (range_line start end value) out.old at out.new result }
 {
     let to = put_range(out, at, start, end);
     let numbers = [value as u64];
@@ -46,7 +47,7 @@ fn put_line(out: &mut [u8], at: usize, start: i64, end: i64, value: u8) -> usize
 // The line of a range of a result.
 fn put_result_line(out: &mut [u8], at: usize, start: i64, end: i64) -> usize
     requires { at + result_line_room ≤ length out.old }
-    ensures { AddsWithin result_line_room (result_line start end) (was out) at (becomes out) result }
+    ensures { AddsWithin result_line_room (result_line start end) out.old at out.new result }
 {
     let to = put_range(out, at, start, end);
     put_byte(out, to, b'\n')
@@ -55,7 +56,7 @@ fn put_result_line(out: &mut [u8], at: usize, start: i64, end: i64) -> usize
 // The lines of the first `count` places.
 fn put_ranges(count: usize, starts: &[i64], ends: &[i64], values: &[u8], out: &mut [u8]) -> usize
     requires { RangesRoom count starts.now ends.now values.now out.old }
-    ensures { AddsWithin (range_line_room * count) (ranges_text (at_entry_with count starts ends values)) (was out) 0 (becomes out) result }
+    ensures { AddsWithin (range_line_room * count) (ranges_text (stored count starts.now ends.now values.now)) out.old 0 out.new result }
 {
     let mut to = 0;
     let mut i = 0;
@@ -75,7 +76,7 @@ pub fn ranges_text(
     out: &mut [u8; RANGES_ROOM],
 ) -> usize
     requires { count ≤ places }
-    ensures { AddsWithin (range_line_room * count) (ranges_text (at_entry_with count starts ends values)) (was out) 0 (becomes out) result }
+    ensures { AddsWithin (range_line_room * count) (ranges_text (stored count starts.now ends.now values.now)) out.old 0 out.new result }
 {
     put_ranges(count, starts, ends, values, out)
 }
@@ -83,7 +84,7 @@ pub fn ranges_text(
 // The lines of the first n places of a result.
 fn put_results(n: usize, starts: &[i64], ends: &[i64], out: &mut [u8]) -> usize
     requires { ResultsRoom n starts.now ends.now out.old }
-    ensures { AddsWithin (result_line_room * n) (result_text (was starts) (was ends) n) (was out) 0 (becomes out) result }
+    ensures { AddsWithin (result_line_room * n) (result_text starts.now ends.now n) out.old 0 out.new result }
 {
     let mut to = 0;
     let mut i = 0;
@@ -102,7 +103,7 @@ pub fn result_text(
     out: &mut [u8; RESULTS_ROOM],
 ) -> usize
     requires { n ≤ results }
-    ensures { AddsWithin (result_line_room * n) (result_text (was starts) (was ends) n) (was out) 0 (becomes out) result }
+    ensures { AddsWithin (result_line_room * n) (result_text starts.now ends.now n) out.old 0 out.new result }
 {
     put_results(n, starts, ends, out)
 }

@@ -1,5 +1,7 @@
 // Module 1: contains, overlaps, touches and intersect, for ranges of either kind. From range_wrapper.rs, std_ext.rs and operations.rs of rangemap.
 // The exported functions stand in mod half_open and mod inclusive, and name their kind.
+#![tactic(auto)]
+
 pub mod half_open;
 pub mod inclusive;
 
@@ -13,7 +15,7 @@ use answers::{DONE, EMPTY_RANGE, NONE_THERE};
 use key::{Bounds, RangeKind, full};
 
 // Whether two ranges are related; there is no answer for a range that is empty or reversed.
-#[derive(Drop)]
+#[derive(Clone, Copy)]
 pub enum Relation {
     Yes,
     No,
@@ -21,7 +23,7 @@ pub enum Relation {
 }
 
 // What two ranges have in common.
-#[derive(Drop)]
+#[derive(Clone, Copy)]
 pub enum Common {
     Between(i64, i64),
     Nothing,
@@ -29,7 +31,7 @@ pub enum Common {
 
 // A relation as C and Rust see it: answer 0 with yes or no, or 1.
 #[repr(C)]
-#[derive(Drop)]
+#[derive(Clone, Copy)]
 pub struct Related {
     pub answer: u8,
     pub yes: bool,
@@ -37,7 +39,7 @@ pub struct Related {
 
 // What is in common as C and Rust see it: answer 0 with the range, or 5.
 #[repr(C)]
-#[derive(Drop)]
+#[derive(Clone, Copy)]
 pub struct Intersected {
     pub answer: u8,
     pub start: i64,

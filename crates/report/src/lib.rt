@@ -1,7 +1,9 @@
 // A day's report of a half-open map: the day's start and end, the seconds of each duty and the unrecorded ones, and those five as hours.
+#![tactic(auto)]
+
 ghost use Rattle.std.specs.Prelude.{◌≡◌};
 ghost use Rattle.key.specs.Range.{half_open};
-ghost use Rattle.outcomes.specs.Stored.{stored, lent, Sound, at_entry, at_entry_with};
+ghost use Rattle.outcomes.specs.Stored.{stored, Sound};
 ghost use Rattle.outcomes.specs.Outcomes.{formed};
 ghost use Rattle.log_day.specs.Days.{day_of};
 ghost use Rattle.report.specs.Report.{with_keys, day_report_sound, day_report, reported_in_c};
@@ -15,7 +17,7 @@ use outcomes::PLACES;
 use store::check::well_formed;
 
 // The day's start and end, and its seconds; or the number of a refusal.
-#[derive(Drop)]
+#[derive(Clone, Copy)]
 pub enum Reported {
     Totals(i64, i64, Totals),
     Refused(u8),
@@ -23,7 +25,7 @@ pub enum Reported {
 
 // A report as C and Rust see it: answer 0 with all that it says, or 4, 8 or 10.
 #[repr(C)]
-#[derive(Drop)]
+#[derive(Clone, Copy)]
 pub struct DayReport {
     pub answer: u8,
     pub start: i64,
@@ -114,7 +116,7 @@ pub fn unchecked(
     day: u8,
 ) -> Reported
     requires { Sound half_open (stored count starts.now ends.now values.now) }
-    ensures { result ≡ day_report_sound (at_entry_with count starts ends values) (day_of zone year month day) }
+    ensures { result ≡ day_report_sound (stored count starts.now ends.now values.now) (day_of zone year month day) }
 {
     let d = log_day::day_of(zone, year, month, day);
     match d {
@@ -137,7 +139,7 @@ pub fn checked(
     month: u8,
     day: u8,
 ) -> Reported
-    ensures { result ≡ day_report (at_entry count starts ends values) zone year month day }
+    ensures { result ≡ day_report (stored count.now starts.now ends.now values.now) zone year month day }
 {
     if !well_formed(RangeKind::HalfOpen, *count, starts, ends, values) {
         return Reported::Refused(NOT_FORMED);
@@ -156,7 +158,7 @@ pub fn day_report(
     month: u8,
     day: u8,
 ) -> DayReport
-    ensures { result ≡ reported_in_c (day_report (at_entry count starts ends values) zone year month day) }
+    ensures { result ≡ reported_in_c (day_report (stored count.now starts.now ends.now values.now) zone year month day) }
 {
     report_of(checked(count, starts, ends, values, zone, year, month, day))
 }
@@ -172,8 +174,8 @@ pub fn day_report_unchecked(
     month: u8,
     day: u8,
 ) -> DayReport
-    requires { Sound half_open (lent count starts ends values) }
-    ensures { result ≡ reported_in_c (day_report_sound (at_entry count starts ends values) (day_of zone year month day)) }
+    requires { Sound half_open (stored count.now starts.now ends.now values.now) }
+    ensures { result ≡ reported_in_c (day_report_sound (stored count.now starts.now ends.now values.now) (day_of zone year month day)) }
 {
     report_of(unchecked(*count, starts, ends, values, zone, year, month, day))
 }

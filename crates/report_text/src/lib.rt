@@ -1,6 +1,7 @@
 // A day's report as text, put into lent bytes from their start on, and what its lines share with the grid of the day.
+#![tactic(auto)]
+
 ghost use Rattle.std.specs.Prelude.{◌≡◌, ◌++◌, ◌+◌, ◌-◌, ◌*◌, ◌≤◌, ◌<◌, length};
-ghost use Rattle.lent.specs.Moments.{was, becomes};
 ghost use Rattle.key.specs.Rank.{rank};
 ghost use Rattle.text.specs.Text.{right_of};
 ghost use Rattle.filling.specs.Filling.{AddsWithin};
@@ -26,7 +27,7 @@ pub const REPORT_ROOM: usize = 900;
 // A colon and two digits.
 fn put_pair(out: &mut [u8], at: usize, n: u64) -> usize
     requires { at + 3 ≤ length out.old }
-    ensures { AddsWithin 3 (pair_text n) (was out) at (becomes out) result }
+    ensures { AddsWithin 3 (pair_text n) out.old at out.new result }
 {
     let to = put_byte(out, at, b':');
     put_digits(out, to, 2, n)
@@ -35,7 +36,7 @@ fn put_pair(out: &mut [u8], at: usize, n: u64) -> usize
 // Seconds by the clock, H:MM:SS. `width` is how many columns the hours have.
 pub fn put_clock(out: &mut [u8], at: usize, width: usize, n: u64) -> usize
     requires { (width ≤ 20) × (at + clock_room ≤ length out.old) }
-    ensures { AddsWithin clock_room (right_of (width + 6) (clock_text n)) (was out) at (becomes out) result }
+    ensures { AddsWithin clock_room (right_of (width + 6) (clock_text n)) out.old at out.new result }
 {
     let minutes = put_u64_right(out, at, width, n / 3600);
     let seconds = put_pair(out, minutes, n / 60 % 60);
@@ -53,7 +54,7 @@ fn ten_thousandths(n: u64) -> u64
 // Seconds as hours with four decimals, at the right of 7 columns.
 fn put_hours(out: &mut [u8], at: usize, n: u64) -> usize
     requires { at + 25 ≤ length out.old }
-    ensures { AddsWithin 25 (right_of 7 (hours_text n)) (was out) at (becomes out) result }
+    ensures { AddsWithin 25 (right_of 7 (hours_text n)) out.old at out.new result }
 {
     let point = put_u64_right(out, at, 2, n / 3600);
     let decimals = put_byte(out, point, b'.');
@@ -63,7 +64,7 @@ fn put_hours(out: &mut [u8], at: usize, n: u64) -> usize
 // Two spaces, and seconds by the clock.
 pub fn put_clock_column(out: &mut [u8], at: usize, n: u64) -> usize
     requires { at + 28 ≤ length out.old }
-    ensures { AddsWithin 28 (clock_column n) (was out) at (becomes out) result }
+    ensures { AddsWithin 28 (clock_column n) out.old at out.new result }
 {
     let to = put(out, at, b"  ");
     put_clock(out, to, 2, n)
@@ -72,7 +73,7 @@ pub fn put_clock_column(out: &mut [u8], at: usize, n: u64) -> usize
 // Two spaces, and hours.
 fn put_hours_column(out: &mut [u8], at: usize, n: u64) -> usize
     requires { at + 30 ≤ length out.old }
-    ensures { AddsWithin 30 (hours_column n) (was out) at (becomes out) result }
+    ensures { AddsWithin 30 (hours_column n) out.old at out.new result }
 {
     let hours = put(out, at, b"  ");
     let to = put_hours(out, hours, n);
@@ -82,7 +83,7 @@ fn put_hours_column(out: &mut [u8], at: usize, n: u64) -> usize
 // Seconds as a number.
 fn put_seconds_column(out: &mut [u8], at: usize, n: u64) -> usize
     requires { at + 22 ≤ length out.old }
-    ensures { AddsWithin 22 (seconds_column n) (was out) at (becomes out) result }
+    ensures { AddsWithin 22 (seconds_column n) out.old at out.new result }
 {
     let to = put_u64_right(out, at, 11, n);
     put(out, to, b" s")
@@ -91,7 +92,7 @@ fn put_seconds_column(out: &mut [u8], at: usize, n: u64) -> usize
 // Seconds in all three ways.
 fn put_times(out: &mut [u8], at: usize, n: u64) -> usize
     requires { at + 80 ≤ length out.old }
-    ensures { AddsWithin 80 (times_text n) (was out) at (becomes out) result }
+    ensures { AddsWithin 80 (times_text n) out.old at out.new result }
 {
     let clock = put_seconds_column(out, at, n);
     let hours = put_clock_column(out, clock, n);
@@ -101,7 +102,7 @@ fn put_times(out: &mut [u8], at: usize, n: u64) -> usize
 // A name in its columns.
 pub fn put_name_column(out: &mut [u8], at: usize, name: &[u8]) -> usize
     requires { (length name.now ≤ name_room) × (at + name_room ≤ length out.old) }
-    ensures { AddsWithin name_room (name_column (was name)) (was out) at (becomes out) result }
+    ensures { AddsWithin name_room (name_column name.now) out.old at out.new result }
 {
     put_left(out, at, NAME_ROOM, name)
 }
@@ -109,7 +110,7 @@ pub fn put_name_column(out: &mut [u8], at: usize, name: &[u8]) -> usize
 // The name of a row.
 pub fn put_name(out: &mut [u8], at: usize, row: usize) -> usize
     requires { (row < row_count) × (at + name_room ≤ length out.old) }
-    ensures { AddsWithin name_room (row_name row) (was out) at (becomes out) result }
+    ensures { AddsWithin name_room (row_name row) out.old at out.new result }
 {
     if row == 0 {
         return put(out, at, b"off duty");
@@ -129,7 +130,7 @@ pub fn put_name(out: &mut [u8], at: usize, row: usize) -> usize
 // The name of a row in its columns.
 pub fn put_row_column(out: &mut [u8], at: usize, row: usize) -> usize
     requires { (row < row_count) × (at + name_room ≤ length out.old) }
-    ensures { AddsWithin name_room (name_column (row_name row)) (was out) at (becomes out) result }
+    ensures { AddsWithin name_room (name_column (row_name row)) out.old at out.new result }
 {
     let to = put_name(out, at, row);
     put_spaces(out, to, at + NAME_ROOM - to)
@@ -181,7 +182,7 @@ pub fn seconds_between(range: Bounds) -> u64
 // The line of a key.
 fn put_key_line(out: &mut [u8], at: usize, name: &[u8], key: i64) -> usize
     requires { (length name.now ≤ name_room) × (at + report_line_room ≤ length out.old) }
-    ensures { AddsWithin report_line_room (key_line (was name) key) (was out) at (becomes out) result }
+    ensures { AddsWithin report_line_room (key_line name.now key) out.old at out.new result }
 {
     let number = put_name_column(out, at, name);
     let to = put_i64_right(out, number, 11, key);
@@ -191,7 +192,7 @@ fn put_key_line(out: &mut [u8], at: usize, name: &[u8], key: i64) -> usize
 // The line of a number of seconds.
 fn put_seconds_line(out: &mut [u8], at: usize, name: &[u8], n: u64) -> usize
     requires { (length name.now ≤ name_room) × (at + report_line_room ≤ length out.old) }
-    ensures { AddsWithin report_line_room (seconds_line (was name) n) (was out) at (becomes out) result }
+    ensures { AddsWithin report_line_room (seconds_line name.now n) out.old at out.new result }
 {
     let to = put_name_column(out, at, name);
     put_times(out, to, n)
@@ -200,7 +201,7 @@ fn put_seconds_line(out: &mut [u8], at: usize, name: &[u8], n: u64) -> usize
 // The line of a row.
 fn put_row_line(out: &mut [u8], at: usize, row: usize, n: u32) -> usize
     requires { (row < row_count) × (at + report_line_room ≤ length out.old) }
-    ensures { AddsWithin report_line_room (seconds_line (row_name row) n) (was out) at (becomes out) result }
+    ensures { AddsWithin report_line_room (seconds_line (row_name row) n) out.old at out.new result }
 {
     let to = put_row_column(out, at, row);
     put_times(out, to, n as u64)
@@ -209,7 +210,7 @@ fn put_row_line(out: &mut [u8], at: usize, row: usize, n: u32) -> usize
 // The lines of the five rows.
 fn put_rows(out: &mut [u8], at: usize, t: Totals) -> usize
     requires { at + row_count * report_line_room ≤ length out.old }
-    ensures { AddsWithin (row_count * report_line_room) (row_lines t) (was out) at (becomes out) result }
+    ensures { AddsWithin (row_count * report_line_room) (row_lines t) out.old at out.new result }
 {
     let mut to = at;
     let mut row = 0;
@@ -223,7 +224,7 @@ fn put_rows(out: &mut [u8], at: usize, t: Totals) -> usize
 // The lines of a day's start, end and length.
 fn put_day(out: &mut [u8], at: usize, day: Bounds) -> usize
     requires { at + 3 * report_line_room ≤ length out.old }
-    ensures { AddsWithin (3 * report_line_room) (day_lines day.start day.end) (was out) at (becomes out) result }
+    ensures { AddsWithin (3 * report_line_room) (day_lines day.start day.end) out.old at out.new result }
 {
     let second = put_key_line(out, at, b"start", day.start);
     let third = put_key_line(out, second, b"end", day.end);
@@ -232,7 +233,7 @@ fn put_day(out: &mut [u8], at: usize, day: Bounds) -> usize
 
 // THE REPORT of a day.
 pub fn report_text(start: i64, end: i64, t: Totals, out: &mut [u8; REPORT_ROOM]) -> usize
-    ensures { AddsWithin report_room (report_text start end t) (was out) 0 (becomes out) result }
+    ensures { AddsWithin report_room (report_text start end t) out.old 0 out.new result }
 {
     let rows = put_day(out, 0, Bounds { start, end });
     let sum = put_rows(out, rows, t);

@@ -1,6 +1,7 @@
 // Module 5: the half-open set, from set.rs of rangemap. The exported functions, for C and Rust, are here: each lends all the fields of its set
 // to a function of `set_abi`, which answers in numbers, or of `set_ops` or `map_ops` where these do. Rattle callers use `set_ops`.
-ghost use Rattle.lent.specs.Moments.{was, becomes};
+#![tactic(auto)]
+
 ghost use Rattle.set.specs.Promises.{RangeSetNew, RangeSetIsEmpty, RangeSetLen, RangeSetRangeAt, RangeSetFirst, RangeSetLast, RangeSetGet};
 ghost use Rattle.set.specs.Promises.{RangeSetContains, RangeSetOverlaps, RangeSetOverlapping, RangeSetGaps, RangeSetEq, RangeSetCmp, RangeSetInsert};
 ghost use Rattle.set.specs.Promises.{RangeSetRemove, RangeSetExtend, RangeSetClear, RangeSetWellFormed, RangeSetIntersection, RangeSetUnion};
@@ -39,7 +40,7 @@ pub extern "C" fn range_set_new() -> RangeSet
 // Whether nothing is held.
 #[unsafe(no_mangle)]
 pub extern "C" fn range_set_is_empty(m: &RangeSet) -> Told
-    ensures { RangeSetIsEmpty (was m) result }
+    ensures { RangeSetIsEmpty m.now result }
 {
     set_abi::is_empty(KIND, &m.count, &m.starts, &m.ends, &m.values)
 }
@@ -47,7 +48,7 @@ pub extern "C" fn range_set_is_empty(m: &RangeSet) -> Told
 // How many ranges are held.
 #[unsafe(no_mangle)]
 pub extern "C" fn range_set_len(m: &RangeSet) -> Count
-    ensures { RangeSetLen (was m) result }
+    ensures { RangeSetLen m.now result }
 {
     set_abi::len(KIND, &m.count, &m.starts, &m.ends, &m.values)
 }
@@ -55,7 +56,7 @@ pub extern "C" fn range_set_len(m: &RangeSet) -> Count
 // The range at a place.
 #[unsafe(no_mangle)]
 pub extern "C" fn range_set_range_at(m: &RangeSet, place: usize) -> Range
-    ensures { RangeSetRangeAt (was m) place result }
+    ensures { RangeSetRangeAt m.now place result }
 {
     set_abi::range_at(KIND, &m.count, &m.starts, &m.ends, &m.values, place)
 }
@@ -63,7 +64,7 @@ pub extern "C" fn range_set_range_at(m: &RangeSet, place: usize) -> Range
 // The first range.
 #[unsafe(no_mangle)]
 pub extern "C" fn range_set_first(m: &RangeSet) -> Range
-    ensures { RangeSetFirst (was m) result }
+    ensures { RangeSetFirst m.now result }
 {
     set_abi::first(KIND, &m.count, &m.starts, &m.ends, &m.values)
 }
@@ -71,7 +72,7 @@ pub extern "C" fn range_set_first(m: &RangeSet) -> Range
 // The last range.
 #[unsafe(no_mangle)]
 pub extern "C" fn range_set_last(m: &RangeSet) -> Range
-    ensures { RangeSetLast (was m) result }
+    ensures { RangeSetLast m.now result }
 {
     set_abi::last(KIND, &m.count, &m.starts, &m.ends, &m.values)
 }
@@ -79,7 +80,7 @@ pub extern "C" fn range_set_last(m: &RangeSet) -> Range
 // The range that holds the key.
 #[unsafe(no_mangle)]
 pub extern "C" fn range_set_get(m: &RangeSet, key: i64) -> Range
-    ensures { RangeSetGet (was m) key result }
+    ensures { RangeSetGet m.now key result }
 {
     set_abi::get(KIND, &m.count, &m.starts, &m.ends, &m.values, key)
 }
@@ -87,7 +88,7 @@ pub extern "C" fn range_set_get(m: &RangeSet, key: i64) -> Range
 // Whether some range holds the key.
 #[unsafe(no_mangle)]
 pub extern "C" fn range_set_contains(m: &RangeSet, key: i64) -> Told
-    ensures { RangeSetContains (was m) key result }
+    ensures { RangeSetContains m.now key result }
 {
     set_abi::contains(KIND, &m.count, &m.starts, &m.ends, &m.values, key)
 }
@@ -95,7 +96,7 @@ pub extern "C" fn range_set_contains(m: &RangeSet, key: i64) -> Told
 // Whether some range has a key of the query.
 #[unsafe(no_mangle)]
 pub extern "C" fn range_set_overlaps(m: &RangeSet, start: i64, end: i64) -> Told
-    ensures { RangeSetOverlaps (was m) start end result }
+    ensures { RangeSetOverlaps m.now start end result }
 {
     set_abi::overlaps(KIND, &m.count, &m.starts, &m.ends, &m.values, start, end)
 }
@@ -103,7 +104,7 @@ pub extern "C" fn range_set_overlaps(m: &RangeSet, start: i64, end: i64) -> Told
 // Which consecutive stored part meets the query.
 #[unsafe(no_mangle)]
 pub extern "C" fn range_set_overlapping(m: &RangeSet, start: i64, end: i64) -> Stretch
-    ensures { RangeSetOverlapping (was m) start end result }
+    ensures { RangeSetOverlapping m.now start end result }
 {
     set_abi::overlapping(KIND, &m.count, &m.starts, &m.ends, &m.values, start, end)
 }
@@ -117,7 +118,7 @@ pub extern "C" fn range_set_gaps(
     out_starts: &mut [i64],
     out_ends: &mut [i64],
 ) -> Count
-    ensures { RangeSetGaps (was m) start end (was out_starts) (becomes out_starts) (was out_ends) (becomes out_ends) result }
+    ensures { RangeSetGaps m.now start end out_starts.old out_starts.new out_ends.old out_ends.new result }
 {
     set_abi::gaps(
         KIND, &m.count, &m.starts, &m.ends, &m.values, start, end, out_starts, out_ends,
@@ -127,7 +128,7 @@ pub extern "C" fn range_set_gaps(
 // Whether two sets hold the same ranges.
 #[unsafe(no_mangle)]
 pub extern "C" fn range_set_eq(a: &RangeSet, b: &RangeSet) -> Told
-    ensures { RangeSetEq (was a) (was b) result }
+    ensures { RangeSetEq a.now b.now result }
 {
     set_abi::eq(
         KIND, &a.count, &a.starts, &a.ends, &a.values, &b.count, &b.starts, &b.ends, &b.values,
@@ -137,7 +138,7 @@ pub extern "C" fn range_set_eq(a: &RangeSet, b: &RangeSet) -> Told
 // Which of two sets comes first: -1, 0 or 1.
 #[unsafe(no_mangle)]
 pub extern "C" fn range_set_cmp(a: &RangeSet, b: &RangeSet) -> Order
-    ensures { RangeSetCmp (was a) (was b) result }
+    ensures { RangeSetCmp a.now b.now result }
 {
     set_abi::cmp(
         KIND, &a.count, &a.starts, &a.ends, &a.values, &b.count, &b.starts, &b.ends, &b.values,
@@ -147,7 +148,7 @@ pub extern "C" fn range_set_cmp(a: &RangeSet, b: &RangeSet) -> Order
 // Covers each instant of start..end, and no other.
 #[unsafe(no_mangle)]
 pub extern "C" fn range_set_insert(m: &mut RangeSet, start: i64, end: i64) -> u8
-    ensures { RangeSetInsert (was m) (becomes m) start end result }
+    ensures { RangeSetInsert m.old m.new start end result }
 {
     set_abi::insert(
         KIND,
@@ -163,7 +164,7 @@ pub extern "C" fn range_set_insert(m: &mut RangeSet, start: i64, end: i64) -> u8
 // Uncovers exactly the instants of start..end.
 #[unsafe(no_mangle)]
 pub extern "C" fn range_set_remove(m: &mut RangeSet, start: i64, end: i64) -> u8
-    ensures { RangeSetRemove (was m) (becomes m) start end result }
+    ensures { RangeSetRemove m.old m.new start end result }
 {
     set_abi::remove(
         KIND,
@@ -179,7 +180,7 @@ pub extern "C" fn range_set_remove(m: &mut RangeSet, start: i64, end: i64) -> u8
 // Inserts the ranges of two lent lists in order, up to the first refusal.
 #[unsafe(no_mangle)]
 pub extern "C" fn range_set_extend(m: &mut RangeSet, starts: &[i64], ends: &[i64]) -> Applied
-    ensures { RangeSetExtend (was m) (becomes m) (was starts) (was ends) result }
+    ensures { RangeSetExtend m.old m.new starts.now ends.now result }
 {
     set_ops::bulk::extend(
         KIND,
@@ -195,7 +196,7 @@ pub extern "C" fn range_set_extend(m: &mut RangeSet, starts: &[i64], ends: &[i64
 // Leaves nothing covered, whatever the set was.
 #[unsafe(no_mangle)]
 pub extern "C" fn range_set_clear(m: &mut RangeSet)
-    ensures { RangeSetClear (was m) (becomes m) }
+    ensures { RangeSetClear m.old m.new }
 {
     map_ops::change::clear(&mut m.count, &mut m.starts, &mut m.ends, &mut m.values)
 }
@@ -203,7 +204,7 @@ pub extern "C" fn range_set_clear(m: &mut RangeSet)
 // Whether a map is well formed.
 #[unsafe(no_mangle)]
 pub extern "C" fn range_set_well_formed(m: &RangeSet) -> bool
-    ensures { RangeSetWellFormed (was m) result }
+    ensures { RangeSetWellFormed m.now result }
 {
     set_abi::well_formed(KIND, &m.count, &m.starts, &m.ends, &m.values)
 }
@@ -216,7 +217,7 @@ pub extern "C" fn range_set_intersection(
     out_starts: &mut [i64],
     out_ends: &mut [i64],
 ) -> Count
-    ensures { RangeSetIntersection (was a) (was b) (was out_starts) (becomes out_starts) (was out_ends) (becomes out_ends) result }
+    ensures { RangeSetIntersection a.now b.now out_starts.old out_starts.new out_ends.old out_ends.new result }
 {
     set_abi::combine(
         KIND,
@@ -242,7 +243,7 @@ pub extern "C" fn range_set_union(
     out_starts: &mut [i64],
     out_ends: &mut [i64],
 ) -> Count
-    ensures { RangeSetUnion (was a) (was b) (was out_starts) (becomes out_starts) (was out_ends) (becomes out_ends) result }
+    ensures { RangeSetUnion a.now b.now out_starts.old out_starts.new out_ends.old out_ends.new result }
 {
     set_abi::combine(
         KIND,
@@ -263,7 +264,7 @@ pub extern "C" fn range_set_union(
 // How many keys are covered, as a u64; 9 if that is over 2^64 - 1.
 #[unsafe(no_mangle)]
 pub extern "C" fn range_set_total(m: &RangeSet) -> Total
-    ensures { RangeSetTotal (was m) result }
+    ensures { RangeSetTotal m.now result }
 {
     set_abi::total(KIND, &m.count, &m.starts, &m.ends, &m.values)
 }

@@ -1,9 +1,10 @@
 // The functions of a set of either kind, over its fields, with their answers as structs of numbers: what C and Rust see. The exported functions of
 // `set` and `inclusive_set` name their kind and lend all the fields of their set to these.
+#![tactic(auto)]
+
 ghost use Rattle.std.specs.Prelude.{◌≡◌, true, length};
-ghost use Rattle.lent.specs.Moments.{was, becomes};
 ghost use Rattle.key.specs.Range.{kind_of};
-ghost use Rattle.outcomes.specs.Stored.{places, at_entry, at_exit};
+ghost use Rattle.outcomes.specs.Stored.{places, stored};
 ghost use Rattle.outcomes.specs.Numbers.{asked_in_c, counted_in_c, found_in_c, part_in_c, compared_in_c, totalled_in_c};
 ghost use Rattle.outcomes.specs.Outcomes.{not_written};
 ghost use Rattle.outcomes.specs.Outcomes.{Listed, leaving, is_empty, count_of, range_at, first_of, last_of, lookup, contains, overlaps, overlapping, gaps};
@@ -30,7 +31,7 @@ pub fn is_empty(
     ends: &[i64; PLACES],
     values: &[Value; PLACES],
 ) -> Told
-    ensures { result ≡ asked_in_c (if_set (at_entry count starts ends values) (is_empty (kind_of kind) (at_entry count starts ends values)) Asked.Refused) }
+    ensures { result ≡ asked_in_c (if_set (stored count.now starts.now ends.now values.now) (is_empty (kind_of kind) (stored count.now starts.now ends.now values.now)) Asked.Refused) }
 {
     told_of(set_ops::stored::is_empty(kind, count, starts, ends, values))
 }
@@ -42,7 +43,7 @@ pub fn len(
     ends: &[i64; PLACES],
     values: &[Value; PLACES],
 ) -> Count
-    ensures { result ≡ counted_in_c (if_set (at_entry count starts ends values) (count_of (kind_of kind) (at_entry count starts ends values)) Counted.Refused) }
+    ensures { result ≡ counted_in_c (if_set (stored count.now starts.now ends.now values.now) (count_of (kind_of kind) (stored count.now starts.now ends.now values.now)) Counted.Refused) }
 {
     count_of(set_ops::stored::len(kind, count, starts, ends, values))
 }
@@ -55,7 +56,7 @@ pub fn range_at(
     values: &[Value; PLACES],
     place: usize,
 ) -> Range
-    ensures { result ≡ found_in_c (if_set (at_entry count starts ends values) (range_at (kind_of kind) (at_entry count starts ends values) place) Found.Refused) }
+    ensures { result ≡ found_in_c (if_set (stored count.now starts.now ends.now values.now) (range_at (kind_of kind) (stored count.now starts.now ends.now values.now) place) Found.Refused) }
 {
     range_of(set_ops::stored::range_at(kind, count, starts, ends, values, place))
 }
@@ -67,7 +68,7 @@ pub fn first(
     ends: &[i64; PLACES],
     values: &[Value; PLACES],
 ) -> Range
-    ensures { result ≡ found_in_c (if_set (at_entry count starts ends values) (first_of (kind_of kind) (at_entry count starts ends values)) Found.Refused) }
+    ensures { result ≡ found_in_c (if_set (stored count.now starts.now ends.now values.now) (first_of (kind_of kind) (stored count.now starts.now ends.now values.now)) Found.Refused) }
 {
     range_of(set_ops::stored::first(kind, count, starts, ends, values))
 }
@@ -79,7 +80,7 @@ pub fn last(
     ends: &[i64; PLACES],
     values: &[Value; PLACES],
 ) -> Range
-    ensures { result ≡ found_in_c (if_set (at_entry count starts ends values) (last_of (kind_of kind) (at_entry count starts ends values)) Found.Refused) }
+    ensures { result ≡ found_in_c (if_set (stored count.now starts.now ends.now values.now) (last_of (kind_of kind) (stored count.now starts.now ends.now values.now)) Found.Refused) }
 {
     range_of(set_ops::stored::last(kind, count, starts, ends, values))
 }
@@ -92,7 +93,7 @@ pub fn get(
     values: &[Value; PLACES],
     key: i64,
 ) -> Range
-    ensures { result ≡ found_in_c (if_set (at_entry count starts ends values) (lookup (kind_of kind) (at_entry count starts ends values) key) Found.Refused) }
+    ensures { result ≡ found_in_c (if_set (stored count.now starts.now ends.now values.now) (lookup (kind_of kind) (stored count.now starts.now ends.now values.now) key) Found.Refused) }
 {
     range_of(set_ops::found::get(kind, count, starts, ends, values, key))
 }
@@ -105,7 +106,7 @@ pub fn contains(
     values: &[Value; PLACES],
     key: i64,
 ) -> Told
-    ensures { result ≡ asked_in_c (if_set (at_entry count starts ends values) (contains (kind_of kind) (at_entry count starts ends values) key) Asked.Refused) }
+    ensures { result ≡ asked_in_c (if_set (stored count.now starts.now ends.now values.now) (contains (kind_of kind) (stored count.now starts.now ends.now values.now) key) Asked.Refused) }
 {
     told_of(set_ops::found::contains(kind, count, starts, ends, values, key))
 }
@@ -119,8 +120,8 @@ pub fn overlaps(
     start: i64,
     end: i64,
 ) -> Told
-    ensures { result ≡ asked_in_c (if_set (at_entry count starts ends values)
-        (overlaps (kind_of kind) (at_entry count starts ends values) start end) Asked.Refused) }
+    ensures { result ≡ asked_in_c (if_set (stored count.now starts.now ends.now values.now)
+        (overlaps (kind_of kind) (stored count.now starts.now ends.now values.now) start end) Asked.Refused) }
 {
     told_of(set_ops::found::overlaps(kind, count, starts, ends, values, start, end))
 }
@@ -134,8 +135,8 @@ pub fn overlapping(
     start: i64,
     end: i64,
 ) -> Stretch
-    ensures { result ≡ part_in_c (if_set (at_entry count starts ends values)
-        (overlapping (kind_of kind) (at_entry count starts ends values) start end) Part.Refused) }
+    ensures { result ≡ part_in_c (if_set (stored count.now starts.now ends.now values.now)
+        (overlapping (kind_of kind) (stored count.now starts.now ends.now values.now) start end) Part.Refused) }
 {
     stretch_of(set_ops::found::overlapping(kind, count, starts, ends, values, start, end))
 }
@@ -151,9 +152,9 @@ pub fn gaps(
     out_starts: &mut [i64],
     out_ends: &mut [i64],
 ) -> Count
-    ensures { Listed result (becomes out_starts) (becomes out_ends)
-        (if_set (at_entry count starts ends values) (gaps (kind_of kind) (at_entry count starts ends values) start end (was out_starts) (was out_ends))
-        (λ n. not_written n (was out_starts) (was out_ends))) }
+    ensures { Listed result out_starts.new out_ends.new
+        (if_set (stored count.now starts.now ends.now values.now) (gaps (kind_of kind) (stored count.now starts.now ends.now values.now) start end out_starts.old out_ends.old)
+        (λ n. not_written n out_starts.old out_ends.old)) }
 {
     count_of(set_ops::found::gaps(
         kind, count, starts, ends, values, start, end, out_starts, out_ends,
@@ -171,8 +172,8 @@ pub fn eq(
     ends2: &[i64; PLACES],
     values2: &[Value; PLACES],
 ) -> Told
-    ensures { result ≡ asked_in_c (if_sets (at_entry count starts ends values) (at_entry count2 starts2 ends2 values2)
-        (equal (kind_of kind) (at_entry count starts ends values) (at_entry count2 starts2 ends2 values2)) Asked.Refused) }
+    ensures { result ≡ asked_in_c (if_sets (stored count.now starts.now ends.now values.now) (stored count2.now starts2.now ends2.now values2.now)
+        (equal (kind_of kind) (stored count.now starts.now ends.now values.now) (stored count2.now starts2.now ends2.now values2.now)) Asked.Refused) }
 {
     told_of(set_ops::stored::eq(
         kind, count, starts, ends, values, count2, starts2, ends2, values2,
@@ -190,8 +191,8 @@ pub fn cmp(
     ends2: &[i64; PLACES],
     values2: &[Value; PLACES],
 ) -> Order
-    ensures { result ≡ compared_in_c (if_sets (at_entry count starts ends values) (at_entry count2 starts2 ends2 values2)
-        (order (kind_of kind) (at_entry count starts ends values) (at_entry count2 starts2 ends2 values2)) Compared.Refused) }
+    ensures { result ≡ compared_in_c (if_sets (stored count.now starts.now ends.now values.now) (stored count2.now starts2.now ends2.now values2.now)
+        (order (kind_of kind) (stored count.now starts.now ends.now values.now) (stored count2.now starts2.now ends2.now values2.now)) Compared.Refused) }
 {
     order_of(set_ops::stored::cmp(
         kind, count, starts, ends, values, count2, starts2, ends2, values2,
@@ -207,9 +208,9 @@ pub fn insert(
     start: i64,
     end: i64,
 ) -> u8
-    ensures { leaving result (at_exit count starts ends values)
-        ≡ if_set (at_entry count starts ends values) (insert (kind_of kind) (at_entry count starts ends values) start end 0)
-        (λ n. leaving n (at_entry count starts ends values)) }
+    ensures { leaving result (stored count.new starts.new ends.new values.new)
+        ≡ if_set (stored count.old starts.old ends.old values.old) (insert (kind_of kind) (stored count.old starts.old ends.old values.old) start end 0)
+        (λ n. leaving n (stored count.old starts.old ends.old values.old)) }
 {
     number_of(set_ops::changed::insert(kind, count, starts, ends, values, start, end))
 }
@@ -223,9 +224,9 @@ pub fn remove(
     start: i64,
     end: i64,
 ) -> u8
-    ensures { leaving result (at_exit count starts ends values)
-        ≡ if_set (at_entry count starts ends values) (remove (kind_of kind) (at_entry count starts ends values) start end)
-        (λ n. leaving n (at_entry count starts ends values)) }
+    ensures { leaving result (stored count.new starts.new ends.new values.new)
+        ≡ if_set (stored count.old starts.old ends.old values.old) (remove (kind_of kind) (stored count.old starts.old ends.old values.old) start end)
+        (λ n. leaving n (stored count.old starts.old ends.old values.old)) }
 {
     number_of(set_ops::changed::remove(kind, count, starts, ends, values, start, end))
 }
@@ -237,8 +238,8 @@ pub fn well_formed(
     ends: &[i64; PLACES],
     values: &[Value; PLACES],
 ) -> bool
-    ensures { (result ≡ formed_set (kind_of kind) (at_entry count starts ends values))
-        × (result ≡ true → SoundSet (kind_of kind) (at_entry count starts ends values) × (length (was starts) ≡ places)) }
+    ensures { (result ≡ formed_set (kind_of kind) (stored count.now starts.now ends.now values.now))
+        × (result ≡ true → SoundSet (kind_of kind) (stored count.now starts.now ends.now values.now) × (length starts.now ≡ places)) }
 {
     store::plain::is_set(kind, *count, starts, ends, values)
 }
@@ -258,10 +259,10 @@ pub fn combine(
     out_starts: &mut [i64],
     out_ends: &mut [i64],
 ) -> Count
-    ensures { Listed result (becomes out_starts) (becomes out_ends) (combined_any operation (kind_of kind)
-        (at_entry count starts ends values)
-        (at_entry count2 starts2 ends2 values2)
-        (was out_starts) (was out_ends)) }
+    ensures { Listed result out_starts.new out_ends.new (combined_any operation (kind_of kind)
+        (stored count.now starts.now ends.now values.now)
+        (stored count2.now starts2.now ends2.now values2.now)
+        out_starts.old out_ends.old) }
 {
     count_of(operations::combine(
         kind, operation, count, starts, ends, values, count2, starts2, ends2, values2, out_starts,
@@ -276,7 +277,7 @@ pub fn total(
     ends: &[i64; PLACES],
     values: &[Value; PLACES],
 ) -> Total
-    ensures { result ≡ totalled_in_c (total_of (kind_of kind) (at_entry count starts ends values)) }
+    ensures { result ≡ totalled_in_c (total_of (kind_of kind) (stored count.now starts.now ends.now values.now)) }
 {
     total_of(set_total::total(kind, count, starts, ends, values))
 }

@@ -1,8 +1,7 @@
 // Bulk insert into a set: in list order, up to the first refusal. The set is checked once.
 ghost use Rattle.std.specs.Prelude.{◌≡◌};
-ghost use Rattle.lent.specs.Moments.{was};
 ghost use Rattle.key.specs.Range.{kind_of};
-ghost use Rattle.outcomes.specs.Stored.{lent, Sound, at_entry, at_exit};
+ghost use Rattle.outcomes.specs.Stored.{Sound, stored};
 ghost use Rattle.outcomes.specs.Outcomes.{bulk_insert, bulk_insert_sound, extended};
 ghost use Rattle.outcomes.specs.Sets.{if_set, pairs};
 
@@ -23,9 +22,9 @@ fn extend_formed(
     new_starts: &[i64],
     new_ends: &[i64],
 ) -> Applied
-    requires { Sound (kind_of kind) (lent count starts ends values) }
-    ensures { extended result (at_exit count starts ends values)
-        ≡ bulk_insert_sound (kind_of kind) (at_entry count starts ends values) 0 (pairs (was new_starts) (was new_ends)) }
+    requires { Sound (kind_of kind) (stored count.old starts.old ends.old values.old) }
+    ensures { extended result (stored count.new starts.new ends.new values.new)
+        ≡ bulk_insert_sound (kind_of kind) (stored count.old starts.old ends.old values.old) 0 (pairs new_starts.now new_ends.now) }
 {
     let n = shorter(new_starts.len(), new_ends.len());
     let mut i = 0;
@@ -64,9 +63,9 @@ pub fn extend(
     new_starts: &[i64],
     new_ends: &[i64],
 ) -> Applied
-    ensures { extended result (at_exit count starts ends values)
-        ≡ if_set (at_entry count starts ends values) (bulk_insert (kind_of kind) (at_entry count starts ends values) (pairs (was new_starts) (was new_ends)))
-        (λ n. extended (record { answer = n; applied = 0 }) (at_entry count starts ends values)) }
+    ensures { extended result (stored count.new starts.new ends.new values.new)
+        ≡ if_set (stored count.old starts.old ends.old values.old) (bulk_insert (kind_of kind) (stored count.old starts.old ends.old values.old) (pairs new_starts.now new_ends.now))
+        (λ n. extended (record { answer = n; applied = 0 }) (stored count.old starts.old ends.old values.old)) }
 {
     if !plain(values) {
         return Applied {

@@ -1,6 +1,6 @@
 // Edits of a set: those of the map, with value 0.
 ghost use Rattle.key.specs.Range.{kind_of};
-ghost use Rattle.outcomes.specs.Stored.{at_entry, at_exit};
+ghost use Rattle.outcomes.specs.Stored.{stored};
 ghost use Rattle.outcomes.specs.Outcomes.{insert, leaving, remove};
 ghost use Rattle.outcomes.specs.Sets.{if_set};
 ghost use Rattle.outcomes.specs.InnerOutcome.{Leaves};
@@ -20,9 +20,9 @@ pub fn insert(
     start: i64,
     end: i64,
 ) -> Outcome
-    ensures { Leaves result (at_exit count starts ends values)
-        (if_set (at_entry count starts ends values) (insert (kind_of kind) (at_entry count starts ends values) start end 0)
-        (λ n. leaving n (at_entry count starts ends values))) }
+    ensures { Leaves result (stored count.new starts.new ends.new values.new)
+        (if_set (stored count.old starts.old ends.old values.old) (insert (kind_of kind) (stored count.old starts.old ends.old values.old) start end 0)
+        (λ n. leaving n (stored count.old starts.old ends.old values.old))) }
 {
     if !plain(values) {
         return Outcome::Refused(NOT_FORMED);
@@ -40,9 +40,9 @@ pub fn remove(
     start: i64,
     end: i64,
 ) -> Outcome
-    ensures { Leaves result (at_exit count starts ends values)
-        (if_set (at_entry count starts ends values) (remove (kind_of kind) (at_entry count starts ends values) start end)
-        (λ n. leaving n (at_entry count starts ends values))) }
+    ensures { Leaves result (stored count.new starts.new ends.new values.new)
+        (if_set (stored count.old starts.old ends.old values.old) (remove (kind_of kind) (stored count.old starts.old ends.old values.old) start end)
+        (λ n. leaving n (stored count.old starts.old ends.old values.old))) }
 {
     if !plain(values) {
         return Outcome::Refused(NOT_FORMED);

@@ -1,8 +1,7 @@
 // What a set holds at a key and over a range.
 ghost use Rattle.std.specs.Prelude.{◌≡◌};
-ghost use Rattle.lent.specs.Moments.{was, becomes};
 ghost use Rattle.key.specs.Range.{kind_of};
-ghost use Rattle.outcomes.specs.Stored.{lent, at_entry};
+ghost use Rattle.outcomes.specs.Stored.{stored};
 ghost use Rattle.outcomes.specs.Outcomes.{not_written, contains, gaps, lookup, overlaps, overlapping};
 ghost use Rattle.outcomes.specs.Sets.{if_set};
 ghost use Rattle.range_list.specs.InnerLists.{wrote};
@@ -21,7 +20,7 @@ pub fn get(
     values: &[Value; PLACES],
     key: i64,
 ) -> Found
-    ensures { result ≡ if_set (at_entry count starts ends values) (lookup (kind_of kind) (at_entry count starts ends values) key) Found.Refused }
+    ensures { result ≡ if_set (stored count.now starts.now ends.now values.now) (lookup (kind_of kind) (stored count.now starts.now ends.now values.now) key) Found.Refused }
 {
     if !plain(values) {
         return Found::Refused(NOT_FORMED);
@@ -38,7 +37,7 @@ pub fn contains(
     values: &[Value; PLACES],
     key: i64,
 ) -> Asked
-    ensures { result ≡ if_set (at_entry count starts ends values) (contains (kind_of kind) (at_entry count starts ends values) key) Asked.Refused }
+    ensures { result ≡ if_set (stored count.now starts.now ends.now values.now) (contains (kind_of kind) (stored count.now starts.now ends.now values.now) key) Asked.Refused }
 {
     if !plain(values) {
         return Asked::Refused(NOT_FORMED);
@@ -56,7 +55,7 @@ pub fn overlaps(
     start: i64,
     end: i64,
 ) -> Asked
-    ensures { result ≡ if_set (at_entry count starts ends values) (overlaps (kind_of kind) (at_entry count starts ends values) start end) Asked.Refused }
+    ensures { result ≡ if_set (stored count.now starts.now ends.now values.now) (overlaps (kind_of kind) (stored count.now starts.now ends.now values.now) start end) Asked.Refused }
 {
     if !plain(values) {
         return Asked::Refused(NOT_FORMED);
@@ -74,7 +73,7 @@ pub fn overlapping(
     start: i64,
     end: i64,
 ) -> Part
-    ensures { result ≡ if_set (at_entry count starts ends values) (overlapping (kind_of kind) (at_entry count starts ends values) start end) Part.Refused }
+    ensures { result ≡ if_set (stored count.now starts.now ends.now values.now) (overlapping (kind_of kind) (stored count.now starts.now ends.now values.now) start end) Part.Refused }
 {
     if !plain(values) {
         return Part::Refused(NOT_FORMED);
@@ -94,9 +93,9 @@ pub fn gaps(
     out_starts: &mut [i64],
     out_ends: &mut [i64],
 ) -> Counted
-    ensures { wrote result (becomes out_starts) (becomes out_ends)
-        ≡ if_set (at_entry count starts ends values) (gaps (kind_of kind) (at_entry count starts ends values) start end (was out_starts) (was out_ends))
-        (λ n. not_written n (was out_starts) (was out_ends)) }
+    ensures { wrote result out_starts.new out_ends.new
+        ≡ if_set (stored count.now starts.now ends.now values.now) (gaps (kind_of kind) (stored count.now starts.now ends.now values.now) start end out_starts.old out_ends.old)
+        (λ n. not_written n out_starts.old out_ends.old) }
 {
     if !plain(values) {
         return Counted::Refused(NOT_FORMED);

@@ -1,7 +1,7 @@
 // What a set holds as a list: a set is a map whose values are all 0, so the answer is the map's.
 ghost use Rattle.std.specs.Prelude.{◌≡◌};
 ghost use Rattle.key.specs.Range.{kind_of};
-ghost use Rattle.outcomes.specs.Stored.{at_entry};
+ghost use Rattle.outcomes.specs.Stored.{stored};
 ghost use Rattle.outcomes.specs.Outcomes.{count_of, equal, first_of, is_empty, last_of, order, range_at};
 ghost use Rattle.outcomes.specs.Sets.{if_set, if_sets};
 
@@ -18,7 +18,7 @@ pub fn is_empty(
     ends: &[i64; PLACES],
     values: &[Value; PLACES],
 ) -> Asked
-    ensures { result ≡ if_set (at_entry count starts ends values) (is_empty (kind_of kind) (at_entry count starts ends values)) Asked.Refused }
+    ensures { result ≡ if_set (stored count.now starts.now ends.now values.now) (is_empty (kind_of kind) (stored count.now starts.now ends.now values.now)) Asked.Refused }
 {
     if !plain(values) {
         return Asked::Refused(NOT_FORMED);
@@ -34,7 +34,7 @@ pub fn len(
     ends: &[i64; PLACES],
     values: &[Value; PLACES],
 ) -> Counted
-    ensures { result ≡ if_set (at_entry count starts ends values) (count_of (kind_of kind) (at_entry count starts ends values)) Counted.Refused }
+    ensures { result ≡ if_set (stored count.now starts.now ends.now values.now) (count_of (kind_of kind) (stored count.now starts.now ends.now values.now)) Counted.Refused }
 {
     if !plain(values) {
         return Counted::Refused(NOT_FORMED);
@@ -51,7 +51,7 @@ pub fn range_at(
     values: &[Value; PLACES],
     place: usize,
 ) -> Found
-    ensures { result ≡ if_set (at_entry count starts ends values) (range_at (kind_of kind) (at_entry count starts ends values) place) Found.Refused }
+    ensures { result ≡ if_set (stored count.now starts.now ends.now values.now) (range_at (kind_of kind) (stored count.now starts.now ends.now values.now) place) Found.Refused }
 {
     if !plain(values) {
         return Found::Refused(NOT_FORMED);
@@ -67,7 +67,7 @@ pub fn first(
     ends: &[i64; PLACES],
     values: &[Value; PLACES],
 ) -> Found
-    ensures { result ≡ if_set (at_entry count starts ends values) (first_of (kind_of kind) (at_entry count starts ends values)) Found.Refused }
+    ensures { result ≡ if_set (stored count.now starts.now ends.now values.now) (first_of (kind_of kind) (stored count.now starts.now ends.now values.now)) Found.Refused }
 {
     if !plain(values) {
         return Found::Refused(NOT_FORMED);
@@ -83,7 +83,7 @@ pub fn last(
     ends: &[i64; PLACES],
     values: &[Value; PLACES],
 ) -> Found
-    ensures { result ≡ if_set (at_entry count starts ends values) (last_of (kind_of kind) (at_entry count starts ends values)) Found.Refused }
+    ensures { result ≡ if_set (stored count.now starts.now ends.now values.now) (last_of (kind_of kind) (stored count.now starts.now ends.now values.now)) Found.Refused }
 {
     if !plain(values) {
         return Found::Refused(NOT_FORMED);
@@ -103,8 +103,8 @@ pub fn cmp(
     ends2: &[i64; PLACES],
     values2: &[Value; PLACES],
 ) -> Compared
-    ensures { result ≡ if_sets (at_entry count starts ends values) (at_entry count2 starts2 ends2 values2)
-        (order (kind_of kind) (at_entry count starts ends values) (at_entry count2 starts2 ends2 values2)) Compared.Refused }
+    ensures { result ≡ if_sets (stored count.now starts.now ends.now values.now) (stored count2.now starts2.now ends2.now values2.now)
+        (order (kind_of kind) (stored count.now starts.now ends.now values.now) (stored count2.now starts2.now ends2.now values2.now)) Compared.Refused }
 {
     if !plain(values) {
         return Compared::Refused(NOT_FORMED);
@@ -129,8 +129,8 @@ pub fn eq(
     ends2: &[i64; PLACES],
     values2: &[Value; PLACES],
 ) -> Asked
-    ensures { result ≡ if_sets (at_entry count starts ends values) (at_entry count2 starts2 ends2 values2)
-        (equal (kind_of kind) (at_entry count starts ends values) (at_entry count2 starts2 ends2 values2)) Asked.Refused }
+    ensures { result ≡ if_sets (stored count.now starts.now ends.now values.now) (stored count2.now starts2.now ends2.now values2.now)
+        (equal (kind_of kind) (stored count.now starts.now ends.now values.now) (stored count2.now starts2.now ends2.now values2.now)) Asked.Refused }
 {
     if !plain(values) {
         return Asked::Refused(NOT_FORMED);

@@ -1,10 +1,11 @@
 // TOTAL: how many keys a set covers. A range's length is a difference of ranks, which never wraps; one of i64 can.
+#![tactic(auto)]
+
 ghost use Rattle.std.specs.Prelude.{◌≡◌, ◌-◌, ◌≤◌, ◌<◌};
-ghost use Rattle.lent.specs.Moments.{was};
 ghost use Rattle.key.specs.InnerDecides.{Decides};
 ghost use Rattle.key.specs.Rank.{rank, keys};
 ghost use Rattle.key.specs.Range.{kind_of};
-ghost use Rattle.outcomes.specs.Stored.{lent, stored, at_entry, at_entry_with};
+ghost use Rattle.outcomes.specs.Stored.{stored};
 ghost use Rattle.outcomes.specs.Sets.{SoundSet, total_sound, total_of};
 ghost use Rattle.two_sets.specs.InnerSides.{Side};
 ghost use Rattle.set_total.specs.InnerSum.{columns_total};
@@ -26,7 +27,7 @@ fn apart(start: i64, end: i64) -> u64
 // Whether the set is the one range of all keys. No u64 holds its total, and it is the only such set.
 fn full(kind: RangeKind, starts: &[i64], ends: &[i64], count: usize) -> bool
     requires { Side (kind_of kind) starts.now ends.now count }
-    ensures { Decides result (keys ≤ columns_total kind (was starts) (was ends) count) }
+    ensures { Decides result (keys ≤ columns_total kind starts.now ends.now count) }
 {
     if width(kind) == 0 {
         return false;
@@ -44,7 +45,7 @@ fn full(kind: RangeKind, starts: &[i64], ends: &[i64], count: usize) -> bool
 // The lengths, added up.
 fn sum(kind: RangeKind, starts: &[i64], ends: &[i64], count: usize) -> u64
     requires { Side (kind_of kind) starts.now ends.now count × (columns_total kind starts.now ends.now count < keys) }
-    ensures { result ≡ columns_total kind (was starts) (was ends) count }
+    ensures { result ≡ columns_total kind starts.now ends.now count }
 {
     let mut total = 0;
     let mut k = 0;
@@ -64,7 +65,7 @@ pub fn total_unchecked(
     values: &[Value],
 ) -> Totalled
     requires { SoundSet (kind_of kind) (stored count starts.now ends.now values.now) }
-    ensures { result ≡ total_sound (kind_of kind) (at_entry_with count starts ends values) }
+    ensures { result ≡ total_sound (kind_of kind) (stored count starts.now ends.now values.now) }
 {
     if full(kind, starts, ends, count) {
         return Totalled::Refused(TOTAL_OVER);
@@ -81,7 +82,7 @@ pub fn total(
     ends: &[i64; PLACES],
     values: &[Value; PLACES],
 ) -> Totalled
-    ensures { result ≡ total_of (kind_of kind) (at_entry count starts ends values) }
+    ensures { result ≡ total_of (kind_of kind) (stored count.now starts.now ends.now values.now) }
 {
     if !is_set(kind, *count, starts, ends, values) {
         return Totalled::Refused(NOT_FORMED);

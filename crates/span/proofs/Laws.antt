@@ -135,7 +135,8 @@ module _ (lo hi : ℕ) (new : Option ℕ) (m : List Span) (real : lo < hi) (t : 
 pub history_means : {f : ℕ → Option ℕ} {m : List Span} (es : List Edit) → Real es → Means m f → Means (history es m) (λ k. last es k (f k))
 unfolding history last
 history_means [] r a = a
-history_means (e ∷ es) r a = history_means es r.1 (given_means e.lo e.hi e.new r.0 a)
+history_means {f = f} {m = m} (e ∷ es) r a =
+    history_means {f = λ x. cond (inside e.lo e.hi x) e.new (f x)} {m = given e.lo e.hi e.new m} es r.1 (given_means e.lo e.hi e.new r.0 a)
 
 -- histories from nothing that agree at every instant leave equal lists
 pub same_history : (es fs : List Edit) → Real es → Real fs → ((k : ℕ) → last es k none ≡ last fs k none) → history es [] ≡ history fs []

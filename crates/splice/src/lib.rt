@@ -1,13 +1,14 @@
 // Columns of a map: moves, stores, and the replacement of places. Each column has loops of its own, so that they vectorise.
+#![tactic(auto)]
+
 ghost use Rattle.std.specs.Prelude.{◌≡◌, [], ◌∷◌, ◌+◌, ◌≤◌, length, take, pos};
-ghost use Rattle.lent.specs.Moments.{was, becomes};
 ghost use Rattle.splice.specs.InnerSplice.{moved, filled_with, put_from, Filler, spliced};
 ghost use Rattle.splice.specs.InnerReplace.{Columns, Apt, Room, new_starts, new_ends, new_values};
 
 use key::Value;
 
 // A range and its value.
-#[derive(Drop)]
+#[derive(Clone, Copy)]
 pub struct Entry {
     pub start: i64,
     pub end: i64,
@@ -15,7 +16,7 @@ pub struct Entry {
 }
 
 // The places from `from` up to `to` go; the first `n` of x, y and z come in their stead.
-#[derive(Drop)]
+#[derive(Clone, Copy)]
 pub struct Replacement {
     pub from: usize,
     pub to: usize,
@@ -28,7 +29,7 @@ pub struct Replacement {
 // Moves n places to the left, the first one first: none is written before it is read.
 fn move_left_keys(a: &mut [i64], from: usize, to: usize, n: usize)
     requires { (to ≤ from) × (from + n ≤ length a.old) }
-    ensures { becomes a ≡ moved (was a) from to n }
+    ensures { a.new ≡ moved a.old from to n }
 {
     let mut p = 0;
     while p < n {
@@ -40,7 +41,7 @@ fn move_left_keys(a: &mut [i64], from: usize, to: usize, n: usize)
 // Moves n places to the right, the last one first, for the same reason.
 fn move_right_keys(a: &mut [i64], from: usize, to: usize, n: usize)
     requires { (from ≤ to) × (to + n ≤ length a.old) }
-    ensures { becomes a ≡ moved (was a) from to n }
+    ensures { a.new ≡ moved a.old from to n }
 {
     let mut p = n;
     while 0 < p {
@@ -52,7 +53,7 @@ fn move_right_keys(a: &mut [i64], from: usize, to: usize, n: usize)
 // Moves n places, to either side.
 fn move_keys(a: &mut [i64], from: usize, to: usize, n: usize)
     requires { (from + n ≤ length a.old) × (to + n ≤ length a.old) }
-    ensures { becomes a ≡ moved (was a) from to n }
+    ensures { a.new ≡ moved a.old from to n }
 {
     if to < from {
         move_left_keys(a, from, to, n);
@@ -64,7 +65,7 @@ fn move_keys(a: &mut [i64], from: usize, to: usize, n: usize)
 // Writes 0 into the places from `from` up to `to`.
 pub fn clear_keys(a: &mut [i64], from: usize, to: usize)
     requires { to ≤ length a.old }
-    ensures { becomes a ≡ filled_with (was a) from to (pos 0) }
+    ensures { a.new ≡ filled_with a.old from to (pos 0) }
 {
     let mut p = from;
     while p < to {
@@ -76,7 +77,7 @@ pub fn clear_keys(a: &mut [i64], from: usize, to: usize)
 // Writes the first k of x, y and z from the place i on.
 fn put_keys(a: &mut [i64], i: usize, k: usize, x: i64, y: i64, z: i64)
     requires { (k ≤ 3) × (i + k ≤ length a.old) }
-    ensures { becomes a ≡ put_from (was a) i k x y z }
+    ensures { a.new ≡ put_from a.old i k x y z }
 {
     if k == 0 {
         return;
@@ -95,7 +96,7 @@ fn put_keys(a: &mut [i64], i: usize, k: usize, x: i64, y: i64, z: i64)
 // Carries a replacement out in one column, in which x, y and z come; the places after those that go move up or down.
 fn splice_keys(a: &mut [i64], count: usize, p: Replacement, x: i64, y: i64, z: i64)
     requires { Apt count p × Room count p (length a.old) × Filler a.old count (pos 0) }
-    ensures { becomes a ≡ spliced (was a) p.from p.to count (take p.n (x ∷ y ∷ z ∷ [])) (pos 0) }
+    ensures { a.new ≡ spliced a.old p.from p.to count (take p.n (x ∷ y ∷ z ∷ [])) (pos 0) }
 {
     let from = p.from;
     let to = p.to;
@@ -110,7 +111,7 @@ fn splice_keys(a: &mut [i64], count: usize, p: Replacement, x: i64, y: i64, z: i
 // Moves n places to the left, the first one first: none is written before it is read.
 fn move_left_values(a: &mut [Value], from: usize, to: usize, n: usize)
     requires { (to ≤ from) × (from + n ≤ length a.old) }
-    ensures { becomes a ≡ moved (was a) from to n }
+    ensures { a.new ≡ moved a.old from to n }
 {
     let mut p = 0;
     while p < n {
@@ -122,7 +123,7 @@ fn move_left_values(a: &mut [Value], from: usize, to: usize, n: usize)
 // Moves n places to the right, the last one first, for the same reason.
 fn move_right_values(a: &mut [Value], from: usize, to: usize, n: usize)
     requires { (from ≤ to) × (to + n ≤ length a.old) }
-    ensures { becomes a ≡ moved (was a) from to n }
+    ensures { a.new ≡ moved a.old from to n }
 {
     let mut p = n;
     while 0 < p {
@@ -134,7 +135,7 @@ fn move_right_values(a: &mut [Value], from: usize, to: usize, n: usize)
 // Moves n places, to either side.
 fn move_values(a: &mut [Value], from: usize, to: usize, n: usize)
     requires { (from + n ≤ length a.old) × (to + n ≤ length a.old) }
-    ensures { becomes a ≡ moved (was a) from to n }
+    ensures { a.new ≡ moved a.old from to n }
 {
     if to < from {
         move_left_values(a, from, to, n);
@@ -146,7 +147,7 @@ fn move_values(a: &mut [Value], from: usize, to: usize, n: usize)
 // Writes 0 into the places from `from` up to `to`.
 pub fn clear_values(a: &mut [Value], from: usize, to: usize)
     requires { to ≤ length a.old }
-    ensures { becomes a ≡ filled_with (was a) from to 0 }
+    ensures { a.new ≡ filled_with a.old from to 0 }
 {
     let mut p = from;
     while p < to {
@@ -158,7 +159,7 @@ pub fn clear_values(a: &mut [Value], from: usize, to: usize)
 // Writes the first k of x, y and z from the place i on.
 fn put_values(a: &mut [Value], i: usize, k: usize, x: Value, y: Value, z: Value)
     requires { (k ≤ 3) × (i + k ≤ length a.old) }
-    ensures { becomes a ≡ put_from (was a) i k x y z }
+    ensures { a.new ≡ put_from a.old i k x y z }
 {
     if k == 0 {
         return;
@@ -177,7 +178,7 @@ fn put_values(a: &mut [Value], i: usize, k: usize, x: Value, y: Value, z: Value)
 // Carries a replacement out in one column, in which x, y and z come; the places after those that go move up or down.
 fn splice_values(a: &mut [Value], count: usize, p: Replacement, x: Value, y: Value, z: Value)
     requires { Apt count p × Room count p (length a.old) × Filler a.old count 0 }
-    ensures { becomes a ≡ spliced (was a) p.from p.to count (take p.n (x ∷ y ∷ z ∷ [])) 0 }
+    ensures { a.new ≡ spliced a.old p.from p.to count (take p.n (x ∷ y ∷ z ∷ [])) 0 }
 {
     let from = p.from;
     let to = p.to;
@@ -198,9 +199,9 @@ pub fn splice(
     p: Replacement,
 )
     requires { Columns count starts.old ends.old values.old × Apt count p × Room count p (length starts.old) }
-    ensures starts_value { becomes starts ≡ spliced (was starts) p.from p.to count (new_starts p) (pos 0) }
-    ensures ends_value { becomes ends ≡ spliced (was ends) p.from p.to count (new_ends p) (pos 0) }
-    ensures values_value { becomes values ≡ spliced (was values) p.from p.to count (new_values p) 0 }
+    ensures starts_value { starts.new ≡ spliced starts.old p.from p.to count (new_starts p) (pos 0) }
+    ensures ends_value { ends.new ≡ spliced ends.old p.from p.to count (new_ends p) (pos 0) }
+    ensures values_value { values.new ≡ spliced values.old p.from p.to count (new_values p) 0 }
 {
     let x = p.x;
     let y = p.y;

@@ -1,10 +1,9 @@
 // The check of a lent map of either kind. The live places are walked once, and each column of the unused ones once.
 ghost use Rattle.std.specs.Prelude.{◌≡◌, true, ℕ, ◌+◌, ◌<◌, ◌≤◌, length, pos};
-ghost use Rattle.lent.specs.Moments.{was};
 ghost use Rattle.key.specs.InnerDecides.{Decides};
 ghost use Rattle.key.specs.Rank.{rank};
 ghost use Rattle.key.specs.Range.{half_open, inclusive, kind_of};
-ghost use Rattle.outcomes.specs.Stored.{places, Sound, Spare, at_entry_with};
+ghost use Rattle.outcomes.specs.Stored.{places, Sound, Spare, stored};
 ghost use Rattle.outcomes.specs.Outcomes.{formed};
 ghost use Rattle.store.specs.InnerCheck.{Follows, Steps, Keys, Unused};
 
@@ -25,8 +24,8 @@ fn bar(end: i64, value: Value, next: Value) -> i64
 // Whether the half-open range at `k` is not empty, and the next one may follow it. A good map passes both tests, so no branch is ever mistaken.
 fn half_open(starts: &[i64], ends: &[i64], values: &[Value], k: usize) -> bool
     requires { (k + 1 < length starts.now) × (length ends.now ≡ length starts.now) × (length values.now ≡ length starts.now) }
-    ensures by_index { (n : ℕ) → Decides result (Follows half_open (at_entry_with n starts ends values) k) }
-    ensures by_index_2 { (n : ℕ) → Keys (at_entry_with n starts ends values) k }
+    ensures by_index { (n : ℕ) → Decides result (Follows half_open (stored n starts.now ends.now values.now) k) }
+    ensures by_index_2 { (n : ℕ) → Keys (stored n starts.now ends.now values.now) k }
 {
     let end = ends[k];
     if starts[k] >= end {
@@ -43,8 +42,8 @@ fn half_open(starts: &[i64], ends: &[i64], values: &[Value], k: usize) -> bool
 // The same for an inclusive range. One is added to the end only where a later key was seen.
 fn inclusive(starts: &[i64], ends: &[i64], values: &[Value], k: usize) -> bool
     requires { (k + 1 < length starts.now) × (length ends.now ≡ length starts.now) × (length values.now ≡ length starts.now) }
-    ensures by_index { (n : ℕ) → Decides result (Follows inclusive (at_entry_with n starts ends values) k) }
-    ensures by_index_2 { (n : ℕ) → Keys (at_entry_with n starts ends values) k }
+    ensures by_index { (n : ℕ) → Decides result (Follows inclusive (stored n starts.now ends.now values.now) k) }
+    ensures by_index_2 { (n : ℕ) → Keys (stored n starts.now ends.now values.now) k }
 {
     let end = ends[k];
     if starts[k] > end {
@@ -66,8 +65,8 @@ fn inclusive(starts: &[i64], ends: &[i64], values: &[Value], k: usize) -> bool
 // The same for a range of either kind.
 fn step(kind: RangeKind, starts: &[i64], ends: &[i64], values: &[Value], k: usize) -> bool
     requires { (k + 1 < length starts.now) × (length ends.now ≡ length starts.now) × (length values.now ≡ length starts.now) }
-    ensures by_index { (n : ℕ) → Decides result (Follows (kind_of kind) (at_entry_with n starts ends values) k) }
-    ensures by_index_2 { (n : ℕ) → Keys (at_entry_with n starts ends values) k }
+    ensures by_index { (n : ℕ) → Decides result (Follows (kind_of kind) (stored n starts.now ends.now values.now) k) }
+    ensures by_index_2 { (n : ℕ) → Keys (stored n starts.now ends.now values.now) k }
 {
     match kind {
         RangeKind::HalfOpen => half_open(starts, ends, values, k),
@@ -78,8 +77,8 @@ fn step(kind: RangeKind, starts: &[i64], ends: &[i64], values: &[Value], k: usiz
 // Whether the live places are tidy: no range empty or reversed, all ascending without overlap, none joining the next. The last has no next.
 fn tidy(kind: RangeKind, starts: &[i64], ends: &[i64], values: &[Value], count: usize) -> bool
     requires { (count ≤ length starts.now) × (length ends.now ≡ length starts.now) × (length values.now ≡ length starts.now) }
-    ensures decides { Decides result (Steps (kind_of kind) (at_entry_with count starts ends values)) }
-    ensures keys { result ≡ true → (k : ℕ) → k < count → Keys (at_entry_with count starts ends values) k }
+    ensures decides { Decides result (Steps (kind_of kind) (stored count starts.now ends.now values.now)) }
+    ensures keys { result ≡ true → (k : ℕ) → k < count → Keys (stored count starts.now ends.now values.now) k }
 {
     if count == 0 {
         return true;
@@ -100,7 +99,7 @@ fn tidy(kind: RangeKind, starts: &[i64], ends: &[i64], values: &[Value], count: 
 // Whether all keys from a place on are 0. With no early return the loop takes several places at a time.
 fn zeros_from(keys: &[i64], from: usize) -> bool
     requires { from ≤ length keys.now }
-    ensures { Decides result (Spare (was keys) from (pos 0)) }
+    ensures { Decides result (Spare keys.now from (pos 0)) }
 {
     let mut seen = 0;
     let mut k = from;
@@ -117,7 +116,7 @@ fn zeros_from(keys: &[i64], from: usize) -> bool
 // The same for values.
 fn noughts_from(values: &[Value], from: usize) -> bool
     requires { from ≤ length values.now }
-    ensures { Decides result (Spare (was values) from 0) }
+    ensures { Decides result (Spare values.now from 0) }
 {
     let mut seen = 0;
     let mut k = from;
@@ -134,7 +133,7 @@ fn noughts_from(values: &[Value], from: usize) -> bool
 // What both kinds of map share: whether the count is at most the number of places, and the places from it on hold 0.
 fn unused(starts: &[i64], ends: &[i64], values: &[Value], count: usize) -> bool
     requires { (length ends.now ≡ length starts.now) × (length values.now ≡ length starts.now) }
-    ensures { Decides result (Unused (length (was starts)) (at_entry_with count starts ends values)) }
+    ensures { Decides result (Unused (length starts.now) (stored count starts.now ends.now values.now)) }
 {
     if starts.len() < count {
         return false;
@@ -159,9 +158,9 @@ pub fn well_formed(
     ends: &[i64; PLACES],
     values: &[Value; PLACES],
 ) -> bool
-    ensures value { result ≡ formed (kind_of kind) (at_entry_with count starts ends values) }
-    ensures sound { result ≡ true → Sound (kind_of kind) (at_entry_with count starts ends values) }
-    ensures starts_len { result ≡ true → length (was starts) ≡ places }
+    ensures value { result ≡ formed (kind_of kind) (stored count starts.now ends.now values.now) }
+    ensures sound { result ≡ true → Sound (kind_of kind) (stored count starts.now ends.now values.now) }
+    ensures starts_len { result ≡ true → length starts.now ≡ places }
 {
     if !unused(starts, ends, values, count) {
         return false;

@@ -1,6 +1,5 @@
 // THE SEARCH in a column of a map. It halves the places that are left, and no branch depends on a key.
 ghost use Rattle.std.specs.Prelude.{◌≡◌, cond, ◌+◌, ◌*◌, ◌^◌, ◌<◌, ◌≤◌, length};
-ghost use Rattle.lent.specs.Moments.{was};
 ghost use Rattle.key.specs.Range.{kind_of};
 ghost use Rattle.store.specs.InnerSearch.{Ascends, Reached, FirstPast};
 
@@ -21,7 +20,7 @@ fn advance(low: usize, step: usize, goes: bool) -> usize
 // goes on, the key in the middle stays among those that are left.
 pub fn first_past(kind: RangeKind, keys: &[i64], from: usize, count: usize, end: i64) -> usize
     requires { (from ≤ count) × (count ≤ length keys.now) × Ascends count keys.now }
-    ensures { FirstPast (kind_of kind) count (was keys) from end result }
+    ensures { FirstPast (kind_of kind) count keys.now from end result }
 {
     let mut low = from;
     let mut left = count - from;
@@ -40,7 +39,7 @@ pub fn first_past(kind: RangeKind, keys: &[i64], from: usize, count: usize, end:
 // So what is sought among the ends is the first that lies past the key: of half-open ranges past `..=key`, of inclusive ones past `..key`.
 pub fn reaching(kind: RangeKind, ends: &[i64], count: usize, key: i64) -> usize
     requires { (count ≤ length ends.now) × Ascends count ends.now }
-    ensures { Reached (kind_of kind) count (was ends) key result }
+    ensures { Reached (kind_of kind) count ends.now key result }
 {
     match kind {
         RangeKind::HalfOpen => first_past(RangeKind::Inclusive, ends, 0, count, key),

@@ -1,6 +1,5 @@
 // The walk over the starts of a map, from the place that the search among its ends has found.
 ghost use Rattle.std.specs.Prelude.{◌≤◌, length};
-ghost use Rattle.lent.specs.Moments.{was};
 ghost use Rattle.key.specs.Range.{kind_of};
 ghost use Rattle.store.specs.InnerSearch.{FirstPast};
 
@@ -10,7 +9,7 @@ use key::{RangeKind, full};
 // It walks, since an edit or a question meets few ranges; `search::first_past` promises the same and halves.
 pub fn first_past(kind: RangeKind, starts: &[i64], from: usize, count: usize, end: i64) -> usize
     requires { (from ≤ count) × (count ≤ length starts.now) }
-    ensures { FirstPast (kind_of kind) count (was starts) from end result }
+    ensures { FirstPast (kind_of kind) count starts.now from end result }
 {
     let mut k = from;
     while k < count {

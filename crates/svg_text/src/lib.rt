@@ -1,8 +1,9 @@
 // The grid of a day as a picture, put into lent bytes from their start on. What each quarter of an hour shows is asked as the grid asks it.
+#![tactic(auto)]
+
 ghost use Rattle.std.specs.Prelude.{◌≡◌, ◌+◌, ◌*◌, ◌≤◌, ◌<◌, length};
-ghost use Rattle.lent.specs.Moments.{was, becomes};
 ghost use Rattle.key.specs.Range.{half_open};
-ghost use Rattle.outcomes.specs.Stored.{stored, ranges, at_entry_with};
+ghost use Rattle.outcomes.specs.Stored.{stored, ranges};
 ghost use Rattle.filling.specs.Filling.{series, AddsWithin};
 ghost use Rattle.report_text.specs.Rows.{row_count, row_name};
 ghost use Rattle.graph_text.specs.Grid.{Drawable};
@@ -25,7 +26,7 @@ pub const SVG_ROOM: usize = 29400;
 // The head and the white ground, where w is the width of all quarters.
 fn put_head(out: &mut [u8], at: usize, w: u64) -> usize
     requires { (w ≤ 800) × (at + 200 ≤ length out.old) }
-    ensures { AddsWithin 200 (head_svg w) (was out) at (becomes out) result }
+    ensures { AddsWithin 200 (head_svg w) out.old at out.new result }
 {
     let numbers = [w + 200];
     let ground = fill(
@@ -44,7 +45,7 @@ fn put_head(out: &mut [u8], at: usize, w: u64) -> usize
 // The line before the hour i.
 fn put_hour_rule(out: &mut [u8], at: usize, i: usize) -> usize
     requires { (i ≤ most_hours) × (at + 29 ≤ length out.old) }
-    ensures { AddsWithin 29 (hour_rule i) (was out) at (becomes out) result }
+    ensures { AddsWithin 29 (hour_rule i) out.old at out.new result }
 {
     let numbers = [112 + 32 * i as u64];
     fill(out, at, b"M{ 32v120", &numbers)
@@ -53,7 +54,7 @@ fn put_hour_rule(out: &mut [u8], at: usize, i: usize) -> usize
 // The first n of these lines.
 fn put_hour_rules(out: &mut [u8], at: usize, n: usize) -> usize
     requires { (n ≤ most_hours + 1) × (at + 754 ≤ length out.old) }
-    ensures { AddsWithin 754 (series hour_rule n) (was out) at (becomes out) result }
+    ensures { AddsWithin 754 (series hour_rule n) out.old at out.new result }
 {
     let mut to = at;
     let mut i = 0;
@@ -67,7 +68,7 @@ fn put_hour_rules(out: &mut [u8], at: usize, n: usize) -> usize
 // The lines between n hours.
 fn put_hour_path(out: &mut [u8], at: usize, n: usize) -> usize
     requires { (n ≤ most_hours) × (at + 800 ≤ length out.old) }
-    ensures { AddsWithin 800 (hour_rules n) (was out) at (becomes out) result }
+    ensures { AddsWithin 800 (hour_rules n) out.old at out.new result }
 {
     let rules = put(out, at, b"<path stroke=\"silver\" d=\"");
     let to = put_hour_rules(out, rules, n + 1);
@@ -77,7 +78,7 @@ fn put_hour_path(out: &mut [u8], at: usize, n: usize) -> usize
 // The line before the row j.
 fn put_row_rule(out: &mut [u8], at: usize, w: u64, j: usize) -> usize
     requires { (j ≤ row_count) × (at + 48 ≤ length out.old) }
-    ensures { AddsWithin 48 (row_rule w j) (was out) at (becomes out) result }
+    ensures { AddsWithin 48 (row_rule w j) out.old at out.new result }
 {
     let numbers = [32 + 24 * j as u64, w];
     fill(out, at, b"M112 {h{", &numbers)
@@ -86,7 +87,7 @@ fn put_row_rule(out: &mut [u8], at: usize, w: u64, j: usize) -> usize
 // These lines.
 fn put_row_rules(out: &mut [u8], at: usize, w: u64) -> usize
     requires { at + 288 ≤ length out.old }
-    ensures { AddsWithin 288 (series (row_rule w) (row_count + 1)) (was out) at (becomes out) result }
+    ensures { AddsWithin 288 (series (row_rule w) (row_count + 1)) out.old at out.new result }
 {
     let mut to = at;
     let mut j = 0;
@@ -100,7 +101,7 @@ fn put_row_rules(out: &mut [u8], at: usize, w: u64) -> usize
 // The lines between the rows.
 fn put_row_path(out: &mut [u8], at: usize, w: u64) -> usize
     requires { at + 320 ≤ length out.old }
-    ensures { AddsWithin 320 (row_rules w) (was out) at (becomes out) result }
+    ensures { AddsWithin 320 (row_rules w) out.old at out.new result }
 {
     let rules = put(out, at, b"<path stroke=\"gray\" d=\"");
     let to = put_row_rules(out, rules, w);
@@ -110,7 +111,7 @@ fn put_row_path(out: &mut [u8], at: usize, w: u64) -> usize
 // The hour h of n, as the clock shows it.
 fn put_hour_text(out: &mut [u8], at: usize, n: usize, h: usize) -> usize
     requires { (n ≤ most_hours) × (h < n) × (at + 70 ≤ length out.old) }
-    ensures { AddsWithin 70 (hour_svg n h) (was out) at (becomes out) result }
+    ensures { AddsWithin 70 (hour_svg n h) out.old at out.new result }
 {
     let hour = clock_hour(n, h) as u64;
     let numbers = [114 + 32 * h as u64, hour];
@@ -120,7 +121,7 @@ fn put_hour_text(out: &mut [u8], at: usize, n: usize, h: usize) -> usize
 // The hours of a day of n hours.
 fn put_hour_texts(out: &mut [u8], at: usize, n: usize) -> usize
     requires { (n ≤ most_hours) × (at + 1750 ≤ length out.old) }
-    ensures { AddsWithin 1750 (series (hour_svg n) n) (was out) at (becomes out) result }
+    ensures { AddsWithin 1750 (series (hour_svg n) n) out.old at out.new result }
 {
     let mut to = at;
     let mut h = 0;
@@ -134,7 +135,7 @@ fn put_hour_texts(out: &mut [u8], at: usize, n: usize) -> usize
 // What stands before the rows of n quarters.
 fn put_frame(out: &mut [u8], at: usize, n: usize) -> usize
     requires { (n ≤ most_quarters) × (at + frame_room ≤ length out.old) }
-    ensures { AddsWithin frame_room (frame_svg n) (was out) at (becomes out) result }
+    ensures { AddsWithin frame_room (frame_svg n) out.old at out.new result }
 {
     let w = 8 * n as u64;
     let hours = put_head(out, at, w);
@@ -146,7 +147,7 @@ fn put_frame(out: &mut [u8], at: usize, n: usize) -> usize
 // A name at a height.
 fn put_label(out: &mut [u8], at: usize, y: u64, name: &[u8]) -> usize
     requires { (length name.now ≤ 14) × (at + 60 ≤ length out.old) }
-    ensures { AddsWithin 60 (name_svg y (was name)) (was out) at (becomes out) result }
+    ensures { AddsWithin 60 (name_svg y name.now) out.old at out.new result }
 {
     let numbers = [y];
     let word = fill(out, at, b"<text x=\"6\" y=\"{\">", &numbers);
@@ -157,7 +158,7 @@ fn put_label(out: &mut [u8], at: usize, y: u64, name: &[u8]) -> usize
 // The name of a row.
 fn put_row_label(out: &mut [u8], at: usize, row: usize) -> usize
     requires { (row < row_count) × (at + 60 ≤ length out.old) }
-    ensures { AddsWithin 60 (name_svg (49 + 24 * row) (row_name row)) (was out) at (becomes out) result }
+    ensures { AddsWithin 60 (name_svg (49 + 24 * row) (row_name row)) out.old at out.new result }
 {
     let numbers = [49 + 24 * row as u64];
     let word = fill(out, at, b"<text x=\"6\" y=\"{\">", &numbers);
@@ -168,7 +169,7 @@ fn put_row_label(out: &mut [u8], at: usize, row: usize) -> usize
 // A total behind the quarters, which are w wide, at a height.
 fn put_total(out: &mut [u8], at: usize, w: u64, y: u64, n: u64) -> usize
     requires { (w ≤ 800) × (at + text_room ≤ length out.old) }
-    ensures { AddsWithin text_room (total_svg w y n) (was out) at (becomes out) result }
+    ensures { AddsWithin text_room (total_svg w y n) out.old at out.new result }
 {
     let numbers = [w + 192, y];
     let clock = fill(
@@ -184,7 +185,7 @@ fn put_total(out: &mut [u8], at: usize, w: u64, y: u64, n: u64) -> usize
 // The colour of a row's marks.
 fn put_ink(out: &mut [u8], at: usize, row: usize) -> usize
     requires { at + 4 ≤ length out.old }
-    ensures { AddsWithin 4 (ink_of row) (was out) at (becomes out) result }
+    ensures { AddsWithin 4 (ink_of row) out.old at out.new result }
 {
     if row == UNRECORDED {
         return put(out, at, b"red");
@@ -195,7 +196,7 @@ fn put_ink(out: &mut [u8], at: usize, row: usize) -> usize
 // What stands before a row's marks.
 fn put_ink_head(out: &mut [u8], at: usize, row: usize) -> usize
     requires { at + 40 ≤ length out.old }
-    ensures { AddsWithin 40 (ink_svg row) (was out) at (becomes out) result }
+    ensures { AddsWithin 40 (ink_svg row) out.old at out.new result }
 {
     let ink = put(out, at, b"<path stroke=\"");
     let to = put_ink(out, ink, row);
@@ -205,7 +206,7 @@ fn put_ink_head(out: &mut [u8], at: usize, row: usize) -> usize
 // One mark of a row.
 fn put_one(out: &mut [u8], at: usize, row: usize, q: usize) -> usize
     requires { (row < row_count) × (q < most_quarters) × (at + mark_room ≤ length out.old) }
-    ensures { AddsWithin mark_room (mark_at row q) (was out) at (becomes out) result }
+    ensures { AddsWithin mark_room (mark_at row q) out.old at out.new result }
 {
     let numbers = [112 + 8 * q as u64, 44 + 24 * row as u64];
     fill(out, at, b"M{ {h8", &numbers)
@@ -225,7 +226,7 @@ fn put_mark(
 ) -> usize
     requires { Quarter (stored count starts.now ends.now values.now) start q × (row < row_count) × (q < most_quarters)
         × (at + mark_room ≤ length out.old) }
-    ensures { AddsWithin mark_room (mark_svg (ranges half_open (at_entry_with count starts ends values)) start row q) (was out) at (becomes out) result }
+    ensures { AddsWithin mark_room (mark_svg (ranges half_open (stored count starts.now ends.now values.now)) start row q) out.old at out.new result }
 {
     if is_marked(count, starts, ends, values, start, row, q) {
         return put_one(out, at, row, q);
@@ -246,8 +247,8 @@ fn put_marks(
     at: usize,
 ) -> usize
     requires { Quarters (stored count starts.now ends.now values.now) start n × (row < row_count) × (at + marks_room ≤ length out.old) }
-    ensures { AddsWithin marks_room (series (mark_svg (ranges half_open (at_entry_with count starts ends values)) start row) n) (was out) at
-        (becomes out) result }
+    ensures { AddsWithin marks_room (series (mark_svg (ranges half_open (stored count starts.now ends.now values.now)) start row) n) out.old at
+        out.new result }
 {
     let mut to = at;
     let mut q = 0;
@@ -271,7 +272,7 @@ fn put_marks_path(
     at: usize,
 ) -> usize
     requires { Quarters (stored count starts.now ends.now values.now) start n × (row < row_count) × (at + 4650 ≤ length out.old) }
-    ensures { AddsWithin 4650 (marks_svg (ranges half_open (at_entry_with count starts ends values)) start n row) (was out) at (becomes out) result }
+    ensures { AddsWithin 4650 (marks_svg (ranges half_open (stored count starts.now ends.now values.now)) start n row) out.old at out.new result }
 {
     let marks = put_ink_head(out, at, row);
     let to = put_marks(count, starts, ends, values, start, n, row, out, marks);
@@ -292,7 +293,7 @@ fn put_row(
     at: usize,
 ) -> usize
     requires { Quarters (stored count starts.now ends.now values.now) start n × (row < row_count) × (at + row_room ≤ length out.old) }
-    ensures { AddsWithin row_room (row_svg (ranges half_open (at_entry_with count starts ends values)) start n t row) (was out) at (becomes out) result }
+    ensures { AddsWithin row_room (row_svg (ranges half_open (stored count starts.now ends.now values.now)) start n t row) out.old at out.new result }
 {
     let path = put_row_label(out, at, row);
     let to = put_marks_path(count, starts, ends, values, start, n, row, out, path);
@@ -313,8 +314,8 @@ fn put_rows(
     at: usize,
 ) -> usize
     requires { Quarters (stored count starts.now ends.now values.now) start n × (at + row_count * row_room ≤ length out.old) }
-    ensures { AddsWithin (row_count * row_room) (series (row_svg (ranges half_open (at_entry_with count starts ends values)) start n t) row_count)
-        (was out) at (becomes out) result }
+    ensures { AddsWithin (row_count * row_room) (series (row_svg (ranges half_open (stored count starts.now ends.now values.now)) start n t) row_count)
+        out.old at out.new result }
 {
     let mut to = at;
     let mut row = 0;
@@ -328,7 +329,7 @@ fn put_rows(
 // What stands behind the rows.
 fn put_foot(out: &mut [u8], at: usize, n: usize, sum: u64) -> usize
     requires { (n ≤ most_quarters) × (at + foot_room ≤ length out.old) }
-    ensures { AddsWithin foot_room (foot_svg n sum) (was out) at (becomes out) result }
+    ensures { AddsWithin foot_room (foot_svg n sum) out.old at out.new result }
 {
     let total = put_label(out, at, 169, b"sum");
     let to = put_total(out, total, 8 * n as u64, 169, sum);
@@ -347,7 +348,7 @@ pub fn svg_text(
     out: &mut [u8; SVG_ROOM],
 ) -> usize
     requires { Drawable (stored count starts.now ends.now values.now) start end }
-    ensures { AddsWithin svg_room (svg_text (ranges half_open (at_entry_with count starts ends values)) start end t) (was out) 0 (becomes out) result }
+    ensures { AddsWithin svg_room (svg_text (ranges half_open (stored count starts.now ends.now values.now)) start end t) out.old 0 out.new result }
 {
     let n = quarters_of(start, end);
     let first = put_frame(out, 0, n);

@@ -1,5 +1,7 @@
 // Reads byte forms from standard input, and writes them again. Each input is a length of two bytes, the lower first, and so many bytes. For each the
 // program prints the reader's answer as a digit, the form of the map that is there then, which is the empty one where the reader refused, and a line's end.
+#![tactic(auto)]
+
 use outcomes::{Counted, PLACES};
 use test_print::{print, print_number};
 

@@ -5,6 +5,8 @@
 // The file `stdout` is what rangemap 1.8.0 answers, with document 01's numbers:
 //     rust/compare --replay maps > crates/test_maps/stdout
 // A map is passed by value, and lent once for the question of a step: that is proved soonest.
+#![tactic(auto)]
+
 use key::RangeKind;
 use outcomes::{Applied, Count, Order, PLACES, Range, Stretch, Told};
 use test_print::{

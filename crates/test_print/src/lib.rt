@@ -1,5 +1,7 @@
 // What the programs that print answers share: keys and ranges to ask with, how a byte is read, and how keys, ranges and answers are printed.
 // Everything is printed to standard output.
+#![tactic(auto)]
+
 use key::RangeKind;
 
 // Keys with fewer than so many keys before them, or behind them, are printed by their distance from that end.
@@ -11,7 +13,7 @@ const ZERO: u64 = 9223372036854775808;
 const GREATEST: u64 = 18446744073709551615;
 
 // A range to ask with.
-#[derive(Drop)]
+#[derive(Clone, Copy)]
 pub struct Ends {
     pub start: i64,
     pub end: i64,

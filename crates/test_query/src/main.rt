@@ -3,6 +3,8 @@
 // Document 01's cases are among them. The file `stdout` is what a model in Rust answers, that was written from document 01 alone:
 //     rust/compare --replay query > crates/test_query/stdout
 // A map is passed by value, and lent once for each of the two answers: that is proved soonest.
+#![tactic(auto)]
+
 use key::RangeKind;
 use outcomes::{Count, PLACES, Told, count_of, told_of};
 use test_print::{print, print_key, print_list, print_number, print_range, print_told, read_byte};
@@ -18,14 +20,14 @@ struct Map {
     values: [u8; PLACES],
 }
 
-#[derive(Drop)]
+#[derive(Clone, Copy)]
 struct Text {
     length: usize,
     bytes: [u8; MOST],
 }
 
 // All of a question but its query.
-#[derive(Drop)]
+#[derive(Clone, Copy)]
 struct Question {
     a: u8,
     b: u8,

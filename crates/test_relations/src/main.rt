@@ -2,6 +2,8 @@
 // The file `stdout` is what rangemap 1.8.0 answers, with document 01's answer 1 for an empty or reversed range:
 //     rust/compare --replay relations > crates/test_relations/stdout
 // Each answer is printed whole, its number first.
+#![tactic(auto)]
+
 use key::RangeKind;
 use relations::{Intersected, Related, half_open, inclusive};
 use test_print::{Ends, key_at, print, print_found, print_key, print_range, print_told, range_at};

@@ -1,5 +1,7 @@
 // Prints day reports: document 01's November report, of the map that its two inserts leave, the days around it, and each refusal.
 // An hour is printed where it is one of those that document 01 says, or of a whole day.
+#![tactic(auto)]
+
 use key::RangeKind;
 use outcomes::PLACES;
 use report::DayReport;

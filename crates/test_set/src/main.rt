@@ -4,6 +4,8 @@
 //     rust/compare --replay set > crates/test_set/stdout
 // A line has a set by its ranges, what it is asked with, and the answers, each behind a letter: its number first, then all its fields.
 // A set is passed by value, and lent once for all the questions of a line: that is proved soonest.
+#![tactic(auto)]
+
 use key::RangeKind;
 use operations::Operation;
 use outcomes::{Count, Order, PLACES, Range, Stretch, Told, Total};

@@ -1,12 +1,13 @@
 // Text into lent bytes, from a place on. Each function answers the place behind its text, where the next one goes on.
+#![tactic(auto)]
+
 ghost use Rattle.std.specs.Prelude.{[], ◌∷◌, ◌+◌, ◌-◌, ◌<◌, ◌≤◌, max, ◌≡◌, length, replicate};
-ghost use Rattle.lent.specs.Moments.{was, becomes};
 ghost use Rattle.text.specs.Text.{space, Adds, right_of, left_of};
 
 // A text as it is.
 pub fn put(out: &mut [u8], at: usize, text: &[u8]) -> usize
     requires { at + length text.now ≤ length out.old }
-    ensures { Adds (was text) (was out) at (becomes out) result }
+    ensures { Adds text.now out.old at out.new result }
 {
     let mut i = 0;
     while i < text.len() {
@@ -19,7 +20,7 @@ pub fn put(out: &mut [u8], at: usize, text: &[u8]) -> usize
 // A text of one byte.
 pub fn put_byte(out: &mut [u8], at: usize, byte: u8) -> usize
     requires { at < length out.old }
-    ensures { Adds (byte ∷ []) (was out) at (becomes out) result }
+    ensures { Adds (byte ∷ []) out.old at out.new result }
 {
     out[at] = byte;
     at + 1
@@ -28,7 +29,7 @@ pub fn put_byte(out: &mut [u8], at: usize, byte: u8) -> usize
 // n spaces.
 pub fn put_spaces(out: &mut [u8], at: usize, n: usize) -> usize
     requires { at + n ≤ length out.old }
-    ensures { Adds (replicate n space) (was out) at (becomes out) result }
+    ensures { Adds (replicate n space) out.old at out.new result }
 {
     let mut i = 0;
     while i < n {
@@ -48,7 +49,7 @@ fn left_of_width(width: usize, n: usize) -> usize
 // A text at the right of its columns. One that is wider than they are stands whole.
 pub fn put_right(out: &mut [u8], at: usize, width: usize, text: &[u8]) -> usize
     requires { at + max width (length text.now) ≤ length out.old }
-    ensures { Adds (right_of width (was text)) (was out) at (becomes out) result }
+    ensures { Adds (right_of width text.now) out.old at out.new result }
 {
     let n = left_of_width(width, text.len());
     let to = put_spaces(out, at, n);
@@ -58,7 +59,7 @@ pub fn put_right(out: &mut [u8], at: usize, width: usize, text: &[u8]) -> usize
 // A text at the left of its columns. One that is wider than they are stands whole.
 pub fn put_left(out: &mut [u8], at: usize, width: usize, text: &[u8]) -> usize
     requires { at + max width (length text.now) ≤ length out.old }
-    ensures { Adds (left_of width (was text)) (was out) at (becomes out) result }
+    ensures { Adds (left_of width text.now) out.old at out.new result }
 {
     let n = left_of_width(width, text.len());
     let to = put(out, at, text);

@@ -1,1 +1,2 @@
 // What follows from the promises of the exported functions, said of these promises: definitions and theorems, no code.
+#![tactic(auto)]

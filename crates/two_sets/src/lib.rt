@@ -1,10 +1,12 @@
 // What the walks over two sets share, for either kind of range. A walk has no branch that depends on the keys: what would be a branch is a choice
 // of two values, since no processor foresees which of two sets comes next.
+#![tactic(auto)]
+
 ghost use Rattle.std.specs.Prelude.{◌≡◌, true, ◌&&◌, cond, ◌+◌, ◌≤◌, ltb};
 ghost use Rattle.key.specs.Rank.{rank};
 ghost use Rattle.key.specs.Range.{kind_of};
 ghost use Rattle.key.specs.InnerDecides.{Decides};
-ghost use Rattle.outcomes.specs.Stored.{at_entry_with};
+ghost use Rattle.outcomes.specs.Stored.{stored};
 ghost use Rattle.outcomes.specs.Sets.{formed_set, SoundSet};
 ghost use Rattle.two_sets.specs.InnerKind.{wide};
 
@@ -13,7 +15,7 @@ use outcomes::PLACES;
 use store::plain::is_set;
 
 // Where a walk is: the first `at` places are written, it is at places `i` and `j` of the two sets, and the range from `start` to `end` is open.
-#[derive(Drop)]
+#[derive(Clone, Copy)]
 pub struct Position {
     pub at: usize,
     pub i: usize,
@@ -34,10 +36,10 @@ pub fn are_sets(
     ends_b: &[i64; PLACES],
     values_b: &[Value; PLACES],
 ) -> bool
-    ensures value { result ≡ (formed_set (kind_of kind) (at_entry_with count_a starts_a ends_a values_a)
-        && formed_set (kind_of kind) (at_entry_with count_b starts_b ends_b values_b)) }
-    ensures sound_set { result ≡ true → SoundSet (kind_of kind) (at_entry_with count_a starts_a ends_a values_a)
-        × SoundSet (kind_of kind) (at_entry_with count_b starts_b ends_b values_b) }
+    ensures value { result ≡ (formed_set (kind_of kind) (stored count_a starts_a.now ends_a.now values_a.now)
+        && formed_set (kind_of kind) (stored count_b starts_b.now ends_b.now values_b.now)) }
+    ensures sound_set { result ≡ true → SoundSet (kind_of kind) (stored count_a starts_a.now ends_a.now values_a.now)
+        × SoundSet (kind_of kind) (stored count_b starts_b.now ends_b.now values_b.now) }
 {
     if !is_set(kind, count_a, starts_a, ends_a, values_a) {
         return false;

@@ -1,9 +1,10 @@
 // UNION of two sets: the points of either, ascending and disjoint, from operations.rs, by one walk over both (`union::walk`).
 // The ranges are counted or written; the crate `operations` does the one after the other.
+#![tactic(auto)]
+
 mod walk;
 
 ghost use Rattle.std.specs.Prelude.{◌≡◌, length};
-ghost use Rattle.lent.specs.Moments.{was, becomes};
 ghost use Rattle.key.specs.Range.{kind_of};
 ghost use Rattle.range_list.specs.InnerLists.{ListRoom};
 ghost use Rattle.two_sets.specs.InnerSides.{Side};
@@ -25,8 +26,8 @@ pub fn counted(
 ) -> usize
     requires { Side (kind_of kind) starts_a.now ends_a.now count_a
         × Side (kind_of kind) starts_b.now ends_b.now count_b }
-    ensures { result ≡ length (either kind (was starts_a) (was ends_a) count_a
-        (was starts_b) (was ends_b) count_b) }
+    ensures { result ≡ length (either kind starts_a.now ends_a.now count_a
+        starts_b.now ends_b.now count_b) }
 {
     if count_a + count_b == 0 {
         return 0;
@@ -53,9 +54,9 @@ pub fn write(
         × Side (kind_of kind) starts_b.now ends_b.now count_b
         × ListRoom 0 (either kind starts_a.now ends_a.now count_a starts_b.now ends_b.now count_b)
         out_starts.old out_ends.old }
-    ensures { Ended (kind_of kind) 0 (either kind (was starts_a) (was ends_a) count_a
-        (was starts_b) (was ends_b) count_b)
-        (was out_starts) (was out_ends) result (becomes out_starts) (becomes out_ends) }
+    ensures { Ended (kind_of kind) 0 (either kind starts_a.now ends_a.now count_a
+        starts_b.now ends_b.now count_b)
+        out_starts.old out_ends.old result out_starts.new out_ends.new }
 {
     if count_a + count_b == 0 {
         return 0;

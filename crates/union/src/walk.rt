@@ -1,7 +1,6 @@
 // THE WALK over two sets that joins them, with two positions; the range that starts first is taken.
 // Ranges that overlap become one. Ranges that only touch stay apart, as in the Rust.
 ghost use Rattle.std.specs.Prelude.{◌≡◌, ◌+◌, ◌≤◌, ◌<◌, length};
-ghost use Rattle.lent.specs.Moments.{was, becomes};
 ghost use Rattle.key.specs.Rank.{rank};
 ghost use Rattle.key.specs.Range.{kind_of};
 ghost use Rattle.range_list.specs.InnerLists.{ListRoom};
@@ -14,7 +13,7 @@ use range_list::put;
 use two_sets::{Position, meets, pick};
 
 // A range that is taken, and whether it is the left set's.
-#[derive(Drop)]
+#[derive(Clone, Copy)]
 struct Taken {
     start: i64,
     end: i64,
@@ -35,7 +34,7 @@ fn next(
     requires { (count_a ≤ length starts_a.now) × (length ends_a.now ≡ length starts_a.now)
         × (count_b ≤ length starts_b.now) × (length ends_b.now ≡ length starts_b.now)
         × (i ≤ count_a) × (j ≤ count_b) × (i + j < count_a + count_b) }
-    ensures { TakesNext (was starts_a) (was ends_a) count_a i (was starts_b) (was ends_b) count_b j result }
+    ensures { TakesNext starts_a.now ends_a.now count_a i starts_b.now ends_b.now count_b j result }
 {
     if count_b <= j {
         return Taken {
@@ -73,7 +72,7 @@ pub fn first(
 ) -> Position
     requires { Side (kind_of kind) starts_a.now ends_a.now count_a
         × Side (kind_of kind) starts_b.now ends_b.now count_b × (0 < count_a + count_b) }
-    ensures { First kind (was starts_a) (was ends_a) count_a (was starts_b) (was ends_b) count_b result }
+    ensures { First kind starts_a.now ends_a.now count_a starts_b.now ends_b.now count_b result }
 {
     let t = next(starts_a, ends_a, count_a, 0, starts_b, ends_b, count_b, 0);
     let i = t.left as usize;
@@ -101,8 +100,8 @@ pub fn counted_from(
     requires { Side (kind_of kind) starts_a.now ends_a.now count_a
         × Side (kind_of kind) starts_b.now ends_b.now count_b
         × OpenedAt kind starts_a.now ends_a.now count_a starts_b.now ends_b.now count_b from }
-    ensures { result ≡ length (open_at kind (was starts_a) (was ends_a) count_a
-        (was starts_b) (was ends_b) count_b from) }
+    ensures { result ≡ length (open_at kind starts_a.now ends_a.now count_a
+        starts_b.now ends_b.now count_b from) }
 {
     let total = count_a + count_b;
     let mut n = 0;
@@ -142,9 +141,9 @@ pub fn write_from(
         × OpenedAt kind starts_a.now ends_a.now count_a starts_b.now ends_b.now count_b from
         × ListRoom from.at (open_at kind starts_a.now ends_a.now count_a starts_b.now ends_b.now count_b from)
         out_starts.old out_ends.old }
-    ensures { Ended (kind_of kind) from.at (open_at kind (was starts_a) (was ends_a) count_a
-        (was starts_b) (was ends_b) count_b from)
-        (was out_starts) (was out_ends) result (becomes out_starts) (becomes out_ends) }
+    ensures { Ended (kind_of kind) from.at (open_at kind starts_a.now ends_a.now count_a
+        starts_b.now ends_b.now count_b from)
+        out_starts.old out_ends.old result out_starts.new out_ends.new }
 {
     let total = count_a + count_b;
     let mut at = from.at;

@@ -1,8 +1,7 @@
 // Bulk insert: in list order, up to the first refusal. The map is checked once.
 ghost use Rattle.std.specs.Prelude.{◌≡◌, min, length};
-ghost use Rattle.lent.specs.Moments.{was};
 ghost use Rattle.key.specs.Range.{kind_of};
-ghost use Rattle.outcomes.specs.Stored.{lent, Sound, at_entry, at_exit};
+ghost use Rattle.outcomes.specs.Stored.{Sound, stored};
 ghost use Rattle.outcomes.specs.Outcomes.{entries, bulk_insert_sound, extended, bulk_insert};
 
 use answers::{DONE, NOT_FORMED};
@@ -31,9 +30,9 @@ fn extend_formed(
     new_ends: &[i64],
     new_values: &[Value],
 ) -> Applied
-    requires { Sound (kind_of kind) (lent count starts ends values) }
-    ensures { extended result (at_exit count starts ends values)
-        ≡ bulk_insert_sound (kind_of kind) (at_entry count starts ends values) 0 (entries (was new_starts) (was new_ends) (was new_values)) }
+    requires { Sound (kind_of kind) (stored count.old starts.old ends.old values.old) }
+    ensures { extended result (stored count.new starts.new ends.new values.new)
+        ≡ bulk_insert_sound (kind_of kind) (stored count.old starts.old ends.old values.old) 0 (entries new_starts.now new_ends.now new_values.now) }
 {
     let n = shorter(shorter(new_starts.len(), new_ends.len()), new_values.len());
     let mut i = 0;
@@ -73,8 +72,8 @@ pub fn extend(
     new_ends: &[i64],
     new_values: &[Value],
 ) -> Applied
-    ensures { extended result (at_exit count starts ends values)
-        ≡ bulk_insert (kind_of kind) (at_entry count starts ends values) (entries (was new_starts) (was new_ends) (was new_values)) }
+    ensures { extended result (stored count.new starts.new ends.new values.new)
+        ≡ bulk_insert (kind_of kind) (stored count.old starts.old ends.old values.old) (entries new_starts.now new_ends.now new_values.now) }
 {
     if !well_formed(kind, *count, starts, ends, values) {
         return Applied {

@@ -1,0 +1,5 @@
+use mathlib.Core.Path.{refl}
+use Rattle.query_text.proofs.cursor.Cursor.is_full.Goals as goal
+
+pub returns : goal.returns
+returns c = refl

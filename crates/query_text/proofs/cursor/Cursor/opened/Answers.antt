@@ -1,0 +1,6 @@
+use native.Mathlib.Omega.{arith}
+use mathlib.Core.Path.{refl}
+use Rattle.query_text.proofs.cursor.Cursor.opened.Goals as goal
+
+pub returns : goal.returns
+returns c = refl

@@ -1,0 +1,16 @@
+use lib.IntN.{pos}
+use mir.Facts.{to_z-of_z}
+use borrow.Author.Rules.{sfits_of}
+use Prim.Native.Nat.{◌-◌, ◌≤◌}
+use mathlib.Core.Path.{◌≡◌, refl}
+use native.Mathlib.Omega.{arith}
+use lib.ListN.{length, length-set, take, drop}
+use lib.Seq.{sets}
+use Rattle.splice.proofs.Sets.{left_more}
+use Rattle.splice.proofs.move_left_keys.Given as goal
+
+abbrev pub invariant-loop-p : goal.invariant-loop-p
+invariant-loop-p l = (l.p ≤ l.n) × (length l.a ≡ length l.initial.a) × (l.a ≡ sets l.initial.a l.to (take l.p (drop l.from l.initial.a)))
+
+abbrev pub decreases-loop-p : goal.decreases-loop-p
+decreases-loop-p l = l.n - l.p

@@ -1,0 +1,14 @@
+use Prim.Native.Nat.{◌+◌, ◌-◌, ◌≤◌}
+use mathlib.Core.Path.{◌≡◌, refl}
+use native.Mathlib.Omega.{arith}
+use native.Mathlib.Nat.{add-zero}
+use lib.ListN.{length, length-set, take, drop}
+use lib.Seq.{sets}
+use Rattle.splice.proofs.Sets.{right_more, none_moved}
+use Rattle.splice.proofs.move_right_values.Given as goal
+
+abbrev pub invariant-loop-p : goal.invariant-loop-p
+invariant-loop-p l = (l.p ≤ l.n) × (length l.a ≡ length l.initial.a) × (l.a ≡ sets l.initial.a (l.to + l.p) (drop l.p (take l.n (drop l.from l.initial.a))))
+
+abbrev pub decreases-loop-p : goal.decreases-loop-p
+decreases-loop-p l = l.p
