@@ -1,7 +1,6 @@
 use native.Mathlib.Omega.{arith}
 use Rattle.calendar.proofs.Numbers.{day_number_of}
-use borrow.Author.Rules.{rules}
 use Rattle.calendar.proofs.day_number.Goals as goal
 
 pub returns : goal.returns
-returns c = let a = c.args.date in (day_number_of a c.years_before.ensures.0 c.months_before.ensures.0, omega (arith, c.years_before.ensures.1, c.months_before.ensures.1, c.struct_known-1.given.0))
+returns c = let a = c.args.date in (day_number_of a c.years_before.ensures.0 c.months_before.ensures.0, omega (arith, c.years_before.ensures.1, c.months_before.ensures.1))

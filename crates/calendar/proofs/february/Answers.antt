@@ -1,6 +1,5 @@
 use mathlib.Core.Path.{sym, ◌∙◌}
 use Rattle.calendar.proofs.Lengths.{leap_february, other_february}
-use borrow.Author.Rules.{rules}
 use Rattle.calendar.proofs.february.Goals as goal
 
 pub returns-then-is_leap : goal.returns-then-is_leap

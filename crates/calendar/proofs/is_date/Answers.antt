@@ -2,7 +2,6 @@ use native.Mathlib.Omega.{arith}
 use mathlib.Core.Path.{ap, ◌∙◌}
 use lib.Dec.{leb}
 use Rattle.calendar.proofs.Numbers.{date_no, date_day}
-use borrow.Author.Rules.{rules}
 use Rattle.calendar.proofs.is_date.Goals as goal
 
 pub returns-then-date-eq0 : goal.returns-then-date-eq0

@@ -1,5 +1,4 @@
 use Rattle.calendar.proofs.Sundays.{march_sunday_of}
-use borrow.Author.Rules.{rules}
 use Rattle.calendar.proofs.march_sunday.Goals as goal
 
 pub returns : goal.returns

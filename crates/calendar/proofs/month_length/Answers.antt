@@ -2,7 +2,6 @@ use native.Mathlib.Omega.{arith}
 use mathlib.Core.Path.{ap, sym, ◌∙◌}
 use Rattle.calendar.specs.Calendar.{month_length}
 use Rattle.calendar.proofs.Lengths.{no_month, month_short, from_table}
-use borrow.Author.Rules.{rules}
 use Rattle.calendar.proofs.month_length.Goals as goal
 
 pub returns-then-month-gt12 : goal.returns-then-month-gt12

@@ -1,6 +1,5 @@
 use native.Mathlib.Omega.{arith}
 use Rattle.calendar.proofs.Numbers.{next_day, next_month, next_year}
-use borrow.Author.Rules.{rules}
 use Rattle.calendar.proofs.next.Goals as goal
 
 pub returns-then-day-month_length : goal.returns-then-day-month_length

@@ -1,6 +1,5 @@
 use native.Mathlib.Omega.{arith}
 use Rattle.calendar.proofs.Sundays.{sunday_from_is}
-use borrow.Author.Rules.{rules}
 use Rattle.calendar.proofs.sunday_from.Goals as goal
 
 pub returns : goal.returns

@@ -1,5 +1,4 @@
 use native.Mathlib.Omega.{arith}
-use borrow.Author.Rules.{rules}
 use Rattle.calendar.proofs.Lengths.{years_before_is}
 use Rattle.calendar.proofs.years_before.Goals as goal
 
