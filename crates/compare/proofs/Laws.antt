@@ -16,7 +16,6 @@ use Rattle.span.proofs.Order.{order_refl, order_same, order_flip, order_trans}
 use Rattle.key.specs.Rank.{rank}
 use Rattle.key.specs.Range.{Kind, half_open, inclusive, kind_of}
 use Rattle.key.specs.declared.RangeKind.{RangeKind}
-use Rattle.key.specs.declared.RangeKind.TheVariants as RangeKind
 use Rattle.key.proofs.Laws.{rank_inj}
 use Rattle.key.proofs.Lawful.{Lawful}
 use Rattle.outcomes.specs.Stored.{Stored, stored, ranges, AllFit, Spare}

@@ -8,7 +8,6 @@ use Rattle.span.specs.Span.{Span}
 use Rattle.span.specs.Operations.{flat, lex, span_order}
 use Rattle.outcomes.specs.Outcomes.{compared_by}
 use Rattle.outcomes.specs.declared.Compared.{Compared}
-use Rattle.outcomes.specs.declared.Compared.TheVariants as Compared
 
 module _ (x y : Span) where
   pub start_less : x.lo < y.lo → Compared.Less ≡ compared_by (span_order (x ∷ []) (y ∷ []))

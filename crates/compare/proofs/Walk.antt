@@ -14,7 +14,6 @@ use Rattle.key.specs.Range.{Kind, half_open, span_of}
 use Rattle.outcomes.specs.Stored.{Stored, ranges}
 use Rattle.outcomes.specs.Outcomes.{order_sound, compared_by}
 use Rattle.outcomes.specs.declared.Compared.{Compared}
-use Rattle.outcomes.specs.declared.Compared.TheVariants as Compared
 use Rattle.outcomes.proofs.Formed.{Shaped, length_ranges, get_or_ranges}
 
 -- the first answer, unless it is that both are equal

@@ -1,12 +1,9 @@
 use Prim.Native.Nat.{◌-◌, ◌≤◌}
-use native.Mathlib.Omega.{arith}
-use mathlib.Core.Logic.{⊎_elim}
 use mathlib.Core.Path.{◌≡◌}
 use Rattle.key.specs.Range.{half_open}
-use Rattle.key.proofs.Laws.{rank_back}
-use Rattle.outcomes.specs.Stored.{Stored, stored}
+use Rattle.outcomes.specs.Stored.{stored}
 use Rattle.outcomes.specs.Outcomes.{order_sound}
-use Rattle.compare.proofs.Walk.{onward, all_left, passed, decided, first_left, second_left, neither_left}
+use Rattle.compare.proofs.Walk.{onward}
 use Rattle.compare.proofs.compare.Given as goal
 
 abbrev pub invariant-loop-k : goal.invariant-loop-k
