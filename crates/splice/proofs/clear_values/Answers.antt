@@ -1,8 +1,7 @@
-use Prim.Native.Nat.{◌-◌, ◌≤◌, max}
+use Prim.Native.Nat.{◌-◌}
 use mathlib.Core.Path.{◌≡◌, refl}
 use native.Mathlib.Omega.{arith}
-use lib.ListN.{length, length-set, replicate}
-use lib.Seq.{sets}
+use lib.ListN.{length-set}
 use Rattle.splice.proofs.Sets.{clear_more, none_cleared}
 use Rattle.splice.proofs.clear_values.Goals as goal
 

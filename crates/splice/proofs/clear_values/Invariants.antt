@@ -1,9 +1,7 @@
 use Prim.Native.Nat.{◌-◌, ◌≤◌, max}
-use mathlib.Core.Path.{◌≡◌, refl}
-use native.Mathlib.Omega.{arith}
-use lib.ListN.{length, length-set, replicate}
+use mathlib.Core.Path.{◌≡◌}
+use lib.ListN.{length, replicate}
 use lib.Seq.{sets}
-use Rattle.splice.proofs.Sets.{clear_more, none_cleared}
 use Rattle.splice.proofs.clear_values.Given as goal
 
 abbrev pub invariant-loop-p : goal.invariant-loop-p

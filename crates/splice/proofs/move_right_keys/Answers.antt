@@ -1,12 +1,13 @@
 use native.Mathlib.Nat.{add-zero}
 use lib.IntN.{pos}
 use mir.Facts.{to_z-of_z}
-use borrow.Author.Rules.{sfits_of}
-use Prim.Native.Nat.{◌+◌, ◌-◌, ◌≤◌}
+use borrow.Author.Rules.{rules}
+use mir.Syntax.{w64}
+use mir.Val.{SFits}
+use Prim.Native.Nat.{◌+◌, ◌-◌}
 use mathlib.Core.Path.{◌≡◌, refl}
 use native.Mathlib.Omega.{arith}
-use lib.ListN.{length, length-set, take, drop}
-use lib.Seq.{sets}
+use lib.ListN.{get_or, length-set}
 use Rattle.splice.proofs.Sets.{right_more, none_moved}
 use Rattle.splice.proofs.move_right_keys.Goals as goal
 
@@ -18,3 +19,12 @@ returns c =
     let turn = c in
     let e : turn.loop-p.p ≡ 0 = omega arith in
     rw (e, add-zero) at turn.loop-p.invariant.2
+
+pub loop-p-preserved : goal.loop-p-preserved
+loop-p-preserved c =
+    let f : SFits w64 (get_or c.loop-p.a (c.args.from + (c.loop-p.p - 1)) (pos 0)) = search rules in (
+      omega arith,
+      simp length-set (omega arith),
+      right_more c.args.a.now c.args.from c.args.to c.args.n c.loop-p.p (pos 0) c.loop-p.invariant.2 (to_z-of_z f)
+          (omega arith) (omega arith) (omega arith) (omega arith),
+    )

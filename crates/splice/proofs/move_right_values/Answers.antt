@@ -1,9 +1,7 @@
-use Prim.Native.Nat.{◌+◌, ◌-◌, ◌≤◌}
 use mathlib.Core.Path.{◌≡◌, refl}
 use native.Mathlib.Omega.{arith}
 use native.Mathlib.Nat.{add-zero}
-use lib.ListN.{length, length-set, take, drop}
-use lib.Seq.{sets}
+use lib.ListN.{length-set}
 use Rattle.splice.proofs.Sets.{right_more, none_moved}
 use Rattle.splice.proofs.move_right_values.Goals as goal
 

@@ -3,7 +3,6 @@ use lib.ListN.{length-set}
 use mathlib.Core.Path.{◌≡◌}
 use native.Mathlib.Numerals.{add-one, add-two}
 use mir.Facts.{to_z-of_z}
-use borrow.Author.Rules.{rules}
 use Rattle.splice.proofs.put_keys.Goals as goal
 
 pub returns-then-k-eq1 : goal.returns-then-k-eq1

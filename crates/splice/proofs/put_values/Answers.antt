@@ -2,7 +2,6 @@ use mathlib.Core.Path.{◌≡◌}
 use native.Mathlib.Omega.{arith}
 use native.Mathlib.Numerals.{add-one, add-two}
 use lib.ListN.{length-set}
-use borrow.Author.Rules.{rules}
 use Rattle.splice.proofs.put_values.Goals as goal
 
 pub returns-then-k-eq1 : goal.returns-then-k-eq1

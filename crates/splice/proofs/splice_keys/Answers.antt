@@ -5,7 +5,6 @@ use lib.ListN.{take}
 use lib.Seq.{length-take-le}
 use mir.Facts.{to_z-of_z}
 use Rattle.splice.proofs.Sets.{splice_done}
-use borrow.Author.Rules.{rules}
 use Rattle.splice.proofs.splice_keys.Goals as goal
 
 pub returns : goal.returns

@@ -4,7 +4,6 @@ use native.Mathlib.Omega.{arith}
 use lib.ListN.{take}
 use lib.Seq.{length-take-le}
 use Rattle.splice.proofs.Sets.{splice_done}
-use borrow.Author.Rules.{rules}
 use Rattle.splice.proofs.splice_values.Goals as goal
 
 pub returns : goal.returns
