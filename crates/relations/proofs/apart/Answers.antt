@@ -1,7 +1,6 @@
 use native.Mathlib.Omega.{arith}
 use mir.Syntax.{w64}
 use mir.Val.{of_z}
-use borrow.Author.Rules.{rules}
 use Rattle.key.proofs.Laws.{tests, rank_back, rank_below}
 use Rattle.key.proofs.Lawful.{lawful}
 use Rattle.key.proofs.Answers.{holds, fails}

@@ -13,7 +13,7 @@ pub returns-then-not-starts_before : goal.returns-then-not-starts_before
 returns-then-not-starts_before c =
     let real : let a = c.args in
     (rank a.range.start < (kind_of a.kind).past a.range.end) × (rank a.other.start < (kind_of a.kind).past a.other.end) =
-        c.both_full.ensures.right (not-false _ c.if-not-both_full.false-raw) in
+    c.both_full.ensures.right (not-false _ c.if-not-both_full.false-raw) in
     let r = real in
     overlaps_after _ _ _ _ _ r.0 r.1 (not_full c.starts_before.ensures (not-true _ c.if-not-starts_before.true-raw))
 
@@ -21,7 +21,7 @@ pub returns-then-not-starts_before-2 : goal.returns-then-not-starts_before-2
 returns-then-not-starts_before-2 c =
     let real : let a = c.args in
     (rank a.range.start < (kind_of a.kind).past a.range.end) × (rank a.other.start < (kind_of a.kind).past a.other.end) =
-        c.both_full.ensures.right (not-false _ c.if-not-both_full.false-raw) in
+    c.both_full.ensures.right (not-false _ c.if-not-both_full.false-raw) in
     let r = real in
     overlaps_before _ _ _ _ _ r.0 r.1 (not_full c.starts_before-2.ensures (not-true _ c.if-not-starts_before-2.true-raw))
 
@@ -29,7 +29,7 @@ pub returns : goal.returns
 returns c =
     let real : let a = c.args in
     (rank a.range.start < (kind_of a.kind).past a.range.end) × (rank a.other.start < (kind_of a.kind).past a.other.end) =
-        c.both_full.ensures.right (not-false _ c.if-not-both_full.false-raw) in
+    c.both_full.ensures.right (not-false _ c.if-not-both_full.false-raw) in
     let first = c in
     let r = real in
     overlaps_yes _ _ _ _ _ r.0 r.1

@@ -1,6 +1,5 @@
 use mathlib.Core.Path.{ap, sym}
 use Rattle.relations.specs.Relations.{relation_in_c}
-use borrow.Author.Rules.{rules}
 use Rattle.relations.proofs.relation_numbers.Goals as goal
 
 pub returns-in-Yes : goal.returns-in-Yes

@@ -1,7 +1,6 @@
 use mathlib.Core.Path.{ap, ◌∙◌}
 use mir.Facts.{to_z-of_z}
 use Rattle.relations.specs.Relations.{relation_in_c}
-use borrow.Author.Rules.{rules}
 use Rattle.relations.proofs.half_open.range_contains.Goals as goal
 
 pub returns : goal.returns
