@@ -3,7 +3,7 @@ use Prim.Native.Nat.{ℕ, suc, ◌+◌, ◌-◌, ◌≤◌}
 use native.Mathlib.Omega.{arith}
 use mathlib.Core.Path.{◌≡◌, sym, ap, ◌∙◌}
 use mathlib.Core.List.{List, [], ◌∷◌, ◌++◌, append_assoc}
-use borrow.Rule.Slice.PartMut.{mid_of, put_mid}
+use borrow.Rule.Slice.PartMut.{mid_of, put_mid as put_back}
 use lib.ListN.{length, set, length-append, take, drop, length-drop, take-append-drop}
 use lib.Seq.{sets, sets-eq, length-sets, length-take-le, drop-append-le, drop-drop}
 
@@ -11,10 +11,10 @@ module _ {A : Type 0} where
   -- a second run, right after the first
   pub sets_append : (l : List A) (i : ℕ) (vs ws : List A) (j : ℕ) → i + length vs ≡ j → sets (sets l i vs) j ws ≡ sets l i (vs ++ ws)
   sets_append l i [] ws j e = let k : j ≡ i = omega arith in ap (λ (k : ℕ). sets l k ws) k
-  sets_append l i (v ∷ vs) ws j e = sets_append _ (suc i) vs ws j (omega arith)
+  sets_append l i (v ∷ vs) ws j e = sets_append (set l i v) (suc i) vs ws j (omega arith)
 
   -- a run into the k places from a on, lent as a part
-  pub put_mid : (a k : ℕ) (l ws : List A) {ys : List A} → ys ≡ sets (mid_of a k l) 0 ws → length ws ≤ k → a + k ≤ length l → put_mid a k l ys ≡ sets l a ws
+  pub put_mid : (a k : ℕ) (l ws : List A) {ys : List A} → ys ≡ sets (mid_of a k l) 0 ws → length ws ≤ k → a + k ≤ length l → put_back a k l ys ≡ sets l a ws
   put_mid a k l ws e h b =
       let t : List A = take k (drop a l) in
       let m : length t ≡ k = length-take-le k (drop a l) (omega (arith, length-drop a l)) in
@@ -26,14 +26,14 @@ module _ {A : Type 0} where
 
   -- a run of a places from the front, and one into the part after it
   pub two_runs : (l vs ws : List A) (a : ℕ) {m ys : List A} → m ≡ sets l 0 vs → ys ≡ sets (mid_of a (length m - a) m) 0 ws → length vs ≡ a → a + length ws ≤ length l
-      → put_mid a (length m - a) m ys ≡ sets l 0 (vs ++ ws)
+      → put_back a (length m - a) m ys ≡ sets l 0 (vs ++ ws)
   two_runs l vs ws a {m} e f n h =
       let s : length m ≡ length l = ap length e ∙ length-sets l 0 vs in
       put_mid a (length m - a) m ws f (omega arith) (omega arith) ∙ ap (λ (x : List A). sets x a ws) e ∙ sets_append l 0 vs ws a (omega arith)
 
   -- and one more store after both
   pub three_runs : (l vs ws : List A) (v : A) (a j : ℕ) {m ys : List A} → m ≡ sets l 0 vs → ys ≡ sets (mid_of a (length m - a) m) 0 ws → length vs ≡ a → a + length ws ≡ j → j ≤ length l
-      → set (put_mid a (length m - a) m ys) j v ≡ sets l 0 (vs ++ (ws ++ (v ∷ [])))
+      → set (put_back a (length m - a) m ys) j v ≡ sets l 0 (vs ++ (ws ++ (v ∷ [])))
   three_runs l vs ws v a j e f n s h =
       ap (λ (x : List A). set x j v) (two_runs l vs ws a e f n (omega arith)) ∙ sets_append l 0 (vs ++ ws) (v ∷ []) j (omega (arith, length-append vs ws))
       ∙ ap (λ (x : List A). sets l 0 x) (append_assoc vs ws (v ∷ []))

@@ -7,7 +7,6 @@ use Rattle.outcomes.specs.Outcomes.{Entry, entries, formed, Edited, leaving}
 use Rattle.outcomes.specs.Numbers.{counted_in_c}
 use Rattle.outcomes.specs.declared.Count.{Count}
 use Rattle.outcomes.specs.declared.Counted.{Counted}
-use Rattle.outcomes.specs.declared.Counted.TheVariants as Counted
 use Rattle.byte_form.specs.Bytes.{u32_size, number_in}
 use Rattle.byte_form.specs.Layout.{Layout, head_of, head_size}
 
