@@ -1,4 +1,3 @@
--- Held: a struct is what it stores. Maps: the map as the thin functions lend it.
+-- Held: a struct is what it stores.
 pub mod Held
-pub mod Maps
 pub mod OneOutcome

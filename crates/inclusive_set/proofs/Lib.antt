@@ -1,4 +1,3 @@
--- Held: a struct is what it stores. Sets: the set as the thin functions lend it.
+-- Held: a struct is what it stores.
 pub mod Held
-pub mod Sets
 pub mod OneOutcome

@@ -1,0 +1,17 @@
+-- What the functions of this crate answer, each in one of the structs that C sees. Nothing in the ledger rests on these.
+use Rattle.std.specs.Prelude.{ℕ, nat_lt, ℤ}
+use Rattle.outcomes.specs.declared.Told.{Told}
+use Rattle.outcomes.specs.declared.Count.{Count}
+use Rattle.outcomes.specs.declared.Range.{Range}
+
+-- is a number less than another
+unfoldable pub told_less : ℕ → ℕ → Told
+told_less a b = record { answer = 0; yes = nat_lt a b }
+
+-- a number as a count
+unfoldable pub counted_as : ℕ → Count
+counted_as n = record { answer = 0; count = n }
+
+-- a range as it is
+unfoldable pub found_as : ℤ → ℤ → ℕ → Range
+found_as s e v = record { answer = 0; start = s; end = e; value = v }

@@ -1,0 +1,2 @@
+-- Answered (what the functions of this crate answer).
+pub mod Answered
