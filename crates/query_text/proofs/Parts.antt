@@ -9,7 +9,7 @@ use lib.Dec.{leb}
 use lib.ListN.{length, drop, length-drop}
 use Rattle.query_text.specs.Grammar.{Query, no, both, either, Level, factor, term, sum, open_limit}
 use Rattle.query_text.specs.InnerClasses.{class_truth}
-use Rattle.query_text.specs.Reader.{Read, got, bad, starts, behind, choose, and_then, deeper, atom, closed, read_level}
+use Rattle.query_text.specs.Reader.{Read, got, bad, starts, behind, and_then, deeper, atom, closed, read_level}
 use Rattle.query_text.specs.InnerReading.{negation, grouping}
 use Rattle.query_text.proofs.Steps.{more, Shrinks, read_shrinks, read_factor, read_term, read_sum}
 use Rattle.query_text.specs.declared.cursor.Cursor.{Cursor}
@@ -18,7 +18,6 @@ use Rattle.query_text.proofs.Bytes.{seen, past}
 use Rattle.query_text.specs.declared.truth.Truth.{Truth}
 use Rattle.query_text.specs.InnerTable.{says, Shows}
 use Rattle.query_text.specs.declared.reader.Reading.{Reading}
-use Rattle.query_text.specs.declared.reader.Reading.TheVariants as Reading
 use Rattle.query_text.specs.InnerReading.{Finds, ReadAs, here}
 
 -- the bytes that are left, four times, and which function it is
@@ -199,12 +198,3 @@ as_bad bytes n x e s = subst (λ (r : Reading). ReadAs bytes n x r) e s
 
 pub as_is : (bytes : List ℕ) (n : ℕ) (x y : Read) (r : Reading) → x ≡ y → ReadAs bytes n y r → ReadAs bytes n x r
 as_is bytes n x y r e s = subst (λ (x : Read). ReadAs bytes n x r) (sym e) s
-
--- a test that was turned over
-pub was_false : (b : Bool) → not b ≡ true → b ≡ false
-was_false true e = sym e
-was_false false e = refl
-
-pub was_true : (b : Bool) → not b ≡ false → b ≡ true
-was_true true e = refl
-was_true false e = sym e

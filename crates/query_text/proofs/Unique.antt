@@ -1,11 +1,11 @@
 -- ONE ANSWER of the functions that read a query: which variant, the cursor, and what the table says of each two classes. The 7 bits of a table that
 -- stand for no pair of classes are free.
-use Prim.Native.Nat.{ℕ, ◌≤◌}
+use Prim.Native.Nat.{ℕ}
 use native.Mathlib.Omega.{arith}
-use mathlib.Core.Path.{◌≡◌, refl, sym, ap, subst, ◌∙◌}
+use mathlib.Core.Path.{◌≡◌, sym, ap, subst, ◌∙◌}
 use mathlib.Core.Bool.{Bool}
 use mathlib.Core.List.{List, []}
-use lib.ListN.{length, drop, length-drop}
+use lib.ListN.{length, length-drop}
 use Rattle.query_text.specs.Grammar.{Query, first}
 use Rattle.query_text.specs.Reader.{Read, got, bad}
 use Rattle.query_text.specs.InnerClasses.{class_truth}
@@ -15,7 +15,6 @@ use Rattle.query_text.specs.InnerTable.{says, Shows}
 use Rattle.query_text.specs.declared.cursor.Cursor.{Cursor}
 use Rattle.query_text.specs.declared.truth.Truth.{Truth}
 use Rattle.query_text.specs.declared.reader.Reading.{Reading}
-use Rattle.query_text.specs.declared.reader.Reading.TheVariants as Reading
 
 -- a table, at each two classes
 pub shows_one : (t u : Truth) (f : ℕ → ℕ → Bool) → Shows t f → Shows u f → Shows t (says u)

@@ -7,7 +7,6 @@ use Rattle.query_text.specs.InnerTable.{Shows}
 use Rattle.query_text.specs.declared.cursor.Cursor.{Cursor}
 use Rattle.query_text.specs.declared.truth.Truth.{Truth}
 use Rattle.query_text.specs.declared.reader.Reading.{Reading}
-use Rattle.query_text.specs.declared.reader.Reading.TheVariants as Reading
 
 -- what is read at a level from a cursor on
 abbrev pub here : Level → List ℕ → Cursor → Read

@@ -1,5 +1,4 @@
 use mathlib.Core.Path.{sym}
-use borrow.Author.Rules.{rules}
 use Rattle.query_text.proofs.Bytes.{at_end, not_end}
 use Rattle.query_text.proofs.cursor.Cursor.sees.Goals as goal
 

@@ -1,6 +1,5 @@
-use mathlib.Core.Path.{sym, ◌∙◌}
-use borrow.Author.Rules.{rules}
-use Rattle.query_text.proofs.Bytes.{no_digit_at_end, digit_here}
+use mathlib.Core.Path.{sym}
+use Rattle.query_text.proofs.Bytes.{no_digit_at_end}
 use Rattle.query_text.proofs.cursor.Cursor.sees_digit.Goals as goal
 
 pub returns-then-at-bytes : goal.returns-then-at-bytes

@@ -1,4 +1,3 @@
-use native.Mathlib.Omega.{arith}
 use mathlib.Core.Path.{refl}
 use Rattle.query_text.proofs.cursor.Cursor.shut.Goals as goal
 

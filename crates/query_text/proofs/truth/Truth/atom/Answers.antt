@@ -1,4 +1,3 @@
-use native.Mathlib.Omega.{arith}
 use Rattle.query_text.proofs.Tables.{first_shows, second_shows}
 use Rattle.query_text.proofs.truth.Truth.atom.Goals as goal
 

@@ -1,4 +1,3 @@
-use native.Mathlib.Omega.{arith}
 use Prim.Native.Nat.{◌+◌, ◌*◌}
 use borrow.Author.Tests.{lt-ltb, le-ltb}
 use Rattle.query_text.specs.InnerTable.{says}
