@@ -1,0 +1,67 @@
+use Prim.Native.Nat.{◌-◌, ◌<◌}
+use native.Mathlib.Omega.{arith}
+use lib.IntN.{ℤ, pos}
+use lib.ListN.{get_or}
+use lib.Signed.{lt_z}
+use mir.Syntax.{w64}
+use mir.Val.{SFits}
+use mir.Facts.{to_z-of_z}
+use borrow.Author.Rules.{rules}
+use borrow.Author.Tests.{ltb-true, ltb-false}
+use Rattle.key.specs.Rank.{rank}
+use Rattle.key.specs.InnerDecides.{Decides}
+use Rattle.key.proofs.Laws.{lt_z_rank}
+use Rattle.edit.proofs.Planning.{beside_by, beside_fits}
+use Rattle.edit.proofs.plan_over.Goals as goal
+
+-- a test of two keys is one of their ranks
+less : {a b : ℤ} → SFits w64 a → SFits w64 b → Decides (lt_z a b) (rank a < rank b)
+less {a} {b} f g =
+    rw (lt_z_rank a b f g) (record { right = ltb-true (rank a) (rank b); wrong = λ e w. omega (arith, ltb-false (rank a) (rank b) e) })
+
+pub offset_bounds-starts-from : goal.offset_bounds-starts-from
+offset_bounds-starts-from c = omega (arith, c.requires)
+
+pub bounds-starts-from : goal.bounds-starts-from
+bounds-starts-from c = omega (arith, c.requires)
+
+pub bounds-values-from : goal.bounds-values-from
+bounds-values-from c = omega (arith, c.requires)
+
+pub overflow_sub-last : goal.overflow_sub-last
+overflow_sub-last c = omega (arith, c.requires)
+
+pub offset_bounds-ends-to : goal.offset_bounds-ends-to
+offset_bounds-ends-to c = omega (arith, c.requires)
+
+pub bounds-ends-to : goal.bounds-ends-to
+bounds-ends-to c = omega (arith, c.requires)
+
+pub overflow_sub-last_value : goal.overflow_sub-last_value
+overflow_sub-last_value c = omega (arith, c.requires)
+
+pub bounds-values-to : goal.bounds-values-to
+bounds-values-to c = omega (arith, c.requires)
+
+pub returns : goal.returns
+returns c =
+    let g = c.args in
+    let f-first : SFits w64 (get_or c.args.starts.now c.args.met.from (pos 0)) = search rules in
+    let f-last : SFits w64 (get_or c.args.ends.now (c.args.met.to - 1) (pos 0)) = search rules in
+    let f-start : SFits w64 c.args.change.start = search rules in
+    let f-end : SFits w64 c.args.change.end = search rules in
+    let f-below : SFits w64 c.args.met.below = search rules in
+    let f-above : SFits w64 c.args.met.above = search rules in
+    let l = beside_by (less f-first f-start) (rw (to_z-of_z f-first, to_z-of_z f-start) at c.join_or_keep-left.ensures) in
+    let r = beside_by (less f-end f-last) (rw (to_z-of_z f-end, to_z-of_z f-last) at c.join_or_keep-right.ensures) in
+    let f-low = beside_fits l f-start f-first in
+    let f-high = beside_fits r f-end f-last in
+    record {
+      left_kept = c.join_or_keep-left.result.kept;
+      right_kept = c.join_or_keep-right.result.kept;
+      start = c.join_or_keep-left.result.key;
+      end = c.join_or_keep-right.result.key;
+      left = l;
+      right = r;
+      brings = simp (to_z-of_z f-first, to_z-of_z f-last, to_z-of_z f-below, to_z-of_z f-above, to_z-of_z f-low, to_z-of_z f-high) at c.bring.ensures;
+    }

@@ -1,0 +1,19 @@
+use Prim.Native.Nat.{ℕ}
+use native.Mathlib.Omega.{arith}
+use mathlib.Core.Path.{◌≡◌, ap, ◌∙◌}
+use mathlib.Core.Option.{none}
+use lib.ListN.{length}
+use mir.Facts.{to_z-of_z}
+use Rattle.key.specs.Range.{kind_of}
+use Rattle.outcomes.specs.Stored.{places, stored}
+use Rattle.outcomes.specs.Outcomes.{edit_sound}
+use Rattle.outcomes.proofs.Went.{leaves}
+use Rattle.edit.proofs.remove.Goals as goal
+
+pub returns : goal.returns
+returns c =
+    let m = stored c.args.count.now c.args.starts.now c.args.ends.now c.args.values.now in
+    let n : length c.args.starts.now ≡ places = omega arith in
+    leaves c.outcome_of.ensures
+    (rw (to_z-of_z c.ranges.start, to_z-of_z c.ranges.end) at c.edit.ensures
+    ∙ ap (λ (k : ℕ). edit_sound (kind_of c.args.kind) k m c.args.start c.args.end none) n)
