@@ -13,7 +13,6 @@ use lib.IntN.{ℤ, pos, negsuc}
 use mir.Syntax.{w64}
 use mir.Val.{SFits}
 use Rattle.decimal.specs.declared.Numeral.{Numeral}
-use Rattle.decimal.specs.declared.Numeral.TheVariants as Numeral
 use Rattle.decimal.specs.declared.Signed.TheVariants as Signed
 use Rattle.decimal.specs.Decimal.{digit, minus, decimal_text, signed_text}
 use Rattle.decimal.specs.Reading.{no_leading_zero, next_of, read_on, read_number, as_natural, as_negative, read_signed}

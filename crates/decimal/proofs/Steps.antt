@@ -15,7 +15,6 @@ use mir.Syntax.{w64}
 use mir.Val.{to_z}
 use Rattle.byte_form.proofs.Laws.{key_negative}
 use Rattle.decimal.specs.declared.Numeral.{Numeral}
-use Rattle.decimal.specs.declared.Numeral.TheVariants as Numeral
 use Rattle.decimal.specs.declared.Signed.TheVariants as Signed
 use Rattle.decimal.specs.Decimal.{minus}
 use Rattle.decimal.specs.Reading.{no_leading_zero, next_of, read_on, read_number, as_natural, as_negative, read_signed}

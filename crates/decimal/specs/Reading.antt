@@ -1,9 +1,7 @@
 -- What a text says as a number. It says one exactly where it is that number's text: `read_written` and `Written-Read` in proofs/Reading.antt.
 use Rattle.std.specs.Prelude.{ℕ, zero, suc, ◌+◌, ◌-◌, ◌*◌, ◌^◌, Bool, true, false, cond, not, ◌&&◌, List, [], ◌∷◌, ltb, leb, eqb, pos, negsuc}
 use Rattle.decimal.specs.declared.Numeral.{Numeral}
-use Rattle.decimal.specs.declared.Numeral.TheVariants as Numeral
 use Rattle.decimal.specs.declared.Signed.{Signed}
-use Rattle.decimal.specs.declared.Signed.TheVariants as Signed
 use Rattle.decimal.specs.Decimal.{digit, minus}
 
 -- a text is not empty, and no zero stands before other bytes
