@@ -9,7 +9,7 @@ use Rattle.hourledger.specs.declared.input.Input.TheVariants as Input
 abbrev pub Held : Input → List ℕ → Type 0
 Held (Input.Bytes n) bytes = n ≤ length bytes
 Held Input.TooLong bytes = Unit {0}
-Held Input.Failed bytes = Unit {0}
+Held (Input.Failed e) bytes = Unit {0}
 
 -- a map that was loaded is sound, and has no more ranges than places
 pub record Loaded (m : Stored) : Type 0 where

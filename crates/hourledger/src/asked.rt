@@ -3,12 +3,14 @@ ghost use Rattle.std.specs.Prelude.{◌≤◌};
 ghost use Rattle.range_text.specs.RangeText.{results};
 
 use crate::form::{ROOM, load, read_form};
-use crate::output::{print, refuse};
+use crate::output::{fail, print, refuse};
+use crate::words::{LONGEST, word};
 use answers::EMPTY_RANGE;
 use key::Value;
-use libc::STDOUT_FILENO;
 use outcomes::{Counted, PLACES};
 use range_text::{RESULTS, RESULTS_ROOM, result_text};
+use std::fs::File;
+use std::io;
 
 // A file that is asked of: its map was loaded, or it was refused, or it could not be opened, which was said.
 #[derive(Clone, Copy)]
@@ -18,59 +20,72 @@ enum Taken {
     NotOpened,
 }
 
+// Opens a file. The system takes any bytes as a name, and the library only what is UTF-8.
+fn open(rt: &HostRuntime, path: &[u8]) -> io::Result<File> {
+    match std::str::from_utf8(path) {
+        Ok(name) => File::open(rt, name),
+        Err(_) => Err(io::Error::from(io::ErrorKind::InvalidInput)),
+    }
+}
+
 // Loads the form of a file.
 fn take(
+    rt: &HostRuntime,
     path: &[u8],
     count: &mut usize,
     starts: &mut [i64; PLACES],
     ends: &mut [i64; PLACES],
     values: &mut [Value; PLACES],
 ) -> Taken {
-    let fd = os::open_read(path);
-    if fd < 0 {
-        os::fail(path);
-        return Taken::NotOpened;
+    match open(rt, path) {
+        Ok(mut file) => {
+            let mut bytes = [0u8; ROOM];
+            let n = read_form(&mut file, &mut bytes);
+            let answer = load(&bytes[..n], count, starts, ends, values);
+            if answer != 0 {
+                return Taken::Refused(answer);
+            }
+            Taken::Map
+        }
+        Err(e) => {
+            fail(rt, path, &e);
+            Taken::NotOpened
+        }
     }
-    let mut bytes = [0u8; ROOM];
-    let n = read_form(fd, &mut bytes);
-    libc::close(fd);
-    let answer = load(&bytes[..n], count, starts, ends, values);
-    if answer != 0 {
-        return Taken::Refused(answer);
-    }
-    Taken::Map
 }
 
 // Loads the form of the file that a word names, and says whether there is a map.
 fn is_taken(
-    word: usize,
+    rt: &HostRuntime,
+    place: usize,
     count: &mut usize,
     starts: &mut [i64; PLACES],
     ends: &mut [i64; PLACES],
     values: &mut [Value; PLACES],
 ) -> bool {
-    let mut path = io::buffer();
-    let n = os::arg(word, &mut path);
-    let taken = take(&path[..n], count, starts, ends, values);
+    let mut path = [0u8; LONGEST];
+    let n = word(rt, place, &mut path);
+    let taken = take(rt, &path[..n], count, starts, ends, values);
     match taken {
         Taken::Map => true,
         Taken::Refused(answer) => {
-            refuse(answer);
+            refuse(rt, answer);
             false
         }
         Taken::NotOpened => false,
     }
 }
 
-fn show(n: usize, starts: &[i64; RESULTS], ends: &[i64; RESULTS])
+fn show(rt: &HostRuntime, n: usize, starts: &[i64; RESULTS], ends: &[i64; RESULTS])
     requires { n ≤ results }
 {
     let mut out = [0u8; RESULTS_ROOM];
     let k = result_text(n, starts, ends, &mut out);
-    print(STDOUT_FILENO, &out, k);
+    print(rt, &out, k);
 }
 
 fn of_query<'a, 'b>(
+    rt: &HostRuntime,
     count_a: &'a usize,
     starts_a: &'a [i64; PLACES],
     ends_a: &'a [i64; PLACES],
@@ -101,12 +116,13 @@ fn of_query<'a, 'b>(
         &mut ends,
     );
     match counted {
-        Counted::Count(n) => show(n, &starts, &ends),
-        Counted::Refused(answer) => refuse(answer),
+        Counted::Count(n) => show(rt, n, &starts, &ends),
+        Counted::Refused(answer) => refuse(rt, answer),
     }
 }
 
 fn of_maps<'a, 'b>(
+    rt: &HostRuntime,
     count_a: &'a usize,
     starts_a: &'a [i64; PLACES],
     ends_a: &'a [i64; PLACES],
@@ -118,9 +134,10 @@ fn of_maps<'a, 'b>(
     start: i64,
     end: i64,
 ) {
-    let mut query = io::buffer();
-    let n = os::arg(4, &mut query);
+    let mut query = [0u8; LONGEST];
+    let n = word(rt, 4, &mut query);
     of_query(
+        rt,
         count_a,
         starts_a,
         ends_a,
@@ -137,6 +154,7 @@ fn of_maps<'a, 'b>(
 
 // The second file, once the first is there.
 fn of_first<'a>(
+    rt: &HostRuntime,
     count_a: &'a usize,
     starts_a: &'a [i64; PLACES],
     ends_a: &'a [i64; PLACES],
@@ -148,25 +166,25 @@ fn of_first<'a>(
     let mut starts = [0i64; PLACES];
     let mut ends = [0i64; PLACES];
     let mut values = [0u8; PLACES];
-    if !is_taken(6, &mut count, &mut starts, &mut ends, &mut values) {
+    if !is_taken(rt, 6, &mut count, &mut starts, &mut ends, &mut values) {
         return;
     }
     of_maps(
-        count_a, starts_a, ends_a, values_a, &count, &starts, &ends, &values, start, end,
+        rt, count_a, starts_a, ends_a, values_a, &count, &starts, &ends, &values, start, end,
     );
 }
 
-pub fn run(start: i64, end: i64) {
+pub fn run(rt: &HostRuntime, start: i64, end: i64) {
     if start >= end {
-        refuse(EMPTY_RANGE);
+        refuse(rt, EMPTY_RANGE);
         return;
     }
     let mut count = 0;
     let mut starts = [0i64; PLACES];
     let mut ends = [0i64; PLACES];
     let mut values = [0u8; PLACES];
-    if !is_taken(5, &mut count, &mut starts, &mut ends, &mut values) {
+    if !is_taken(rt, 5, &mut count, &mut starts, &mut ends, &mut values) {
         return;
     }
-    of_first(&count, &starts, &ends, &values, start, end);
+    of_first(rt, &count, &starts, &ends, &values, start, end);
 }

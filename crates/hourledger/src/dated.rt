@@ -9,20 +9,20 @@ use command::View;
 use duty::Totals;
 use graph_text::{GRAPH_ROOM, graph_text};
 use key::Value;
-use libc::{STDIN_FILENO, STDOUT_FILENO};
 use log_day::Day;
 use outcomes::PLACES;
 use report::Reported;
 use report_text::{REPORT_ROOM, report_text};
 use svg_text::{SVG_ROOM, svg_text};
 
-fn show_report(start: i64, end: i64, t: Totals) {
+fn show_report(rt: &HostRuntime, start: i64, end: i64, t: Totals) {
     let mut out = [0u8; REPORT_ROOM];
     let n = report_text(start, end, t, &mut out);
-    print(STDOUT_FILENO, &out, n);
+    print(rt, &out, n);
 }
 
 fn show_graph(
+    rt: &HostRuntime,
     count: usize,
     starts: &[i64; PLACES],
     ends: &[i64; PLACES],
@@ -35,10 +35,11 @@ fn show_graph(
 {
     let mut out = [0u8; GRAPH_ROOM];
     let n = graph_text(count, starts, ends, values, start, end, t, &mut out);
-    print(STDOUT_FILENO, &out, n);
+    print(rt, &out, n);
 }
 
 fn show_picture(
+    rt: &HostRuntime,
     count: usize,
     starts: &[i64; PLACES],
     ends: &[i64; PLACES],
@@ -51,10 +52,11 @@ fn show_picture(
 {
     let mut out = [0u8; SVG_ROOM];
     let n = svg_text(count, starts, ends, values, start, end, t, &mut out);
-    print(STDOUT_FILENO, &out, n);
+    print(rt, &out, n);
 }
 
 fn show(
+    rt: &HostRuntime,
     view: View,
     count: usize,
     starts: &[i64; PLACES],
@@ -67,13 +69,14 @@ fn show(
     requires { Drawable (stored count starts.now ends.now values.now) start end }
 {
     match view {
-        View::Report => show_report(start, end, t),
-        View::Graph => show_graph(count, starts, ends, values, start, end, t),
-        View::Picture => show_picture(count, starts, ends, values, start, end, t),
+        View::Report => show_report(rt, start, end, t),
+        View::Graph => show_graph(rt, count, starts, ends, values, start, end, t),
+        View::Picture => show_picture(rt, count, starts, ends, values, start, end, t),
     }
 }
 
 fn of_map<'a>(
+    rt: &HostRuntime,
     view: View,
     count: &'a usize,
     starts: &'a [i64; PLACES],
@@ -89,35 +92,35 @@ fn of_map<'a>(
     let told = report::checked(count, starts, ends, values, zone, year, month, day);
     match told {
         Reported::Totals(start, end, t) => {
-            show(view, *count, starts, ends, values, start, end, t)
+            show(rt, view, *count, starts, ends, values, start, end, t)
         }
-        Reported::Refused(n) => refuse(n),
+        Reported::Refused(n) => refuse(rt, n),
     }
 }
 
-fn of_form(form: &[u8], view: View, zone: u8, year: u16, month: u8, day: u8) {
+fn of_form(rt: &HostRuntime, form: &[u8], view: View, zone: u8, year: u16, month: u8, day: u8) {
     let mut count = 0;
     let mut starts = [0i64; PLACES];
     let mut ends = [0i64; PLACES];
     let mut values = [0u8; PLACES];
     let answer = load(form, &mut count, &mut starts, &mut ends, &mut values);
     if answer != 0 {
-        refuse(answer);
+        refuse(rt, answer);
         return;
     }
     of_map(
-        view, &count, &starts, &ends, &values, zone, year, month, day,
+        rt, view, &count, &starts, &ends, &values, zone, year, month, day,
     );
 }
 
-pub fn run(view: View, zone: u8, year: u16, month: u8, day: u8) {
+pub fn run(rt: &HostRuntime, view: View, zone: u8, year: u16, month: u8, day: u8) {
     let judged = log_day::day_of(zone, year, month, day);
     match judged {
-        Day::Refused(n) => refuse(n),
+        Day::Refused(n) => refuse(rt, n),
         Day::Span(_, _) => {
             let mut bytes = [0u8; ROOM];
-            let n = read_form(STDIN_FILENO, &mut bytes);
-            of_form(&bytes[..n], view, zone, year, month, day);
+            let n = read_form(&mut rt.stdin(), &mut bytes);
+            of_form(rt, &bytes[..n], view, zone, year, month, day);
         }
     }
 }

@@ -1,6 +1,5 @@
-// A byte form: read from a descriptor, and loaded into a map.
-ghost use Rattle.std.specs.Prelude.{◌≡◌};
-ghost use Rattle.io.specs.Counts.{IsPrefixLen};
+// A byte form: read to its end, and loaded into a map.
+ghost use Rattle.std.specs.Prelude.{◌≡◌, ◌≤◌, length};
 ghost use Rattle.outcomes.specs.Stored.{stored};
 ghost use Rattle.outcomes.specs.Outcomes.{leaving};
 ghost use Rattle.byte_form.specs.Layout.{rm01};
@@ -11,19 +10,20 @@ use crate::input::{Input, read_all};
 use byte_form::rm01::LONGEST;
 use key::Value;
 use outcomes::PLACES;
+use std::io::Read;
 
 // The longest form, and a byte more.
 pub const ROOM: usize = LONGEST + 1;
 
 // Reads a form. What is too long, or is not read to its end, is taken as bytes that are longer than any form.
-pub fn read_form(fd: i32, bytes: &mut [u8; ROOM]) -> usize
-    ensures { IsPrefixLen result bytes.new }
+pub fn read_form<R: Read>(reader: &mut R, bytes: &mut [u8; ROOM]) -> usize
+    ensures { result ≤ length bytes.new }
 {
-    let got = read_all(fd, bytes);
+    let got = read_all(reader, bytes);
     match got {
         Input::Bytes(n) => n,
         Input::TooLong => ROOM,
-        Input::Failed => ROOM,
+        Input::Failed(_) => ROOM,
     }
 }
 

@@ -5,33 +5,38 @@ ghost use Rattle.outcomes.specs.Stored.{places};
 use crate::form::{ROOM, load, read_form};
 use crate::output::{print, refuse};
 use key::Value;
-use libc::{STDIN_FILENO, STDOUT_FILENO};
 use outcomes::PLACES;
 use range_text::{RANGES_ROOM, ranges_text};
 
-fn show(count: usize, starts: &[i64; PLACES], ends: &[i64; PLACES], values: &[Value; PLACES])
+fn show(
+    rt: &HostRuntime,
+    count: usize,
+    starts: &[i64; PLACES],
+    ends: &[i64; PLACES],
+    values: &[Value; PLACES],
+)
     requires { count ≤ places }
 {
     let mut out = [0u8; RANGES_ROOM];
     let n = ranges_text(count, starts, ends, values, &mut out);
-    print(STDOUT_FILENO, &out, n);
+    print(rt, &out, n);
 }
 
-fn of_form(form: &[u8]) {
+fn of_form(rt: &HostRuntime, form: &[u8]) {
     let mut count = 0;
     let mut starts = [0i64; PLACES];
     let mut ends = [0i64; PLACES];
     let mut values = [0u8; PLACES];
     let answer = load(form, &mut count, &mut starts, &mut ends, &mut values);
     if answer != 0 {
-        refuse(answer);
+        refuse(rt, answer);
         return;
     }
-    show(count, &starts, &ends, &values);
+    show(rt, count, &starts, &ends, &values);
 }
 
-pub fn run() {
+pub fn run(rt: &HostRuntime) {
     let mut bytes = [0u8; ROOM];
-    let n = read_form(STDIN_FILENO, &mut bytes);
-    of_form(&bytes[..n]);
+    let n = read_form(&mut rt.stdin(), &mut bytes);
+    of_form(rt, &bytes[..n]);
 }
