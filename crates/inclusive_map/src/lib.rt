@@ -30,8 +30,7 @@ pub struct RangeInclusiveMap {
 }
 
 // A new map, which holds nothing.
-#[unsafe(no_mangle)]
-pub extern "C" fn range_inclusive_map_new() -> RangeInclusiveMap
+pub fn range_inclusive_map_new() -> RangeInclusiveMap
     ensures { RangeInclusiveMapNew result }
 {
     RangeInclusiveMap {
@@ -43,72 +42,63 @@ pub extern "C" fn range_inclusive_map_new() -> RangeInclusiveMap
 }
 
 // Whether nothing is held.
-#[unsafe(no_mangle)]
-pub extern "C" fn range_inclusive_map_is_empty(m: &RangeInclusiveMap) -> Told
+pub fn range_inclusive_map_is_empty(m: &RangeInclusiveMap) -> Told
     ensures { RangeInclusiveMapIsEmpty m.now result }
 {
     map_abi::is_empty(KIND, &m.count, &m.starts, &m.ends, &m.values)
 }
 
 // How many ranges are held.
-#[unsafe(no_mangle)]
-pub extern "C" fn range_inclusive_map_len(m: &RangeInclusiveMap) -> Count
+pub fn range_inclusive_map_len(m: &RangeInclusiveMap) -> Count
     ensures { RangeInclusiveMapLen m.now result }
 {
     map_abi::len(KIND, &m.count, &m.starts, &m.ends, &m.values)
 }
 
 // The range and the value at a place.
-#[unsafe(no_mangle)]
-pub extern "C" fn range_inclusive_map_range_at(m: &RangeInclusiveMap, place: usize) -> Range
+pub fn range_inclusive_map_range_at(m: &RangeInclusiveMap, place: usize) -> Range
     ensures { RangeInclusiveMapRangeAt m.now place result }
 {
     map_abi::range_at(KIND, &m.count, &m.starts, &m.ends, &m.values, place)
 }
 
 // The first range and its value.
-#[unsafe(no_mangle)]
-pub extern "C" fn range_inclusive_map_first_range_value(m: &RangeInclusiveMap) -> Range
+pub fn range_inclusive_map_first_range_value(m: &RangeInclusiveMap) -> Range
     ensures { RangeInclusiveMapFirstRangeValue m.now result }
 {
     map_abi::first_range_value(KIND, &m.count, &m.starts, &m.ends, &m.values)
 }
 
 // The last range and its value.
-#[unsafe(no_mangle)]
-pub extern "C" fn range_inclusive_map_last_range_value(m: &RangeInclusiveMap) -> Range
+pub fn range_inclusive_map_last_range_value(m: &RangeInclusiveMap) -> Range
     ensures { RangeInclusiveMapLastRangeValue m.now result }
 {
     map_abi::last_range_value(KIND, &m.count, &m.starts, &m.ends, &m.values)
 }
 
 // The range that holds the key, and its value.
-#[unsafe(no_mangle)]
-pub extern "C" fn range_inclusive_map_get_key_value(m: &RangeInclusiveMap, key: i64) -> Range
+pub fn range_inclusive_map_get_key_value(m: &RangeInclusiveMap, key: i64) -> Range
     ensures { RangeInclusiveMapGetKeyValue m.now key result }
 {
     map_abi::get_key_value(KIND, &m.count, &m.starts, &m.ends, &m.values, key)
 }
 
 // Whether some range holds the key.
-#[unsafe(no_mangle)]
-pub extern "C" fn range_inclusive_map_contains_key(m: &RangeInclusiveMap, key: i64) -> Told
+pub fn range_inclusive_map_contains_key(m: &RangeInclusiveMap, key: i64) -> Told
     ensures { RangeInclusiveMapContainsKey m.now key result }
 {
     map_abi::contains_key(KIND, &m.count, &m.starts, &m.ends, &m.values, key)
 }
 
 // Whether some range has a key of the query.
-#[unsafe(no_mangle)]
-pub extern "C" fn range_inclusive_map_overlaps(m: &RangeInclusiveMap, start: i64, end: i64) -> Told
+pub fn range_inclusive_map_overlaps(m: &RangeInclusiveMap, start: i64, end: i64) -> Told
     ensures { RangeInclusiveMapOverlaps m.now start end result }
 {
     map_abi::overlaps(KIND, &m.count, &m.starts, &m.ends, &m.values, start, end)
 }
 
 // Which consecutive stored part meets the query.
-#[unsafe(no_mangle)]
-pub extern "C" fn range_inclusive_map_overlapping(
+pub fn range_inclusive_map_overlapping(
     m: &RangeInclusiveMap,
     start: i64,
     end: i64,
@@ -119,8 +109,7 @@ pub extern "C" fn range_inclusive_map_overlapping(
 }
 
 // The maximal uncovered ranges inside start..=end, into the first places of two lent lists.
-#[unsafe(no_mangle)]
-pub extern "C" fn range_inclusive_map_gaps(
+pub fn range_inclusive_map_gaps(
     m: &RangeInclusiveMap,
     start: i64,
     end: i64,
@@ -135,8 +124,7 @@ pub extern "C" fn range_inclusive_map_gaps(
 }
 
 // Whether two maps hold the same ranges with the same values.
-#[unsafe(no_mangle)]
-pub extern "C" fn range_inclusive_map_eq(a: &RangeInclusiveMap, b: &RangeInclusiveMap) -> Told
+pub fn range_inclusive_map_eq(a: &RangeInclusiveMap, b: &RangeInclusiveMap) -> Told
     ensures { RangeInclusiveMapEq a.now b.now result }
 {
     map_abi::eq(
@@ -145,8 +133,7 @@ pub extern "C" fn range_inclusive_map_eq(a: &RangeInclusiveMap, b: &RangeInclusi
 }
 
 // Which of two maps comes first: -1, 0 or 1.
-#[unsafe(no_mangle)]
-pub extern "C" fn range_inclusive_map_cmp(a: &RangeInclusiveMap, b: &RangeInclusiveMap) -> Order
+pub fn range_inclusive_map_cmp(a: &RangeInclusiveMap, b: &RangeInclusiveMap) -> Order
     ensures { RangeInclusiveMapCmp a.now b.now result }
 {
     map_abi::cmp(
@@ -155,8 +142,7 @@ pub extern "C" fn range_inclusive_map_cmp(a: &RangeInclusiveMap, b: &RangeInclus
 }
 
 // Gives the value to each instant of start..=end and to no other.
-#[unsafe(no_mangle)]
-pub extern "C" fn range_inclusive_map_insert(
+pub fn range_inclusive_map_insert(
     m: &mut RangeInclusiveMap,
     start: i64,
     end: i64,
@@ -177,8 +163,7 @@ pub extern "C" fn range_inclusive_map_insert(
 }
 
 // Uncovers exactly the instants of start..=end.
-#[unsafe(no_mangle)]
-pub extern "C" fn range_inclusive_map_remove(m: &mut RangeInclusiveMap, start: i64, end: i64) -> u8
+pub fn range_inclusive_map_remove(m: &mut RangeInclusiveMap, start: i64, end: i64) -> u8
     ensures { RangeInclusiveMapRemove m.old m.new start end result }
 {
     map_abi::remove(
@@ -193,16 +178,14 @@ pub extern "C" fn range_inclusive_map_remove(m: &mut RangeInclusiveMap, start: i
 }
 
 // Leaves nothing held, whatever the map was.
-#[unsafe(no_mangle)]
-pub extern "C" fn range_inclusive_map_clear(m: &mut RangeInclusiveMap)
+pub fn range_inclusive_map_clear(m: &mut RangeInclusiveMap)
     ensures { RangeInclusiveMapClear m.old m.new }
 {
     map_ops::change::clear(&mut m.count, &mut m.starts, &mut m.ends, &mut m.values)
 }
 
 // Inserts the entries of three lent lists in order, up to the first refusal.
-#[unsafe(no_mangle)]
-pub extern "C" fn range_inclusive_map_extend(
+pub fn range_inclusive_map_extend(
     m: &mut RangeInclusiveMap,
     starts: &[i64],
     ends: &[i64],
@@ -223,16 +206,14 @@ pub extern "C" fn range_inclusive_map_extend(
 }
 
 // Whether a map is well formed.
-#[unsafe(no_mangle)]
-pub extern "C" fn range_inclusive_map_well_formed(m: &RangeInclusiveMap) -> bool
+pub fn range_inclusive_map_well_formed(m: &RangeInclusiveMap) -> bool
     ensures { RangeInclusiveMapWellFormed m.now result }
 {
     map_abi::well_formed(KIND, &m.count, &m.starts, &m.ends, &m.values)
 }
 
 // Lookup through the unchecked door: the map must be well formed.
-#[unsafe(no_mangle)]
-pub extern "C" fn range_inclusive_map_get_key_value_unchecked(
+pub fn range_inclusive_map_get_key_value_unchecked(
     m: &RangeInclusiveMap,
     key: i64,
 ) -> Range
@@ -243,8 +224,7 @@ pub extern "C" fn range_inclusive_map_get_key_value_unchecked(
 }
 
 // Gaps through the unchecked door: the map must be well formed.
-#[unsafe(no_mangle)]
-pub extern "C" fn range_inclusive_map_gaps_unchecked(
+pub fn range_inclusive_map_gaps_unchecked(
     m: &RangeInclusiveMap,
     start: i64,
     end: i64,
@@ -260,8 +240,7 @@ pub extern "C" fn range_inclusive_map_gaps_unchecked(
 }
 
 // Insert through the unchecked door: the map must be well formed.
-#[unsafe(no_mangle)]
-pub extern "C" fn range_inclusive_map_insert_unchecked(
+pub fn range_inclusive_map_insert_unchecked(
     m: &mut RangeInclusiveMap,
     start: i64,
     end: i64,
@@ -283,8 +262,7 @@ pub extern "C" fn range_inclusive_map_insert_unchecked(
 }
 
 // Remove through the unchecked door: the map must be well formed.
-#[unsafe(no_mangle)]
-pub extern "C" fn range_inclusive_map_remove_unchecked(
+pub fn range_inclusive_map_remove_unchecked(
     m: &mut RangeInclusiveMap,
     start: i64,
     end: i64,

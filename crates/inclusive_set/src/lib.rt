@@ -27,8 +27,7 @@ pub struct RangeInclusiveSet {
 }
 
 // A new set, which covers nothing.
-#[unsafe(no_mangle)]
-pub extern "C" fn range_inclusive_set_new() -> RangeInclusiveSet
+pub fn range_inclusive_set_new() -> RangeInclusiveSet
     ensures { RangeInclusiveSetNew result }
 {
     RangeInclusiveSet {
@@ -40,72 +39,63 @@ pub extern "C" fn range_inclusive_set_new() -> RangeInclusiveSet
 }
 
 // Whether nothing is held.
-#[unsafe(no_mangle)]
-pub extern "C" fn range_inclusive_set_is_empty(m: &RangeInclusiveSet) -> Told
+pub fn range_inclusive_set_is_empty(m: &RangeInclusiveSet) -> Told
     ensures { RangeInclusiveSetIsEmpty m.now result }
 {
     set_abi::is_empty(KIND, &m.count, &m.starts, &m.ends, &m.values)
 }
 
 // How many ranges are held.
-#[unsafe(no_mangle)]
-pub extern "C" fn range_inclusive_set_len(m: &RangeInclusiveSet) -> Count
+pub fn range_inclusive_set_len(m: &RangeInclusiveSet) -> Count
     ensures { RangeInclusiveSetLen m.now result }
 {
     set_abi::len(KIND, &m.count, &m.starts, &m.ends, &m.values)
 }
 
 // The range at a place.
-#[unsafe(no_mangle)]
-pub extern "C" fn range_inclusive_set_range_at(m: &RangeInclusiveSet, place: usize) -> Range
+pub fn range_inclusive_set_range_at(m: &RangeInclusiveSet, place: usize) -> Range
     ensures { RangeInclusiveSetRangeAt m.now place result }
 {
     set_abi::range_at(KIND, &m.count, &m.starts, &m.ends, &m.values, place)
 }
 
 // The first range.
-#[unsafe(no_mangle)]
-pub extern "C" fn range_inclusive_set_first(m: &RangeInclusiveSet) -> Range
+pub fn range_inclusive_set_first(m: &RangeInclusiveSet) -> Range
     ensures { RangeInclusiveSetFirst m.now result }
 {
     set_abi::first(KIND, &m.count, &m.starts, &m.ends, &m.values)
 }
 
 // The last range.
-#[unsafe(no_mangle)]
-pub extern "C" fn range_inclusive_set_last(m: &RangeInclusiveSet) -> Range
+pub fn range_inclusive_set_last(m: &RangeInclusiveSet) -> Range
     ensures { RangeInclusiveSetLast m.now result }
 {
     set_abi::last(KIND, &m.count, &m.starts, &m.ends, &m.values)
 }
 
 // The range that holds the key.
-#[unsafe(no_mangle)]
-pub extern "C" fn range_inclusive_set_get(m: &RangeInclusiveSet, key: i64) -> Range
+pub fn range_inclusive_set_get(m: &RangeInclusiveSet, key: i64) -> Range
     ensures { RangeInclusiveSetGet m.now key result }
 {
     set_abi::get(KIND, &m.count, &m.starts, &m.ends, &m.values, key)
 }
 
 // Whether some range holds the key.
-#[unsafe(no_mangle)]
-pub extern "C" fn range_inclusive_set_contains(m: &RangeInclusiveSet, key: i64) -> Told
+pub fn range_inclusive_set_contains(m: &RangeInclusiveSet, key: i64) -> Told
     ensures { RangeInclusiveSetContains m.now key result }
 {
     set_abi::contains(KIND, &m.count, &m.starts, &m.ends, &m.values, key)
 }
 
 // Whether some range has a key of the query.
-#[unsafe(no_mangle)]
-pub extern "C" fn range_inclusive_set_overlaps(m: &RangeInclusiveSet, start: i64, end: i64) -> Told
+pub fn range_inclusive_set_overlaps(m: &RangeInclusiveSet, start: i64, end: i64) -> Told
     ensures { RangeInclusiveSetOverlaps m.now start end result }
 {
     set_abi::overlaps(KIND, &m.count, &m.starts, &m.ends, &m.values, start, end)
 }
 
 // Which consecutive stored part meets the query.
-#[unsafe(no_mangle)]
-pub extern "C" fn range_inclusive_set_overlapping(
+pub fn range_inclusive_set_overlapping(
     m: &RangeInclusiveSet,
     start: i64,
     end: i64,
@@ -116,8 +106,7 @@ pub extern "C" fn range_inclusive_set_overlapping(
 }
 
 // The maximal uncovered ranges inside start..=end, into the first places of two lent lists.
-#[unsafe(no_mangle)]
-pub extern "C" fn range_inclusive_set_gaps(
+pub fn range_inclusive_set_gaps(
     m: &RangeInclusiveSet,
     start: i64,
     end: i64,
@@ -132,8 +121,7 @@ pub extern "C" fn range_inclusive_set_gaps(
 }
 
 // Whether two sets hold the same ranges.
-#[unsafe(no_mangle)]
-pub extern "C" fn range_inclusive_set_eq(a: &RangeInclusiveSet, b: &RangeInclusiveSet) -> Told
+pub fn range_inclusive_set_eq(a: &RangeInclusiveSet, b: &RangeInclusiveSet) -> Told
     ensures { RangeInclusiveSetEq a.now b.now result }
 {
     set_abi::eq(
@@ -142,8 +130,7 @@ pub extern "C" fn range_inclusive_set_eq(a: &RangeInclusiveSet, b: &RangeInclusi
 }
 
 // Which of two sets comes first: -1, 0 or 1.
-#[unsafe(no_mangle)]
-pub extern "C" fn range_inclusive_set_cmp(a: &RangeInclusiveSet, b: &RangeInclusiveSet) -> Order
+pub fn range_inclusive_set_cmp(a: &RangeInclusiveSet, b: &RangeInclusiveSet) -> Order
     ensures { RangeInclusiveSetCmp a.now b.now result }
 {
     set_abi::cmp(
@@ -152,8 +139,7 @@ pub extern "C" fn range_inclusive_set_cmp(a: &RangeInclusiveSet, b: &RangeInclus
 }
 
 // Covers each instant of start..=end, and no other.
-#[unsafe(no_mangle)]
-pub extern "C" fn range_inclusive_set_insert(m: &mut RangeInclusiveSet, start: i64, end: i64) -> u8
+pub fn range_inclusive_set_insert(m: &mut RangeInclusiveSet, start: i64, end: i64) -> u8
     ensures { RangeInclusiveSetInsert m.old m.new start end result }
 {
     set_abi::insert(
@@ -168,8 +154,7 @@ pub extern "C" fn range_inclusive_set_insert(m: &mut RangeInclusiveSet, start: i
 }
 
 // Uncovers exactly the instants of start..=end.
-#[unsafe(no_mangle)]
-pub extern "C" fn range_inclusive_set_remove(m: &mut RangeInclusiveSet, start: i64, end: i64) -> u8
+pub fn range_inclusive_set_remove(m: &mut RangeInclusiveSet, start: i64, end: i64) -> u8
     ensures { RangeInclusiveSetRemove m.old m.new start end result }
 {
     set_abi::remove(
@@ -184,8 +169,7 @@ pub extern "C" fn range_inclusive_set_remove(m: &mut RangeInclusiveSet, start: i
 }
 
 // Inserts the ranges of two lent lists in order, up to the first refusal.
-#[unsafe(no_mangle)]
-pub extern "C" fn range_inclusive_set_extend(
+pub fn range_inclusive_set_extend(
     m: &mut RangeInclusiveSet,
     starts: &[i64],
     ends: &[i64],
@@ -204,24 +188,21 @@ pub extern "C" fn range_inclusive_set_extend(
 }
 
 // Leaves nothing covered, whatever the set was.
-#[unsafe(no_mangle)]
-pub extern "C" fn range_inclusive_set_clear(m: &mut RangeInclusiveSet)
+pub fn range_inclusive_set_clear(m: &mut RangeInclusiveSet)
     ensures { RangeInclusiveSetClear m.old m.new }
 {
     map_ops::change::clear(&mut m.count, &mut m.starts, &mut m.ends, &mut m.values)
 }
 
 // Whether a map is well formed.
-#[unsafe(no_mangle)]
-pub extern "C" fn range_inclusive_set_well_formed(m: &RangeInclusiveSet) -> bool
+pub fn range_inclusive_set_well_formed(m: &RangeInclusiveSet) -> bool
     ensures { RangeInclusiveSetWellFormed m.now result }
 {
     set_abi::well_formed(KIND, &m.count, &m.starts, &m.ends, &m.values)
 }
 
 // The common points of two sets as maximal ranges, into the first places of two lent lists.
-#[unsafe(no_mangle)]
-pub extern "C" fn range_inclusive_set_intersection(
+pub fn range_inclusive_set_intersection(
     a: &RangeInclusiveSet,
     b: &RangeInclusiveSet,
     out_starts: &mut [i64],
@@ -246,8 +227,7 @@ pub extern "C" fn range_inclusive_set_intersection(
 }
 
 // The points of either set, into the first places of two lent lists. Ranges that only touch across the two sets stay apart.
-#[unsafe(no_mangle)]
-pub extern "C" fn range_inclusive_set_union(
+pub fn range_inclusive_set_union(
     a: &RangeInclusiveSet,
     b: &RangeInclusiveSet,
     out_starts: &mut [i64],
@@ -272,8 +252,7 @@ pub extern "C" fn range_inclusive_set_union(
 }
 
 // How many keys are covered, as a u64; 9 if that is over 2^64 - 1.
-#[unsafe(no_mangle)]
-pub extern "C" fn range_inclusive_set_total(m: &RangeInclusiveSet) -> Total
+pub fn range_inclusive_set_total(m: &RangeInclusiveSet) -> Total
     ensures { RangeInclusiveSetTotal m.now result }
 {
     set_abi::total(KIND, &m.count, &m.starts, &m.ends, &m.values)

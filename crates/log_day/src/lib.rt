@@ -155,8 +155,7 @@ fn log_day_of(d: Day) -> LogDay
 }
 
 // THE DAY of a date in a zone: its start and its end, or 8.
-#[unsafe(no_mangle)]
-pub extern "C" fn log_day(zone: u8, year: u16, month: u8, day: u8) -> LogDay
+pub fn log_day(zone: u8, year: u16, month: u8, day: u8) -> LogDay
     ensures { LogDayPromise zone year month day result }
 {
     log_day_of(day_of(zone, year, month, day))

@@ -27,8 +27,7 @@ pub struct RangeMap {
 }
 
 // A new map, which holds nothing.
-#[unsafe(no_mangle)]
-pub extern "C" fn range_map_new() -> RangeMap
+pub fn range_map_new() -> RangeMap
     ensures { RangeMapNew result }
 {
     RangeMap {
@@ -40,80 +39,70 @@ pub extern "C" fn range_map_new() -> RangeMap
 }
 
 // Whether nothing is held.
-#[unsafe(no_mangle)]
-pub extern "C" fn range_map_is_empty(m: &RangeMap) -> Told
+pub fn range_map_is_empty(m: &RangeMap) -> Told
     ensures { RangeMapIsEmpty m.now result }
 {
     map_abi::is_empty(KIND, &m.count, &m.starts, &m.ends, &m.values)
 }
 
 // How many ranges are held.
-#[unsafe(no_mangle)]
-pub extern "C" fn range_map_len(m: &RangeMap) -> Count
+pub fn range_map_len(m: &RangeMap) -> Count
     ensures { RangeMapLen m.now result }
 {
     map_abi::len(KIND, &m.count, &m.starts, &m.ends, &m.values)
 }
 
 // The range and the value at a place.
-#[unsafe(no_mangle)]
-pub extern "C" fn range_map_range_at(m: &RangeMap, place: usize) -> Range
+pub fn range_map_range_at(m: &RangeMap, place: usize) -> Range
     ensures { RangeMapRangeAt m.now place result }
 {
     map_abi::range_at(KIND, &m.count, &m.starts, &m.ends, &m.values, place)
 }
 
 // The first range and its value.
-#[unsafe(no_mangle)]
-pub extern "C" fn range_map_first_range_value(m: &RangeMap) -> Range
+pub fn range_map_first_range_value(m: &RangeMap) -> Range
     ensures { RangeMapFirstRangeValue m.now result }
 {
     map_abi::first_range_value(KIND, &m.count, &m.starts, &m.ends, &m.values)
 }
 
 // The last range and its value.
-#[unsafe(no_mangle)]
-pub extern "C" fn range_map_last_range_value(m: &RangeMap) -> Range
+pub fn range_map_last_range_value(m: &RangeMap) -> Range
     ensures { RangeMapLastRangeValue m.now result }
 {
     map_abi::last_range_value(KIND, &m.count, &m.starts, &m.ends, &m.values)
 }
 
 // The range that holds the key, and its value.
-#[unsafe(no_mangle)]
-pub extern "C" fn range_map_get_key_value(m: &RangeMap, key: i64) -> Range
+pub fn range_map_get_key_value(m: &RangeMap, key: i64) -> Range
     ensures { RangeMapGetKeyValue m.now key result }
 {
     map_abi::get_key_value(KIND, &m.count, &m.starts, &m.ends, &m.values, key)
 }
 
 // Whether some range holds the key.
-#[unsafe(no_mangle)]
-pub extern "C" fn range_map_contains_key(m: &RangeMap, key: i64) -> Told
+pub fn range_map_contains_key(m: &RangeMap, key: i64) -> Told
     ensures { RangeMapContainsKey m.now key result }
 {
     map_abi::contains_key(KIND, &m.count, &m.starts, &m.ends, &m.values, key)
 }
 
 // Whether some range has a key of the query.
-#[unsafe(no_mangle)]
-pub extern "C" fn range_map_overlaps(m: &RangeMap, start: i64, end: i64) -> Told
+pub fn range_map_overlaps(m: &RangeMap, start: i64, end: i64) -> Told
     ensures { RangeMapOverlaps m.now start end result }
 {
     map_abi::overlaps(KIND, &m.count, &m.starts, &m.ends, &m.values, start, end)
 }
 
 // Which consecutive stored part meets the query.
-#[unsafe(no_mangle)]
-pub extern "C" fn range_map_overlapping(m: &RangeMap, start: i64, end: i64) -> Stretch
+pub fn range_map_overlapping(m: &RangeMap, start: i64, end: i64) -> Stretch
     ensures { RangeMapOverlapping m.now start end result }
 {
     map_abi::overlapping(KIND, &m.count, &m.starts, &m.ends, &m.values, start, end)
 }
 
 // The maximal uncovered ranges inside start..end, into the first places of two lent lists.
-#[unsafe(no_mangle)]
-pub extern "C" fn range_map_gaps(
+pub fn range_map_gaps(
     m: &RangeMap,
     start: i64,
     end: i64,
@@ -128,8 +117,7 @@ pub extern "C" fn range_map_gaps(
 }
 
 // Whether two maps hold the same ranges with the same values.
-#[unsafe(no_mangle)]
-pub extern "C" fn range_map_eq(a: &RangeMap, b: &RangeMap) -> Told
+pub fn range_map_eq(a: &RangeMap, b: &RangeMap) -> Told
     ensures { RangeMapEq a.now b.now result }
 {
     map_abi::eq(
@@ -138,8 +126,7 @@ pub extern "C" fn range_map_eq(a: &RangeMap, b: &RangeMap) -> Told
 }
 
 // Which of two maps comes first: -1, 0 or 1.
-#[unsafe(no_mangle)]
-pub extern "C" fn range_map_cmp(a: &RangeMap, b: &RangeMap) -> Order
+pub fn range_map_cmp(a: &RangeMap, b: &RangeMap) -> Order
     ensures { RangeMapCmp a.now b.now result }
 {
     map_abi::cmp(
@@ -148,8 +135,7 @@ pub extern "C" fn range_map_cmp(a: &RangeMap, b: &RangeMap) -> Order
 }
 
 // Gives the value to each instant of start..end and to no other.
-#[unsafe(no_mangle)]
-pub extern "C" fn range_map_insert(m: &mut RangeMap, start: i64, end: i64, value: Value) -> u8
+pub fn range_map_insert(m: &mut RangeMap, start: i64, end: i64, value: Value) -> u8
     ensures { RangeMapInsert m.old m.new start end value result }
 {
     map_abi::insert(
@@ -165,8 +151,7 @@ pub extern "C" fn range_map_insert(m: &mut RangeMap, start: i64, end: i64, value
 }
 
 // Uncovers exactly the instants of start..end.
-#[unsafe(no_mangle)]
-pub extern "C" fn range_map_remove(m: &mut RangeMap, start: i64, end: i64) -> u8
+pub fn range_map_remove(m: &mut RangeMap, start: i64, end: i64) -> u8
     ensures { RangeMapRemove m.old m.new start end result }
 {
     map_abi::remove(
@@ -181,16 +166,14 @@ pub extern "C" fn range_map_remove(m: &mut RangeMap, start: i64, end: i64) -> u8
 }
 
 // Leaves nothing held, whatever the map was.
-#[unsafe(no_mangle)]
-pub extern "C" fn range_map_clear(m: &mut RangeMap)
+pub fn range_map_clear(m: &mut RangeMap)
     ensures { RangeMapClear m.old m.new }
 {
     map_ops::change::clear(&mut m.count, &mut m.starts, &mut m.ends, &mut m.values)
 }
 
 // Inserts the entries of three lent lists in order, up to the first refusal.
-#[unsafe(no_mangle)]
-pub extern "C" fn range_map_extend(
+pub fn range_map_extend(
     m: &mut RangeMap,
     starts: &[i64],
     ends: &[i64],
@@ -211,16 +194,14 @@ pub extern "C" fn range_map_extend(
 }
 
 // Whether a map is well formed.
-#[unsafe(no_mangle)]
-pub extern "C" fn range_map_well_formed(m: &RangeMap) -> bool
+pub fn range_map_well_formed(m: &RangeMap) -> bool
     ensures { RangeMapWellFormed m.now result }
 {
     map_abi::well_formed(KIND, &m.count, &m.starts, &m.ends, &m.values)
 }
 
 // Lookup through the unchecked door: the map must be well formed.
-#[unsafe(no_mangle)]
-pub extern "C" fn range_map_get_key_value_unchecked(m: &RangeMap, key: i64) -> Range
+pub fn range_map_get_key_value_unchecked(m: &RangeMap, key: i64) -> Range
     requires { Sound half_open (held m.now) }
     ensures { RangeMapGetKeyValueUnchecked m.now key result }
 {
@@ -228,8 +209,7 @@ pub extern "C" fn range_map_get_key_value_unchecked(m: &RangeMap, key: i64) -> R
 }
 
 // Gaps through the unchecked door: the map must be well formed.
-#[unsafe(no_mangle)]
-pub extern "C" fn range_map_gaps_unchecked(
+pub fn range_map_gaps_unchecked(
     m: &RangeMap,
     start: i64,
     end: i64,
@@ -245,8 +225,7 @@ pub extern "C" fn range_map_gaps_unchecked(
 }
 
 // Insert through the unchecked door: the map must be well formed.
-#[unsafe(no_mangle)]
-pub extern "C" fn range_map_insert_unchecked(
+pub fn range_map_insert_unchecked(
     m: &mut RangeMap,
     start: i64,
     end: i64,
@@ -268,8 +247,7 @@ pub extern "C" fn range_map_insert_unchecked(
 }
 
 // Remove through the unchecked door: the map must be well formed.
-#[unsafe(no_mangle)]
-pub extern "C" fn range_map_remove_unchecked(m: &mut RangeMap, start: i64, end: i64) -> u8
+pub fn range_map_remove_unchecked(m: &mut RangeMap, start: i64, end: i64) -> u8
     requires { Sound half_open (held m.old) }
     ensures { RangeMapRemoveUnchecked m.old m.new start end result }
 {

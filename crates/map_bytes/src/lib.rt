@@ -7,16 +7,14 @@ use map::RangeMap;
 use outcomes::Count;
 
 // Writes the form of the map into the first places of a lent output, and tells its length.
-#[unsafe(no_mangle)]
-pub extern "C" fn range_map_write(m: &RangeMap, out: &mut [u8]) -> Count
+pub fn range_map_write(m: &RangeMap, out: &mut [u8]) -> Count
     ensures { RangeMapWrite m.now out.old out.new result }
 {
     byte_io::write::write_number(&m.count, &m.starts, &m.ends, &m.values, out)
 }
 
 // Reads the map whose form the bytes are. It overwrites the map, so it does not check it.
-#[unsafe(no_mangle)]
-pub extern "C" fn range_map_read(m: &mut RangeMap, bytes: &[u8]) -> u8
+pub fn range_map_read(m: &mut RangeMap, bytes: &[u8]) -> u8
     ensures { RangeMapRead m.old m.new bytes.now result }
 {
     byte_io::read::read(

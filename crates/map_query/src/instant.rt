@@ -35,8 +35,7 @@ fn in_numbers(
 
 // Whether one instant is in the result of a query in the window start..end. Outside the window it is not.
 // Refusals: 4 a map, 1 the window, 7 the bytes.
-#[unsafe(no_mangle)]
-pub extern "C" fn range_map_query_at(
+pub fn range_map_query_at(
     a: &RangeMap,
     b: &RangeMap,
     start: i64,

@@ -37,8 +37,7 @@ fn in_numbers(
 }
 
 // The same of one instant, of maps that must be well formed.
-#[unsafe(no_mangle)]
-pub extern "C" fn range_map_query_at_unchecked(
+pub fn range_map_query_at_unchecked(
     a: &RangeMap,
     b: &RangeMap,
     start: i64,

@@ -37,8 +37,7 @@ fn in_numbers(
 
 // The true instants of a query in the window start..end, as maximal ranges, into the first places of two lent lists, and how many there are.
 // Refusals: 4 a map, 1 the window, 7 the bytes, 3 the lists.
-#[unsafe(no_mangle)]
-pub extern "C" fn range_map_query(
+pub fn range_map_query(
     a: &RangeMap,
     b: &RangeMap,
     start: i64,

@@ -39,8 +39,7 @@ fn in_numbers(
 }
 
 // The same ranges, of maps that must be well formed.
-#[unsafe(no_mangle)]
-pub extern "C" fn range_map_query_unchecked(
+pub fn range_map_query_unchecked(
     a: &RangeMap,
     b: &RangeMap,
     start: i64,

@@ -8,8 +8,7 @@ use map::RangeMap;
 use report::DayReport;
 
 // The report of a date's day in a zone, of a map that must be well formed.
-#[unsafe(no_mangle)]
-pub extern "C" fn range_map_day_report_unchecked(
+pub fn range_map_day_report_unchecked(
     m: &RangeMap,
     zone: u8,
     year: u16,

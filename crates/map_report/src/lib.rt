@@ -10,8 +10,7 @@ use report::DayReport;
 pub mod inner;
 
 // The report of a date's day in a zone: 4, 8 or 10, or all that document 01 says.
-#[unsafe(no_mangle)]
-pub extern "C" fn range_map_day_report(
+pub fn range_map_day_report(
     m: &RangeMap,
     zone: u8,
     year: u16,

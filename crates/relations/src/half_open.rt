@@ -7,8 +7,7 @@ use crate::{
 use key::{Bounds, RangeKind};
 
 // Whether the key is in start..end.
-#[unsafe(no_mangle)]
-pub extern "C" fn range_contains(start: i64, end: i64, key: i64) -> Related
+pub fn range_contains(start: i64, end: i64, key: i64) -> Related
     ensures { RangeContains start end key result }
 {
     let range = Bounds { start, end };
@@ -16,8 +15,7 @@ pub extern "C" fn range_contains(start: i64, end: i64, key: i64) -> Related
 }
 
 // Whether a key is in both ranges.
-#[unsafe(no_mangle)]
-pub extern "C" fn range_overlaps(start: i64, end: i64, other_start: i64, other_end: i64) -> Related
+pub fn range_overlaps(start: i64, end: i64, other_start: i64, other_end: i64) -> Related
     ensures { RangeOverlaps start end other_start other_end result }
 {
     let range = Bounds { start, end };
@@ -29,8 +27,7 @@ pub extern "C" fn range_overlaps(start: i64, end: i64, other_start: i64, other_e
 }
 
 // Whether nothing lies between the two ranges; so ranges that overlap touch too.
-#[unsafe(no_mangle)]
-pub extern "C" fn range_touches(start: i64, end: i64, other_start: i64, other_end: i64) -> Related
+pub fn range_touches(start: i64, end: i64, other_start: i64, other_end: i64) -> Related
     ensures { RangeTouches start end other_start other_end result }
 {
     let range = Bounds { start, end };
@@ -42,8 +39,7 @@ pub extern "C" fn range_touches(start: i64, end: i64, other_start: i64, other_en
 }
 
 // The keys of both ranges, from the greater start to the lesser end, or 5.
-#[unsafe(no_mangle)]
-pub extern "C" fn range_intersect(
+pub fn range_intersect(
     start: i64,
     end: i64,
     other_start: i64,

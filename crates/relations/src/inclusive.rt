@@ -7,8 +7,7 @@ use crate::{
 use key::{Bounds, RangeKind};
 
 // Whether the key is in start..=end.
-#[unsafe(no_mangle)]
-pub extern "C" fn range_inclusive_contains(start: i64, end: i64, key: i64) -> Related
+pub fn range_inclusive_contains(start: i64, end: i64, key: i64) -> Related
     ensures { RangeInclusiveContains start end key result }
 {
     let range = Bounds { start, end };
@@ -16,8 +15,7 @@ pub extern "C" fn range_inclusive_contains(start: i64, end: i64, key: i64) -> Re
 }
 
 // Whether a key is in both ranges.
-#[unsafe(no_mangle)]
-pub extern "C" fn range_inclusive_overlaps(
+pub fn range_inclusive_overlaps(
     start: i64,
     end: i64,
     other_start: i64,
@@ -34,8 +32,7 @@ pub extern "C" fn range_inclusive_overlaps(
 }
 
 // Whether nothing lies between the two ranges; so ranges that overlap touch too.
-#[unsafe(no_mangle)]
-pub extern "C" fn range_inclusive_touches(
+pub fn range_inclusive_touches(
     start: i64,
     end: i64,
     other_start: i64,
@@ -52,8 +49,7 @@ pub extern "C" fn range_inclusive_touches(
 }
 
 // The keys of both ranges, from the greater start to the lesser end, or 5.
-#[unsafe(no_mangle)]
-pub extern "C" fn range_inclusive_intersect(
+pub fn range_inclusive_intersect(
     start: i64,
     end: i64,
     other_start: i64,

@@ -25,8 +25,7 @@ pub struct RangeSet {
 }
 
 // A new set, which covers nothing.
-#[unsafe(no_mangle)]
-pub extern "C" fn range_set_new() -> RangeSet
+pub fn range_set_new() -> RangeSet
     ensures { RangeSetNew result }
 {
     RangeSet {
@@ -38,80 +37,70 @@ pub extern "C" fn range_set_new() -> RangeSet
 }
 
 // Whether nothing is held.
-#[unsafe(no_mangle)]
-pub extern "C" fn range_set_is_empty(m: &RangeSet) -> Told
+pub fn range_set_is_empty(m: &RangeSet) -> Told
     ensures { RangeSetIsEmpty m.now result }
 {
     set_abi::is_empty(KIND, &m.count, &m.starts, &m.ends, &m.values)
 }
 
 // How many ranges are held.
-#[unsafe(no_mangle)]
-pub extern "C" fn range_set_len(m: &RangeSet) -> Count
+pub fn range_set_len(m: &RangeSet) -> Count
     ensures { RangeSetLen m.now result }
 {
     set_abi::len(KIND, &m.count, &m.starts, &m.ends, &m.values)
 }
 
 // The range at a place.
-#[unsafe(no_mangle)]
-pub extern "C" fn range_set_range_at(m: &RangeSet, place: usize) -> Range
+pub fn range_set_range_at(m: &RangeSet, place: usize) -> Range
     ensures { RangeSetRangeAt m.now place result }
 {
     set_abi::range_at(KIND, &m.count, &m.starts, &m.ends, &m.values, place)
 }
 
 // The first range.
-#[unsafe(no_mangle)]
-pub extern "C" fn range_set_first(m: &RangeSet) -> Range
+pub fn range_set_first(m: &RangeSet) -> Range
     ensures { RangeSetFirst m.now result }
 {
     set_abi::first(KIND, &m.count, &m.starts, &m.ends, &m.values)
 }
 
 // The last range.
-#[unsafe(no_mangle)]
-pub extern "C" fn range_set_last(m: &RangeSet) -> Range
+pub fn range_set_last(m: &RangeSet) -> Range
     ensures { RangeSetLast m.now result }
 {
     set_abi::last(KIND, &m.count, &m.starts, &m.ends, &m.values)
 }
 
 // The range that holds the key.
-#[unsafe(no_mangle)]
-pub extern "C" fn range_set_get(m: &RangeSet, key: i64) -> Range
+pub fn range_set_get(m: &RangeSet, key: i64) -> Range
     ensures { RangeSetGet m.now key result }
 {
     set_abi::get(KIND, &m.count, &m.starts, &m.ends, &m.values, key)
 }
 
 // Whether some range holds the key.
-#[unsafe(no_mangle)]
-pub extern "C" fn range_set_contains(m: &RangeSet, key: i64) -> Told
+pub fn range_set_contains(m: &RangeSet, key: i64) -> Told
     ensures { RangeSetContains m.now key result }
 {
     set_abi::contains(KIND, &m.count, &m.starts, &m.ends, &m.values, key)
 }
 
 // Whether some range has a key of the query.
-#[unsafe(no_mangle)]
-pub extern "C" fn range_set_overlaps(m: &RangeSet, start: i64, end: i64) -> Told
+pub fn range_set_overlaps(m: &RangeSet, start: i64, end: i64) -> Told
     ensures { RangeSetOverlaps m.now start end result }
 {
     set_abi::overlaps(KIND, &m.count, &m.starts, &m.ends, &m.values, start, end)
 }
 
 // Which consecutive stored part meets the query.
-#[unsafe(no_mangle)]
-pub extern "C" fn range_set_overlapping(m: &RangeSet, start: i64, end: i64) -> Stretch
+pub fn range_set_overlapping(m: &RangeSet, start: i64, end: i64) -> Stretch
     ensures { RangeSetOverlapping m.now start end result }
 {
     set_abi::overlapping(KIND, &m.count, &m.starts, &m.ends, &m.values, start, end)
 }
 
 // The maximal uncovered ranges inside start..end, into the first places of two lent lists.
-#[unsafe(no_mangle)]
-pub extern "C" fn range_set_gaps(
+pub fn range_set_gaps(
     m: &RangeSet,
     start: i64,
     end: i64,
@@ -126,8 +115,7 @@ pub extern "C" fn range_set_gaps(
 }
 
 // Whether two sets hold the same ranges.
-#[unsafe(no_mangle)]
-pub extern "C" fn range_set_eq(a: &RangeSet, b: &RangeSet) -> Told
+pub fn range_set_eq(a: &RangeSet, b: &RangeSet) -> Told
     ensures { RangeSetEq a.now b.now result }
 {
     set_abi::eq(
@@ -136,8 +124,7 @@ pub extern "C" fn range_set_eq(a: &RangeSet, b: &RangeSet) -> Told
 }
 
 // Which of two sets comes first: -1, 0 or 1.
-#[unsafe(no_mangle)]
-pub extern "C" fn range_set_cmp(a: &RangeSet, b: &RangeSet) -> Order
+pub fn range_set_cmp(a: &RangeSet, b: &RangeSet) -> Order
     ensures { RangeSetCmp a.now b.now result }
 {
     set_abi::cmp(
@@ -146,8 +133,7 @@ pub extern "C" fn range_set_cmp(a: &RangeSet, b: &RangeSet) -> Order
 }
 
 // Covers each instant of start..end, and no other.
-#[unsafe(no_mangle)]
-pub extern "C" fn range_set_insert(m: &mut RangeSet, start: i64, end: i64) -> u8
+pub fn range_set_insert(m: &mut RangeSet, start: i64, end: i64) -> u8
     ensures { RangeSetInsert m.old m.new start end result }
 {
     set_abi::insert(
@@ -162,8 +148,7 @@ pub extern "C" fn range_set_insert(m: &mut RangeSet, start: i64, end: i64) -> u8
 }
 
 // Uncovers exactly the instants of start..end.
-#[unsafe(no_mangle)]
-pub extern "C" fn range_set_remove(m: &mut RangeSet, start: i64, end: i64) -> u8
+pub fn range_set_remove(m: &mut RangeSet, start: i64, end: i64) -> u8
     ensures { RangeSetRemove m.old m.new start end result }
 {
     set_abi::remove(
@@ -178,8 +163,7 @@ pub extern "C" fn range_set_remove(m: &mut RangeSet, start: i64, end: i64) -> u8
 }
 
 // Inserts the ranges of two lent lists in order, up to the first refusal.
-#[unsafe(no_mangle)]
-pub extern "C" fn range_set_extend(m: &mut RangeSet, starts: &[i64], ends: &[i64]) -> Applied
+pub fn range_set_extend(m: &mut RangeSet, starts: &[i64], ends: &[i64]) -> Applied
     ensures { RangeSetExtend m.old m.new starts.now ends.now result }
 {
     set_ops::bulk::extend(
@@ -194,24 +178,21 @@ pub extern "C" fn range_set_extend(m: &mut RangeSet, starts: &[i64], ends: &[i64
 }
 
 // Leaves nothing covered, whatever the set was.
-#[unsafe(no_mangle)]
-pub extern "C" fn range_set_clear(m: &mut RangeSet)
+pub fn range_set_clear(m: &mut RangeSet)
     ensures { RangeSetClear m.old m.new }
 {
     map_ops::change::clear(&mut m.count, &mut m.starts, &mut m.ends, &mut m.values)
 }
 
 // Whether a map is well formed.
-#[unsafe(no_mangle)]
-pub extern "C" fn range_set_well_formed(m: &RangeSet) -> bool
+pub fn range_set_well_formed(m: &RangeSet) -> bool
     ensures { RangeSetWellFormed m.now result }
 {
     set_abi::well_formed(KIND, &m.count, &m.starts, &m.ends, &m.values)
 }
 
 // The common points of two sets as maximal ranges, into the first places of two lent lists.
-#[unsafe(no_mangle)]
-pub extern "C" fn range_set_intersection(
+pub fn range_set_intersection(
     a: &RangeSet,
     b: &RangeSet,
     out_starts: &mut [i64],
@@ -236,8 +217,7 @@ pub extern "C" fn range_set_intersection(
 }
 
 // The points of either set, into the first places of two lent lists. Ranges that only touch across the two sets stay apart.
-#[unsafe(no_mangle)]
-pub extern "C" fn range_set_union(
+pub fn range_set_union(
     a: &RangeSet,
     b: &RangeSet,
     out_starts: &mut [i64],
@@ -262,8 +242,7 @@ pub extern "C" fn range_set_union(
 }
 
 // How many keys are covered, as a u64; 9 if that is over 2^64 - 1.
-#[unsafe(no_mangle)]
-pub extern "C" fn range_set_total(m: &RangeSet) -> Total
+pub fn range_set_total(m: &RangeSet) -> Total
     ensures { RangeSetTotal m.now result }
 {
     set_abi::total(KIND, &m.count, &m.starts, &m.ends, &m.values)
