@@ -20,7 +20,6 @@ use Rattle.outcomes.specs.Stored.{Stored, ranges, Sound}
 use Rattle.outcomes.specs.Outcomes.{first_place, yes_no, lookup_sound, contains_sound, overlaps_sound, overlapping_sound}
 use Rattle.outcomes.specs.declared.Asked.TheVariants as Asked
 use Rattle.outcomes.specs.declared.Found.{Found}
-use Rattle.outcomes.specs.declared.Found.TheVariants as Found
 use Rattle.outcomes.specs.declared.Part.TheVariants as Part
 use Rattle.store.specs.InnerCheck.{span_at}
 use Rattle.store.specs.InnerSearch.{Reached, FirstPast}

@@ -15,10 +15,9 @@ loop-left-init c =
 
 pub loop-left-preserved : goal.loop-left-preserved
 loop-left-preserved c =
-    let s = c in
     let l = c.loop-left in
-    let f : SFits w64 (get_or s.args.keys.now (l.low + l.left / 2) (pos 0)) = sfits_of c.middle-1.given in
-    rw c.advance-low.ensures (halved s.requires.2 l.invariant (omega arith) c.full-goes.result (rw (to_z-of_z f) at c.full-goes.ensures))
+    let f : SFits w64 (get_or c.args.keys.now (l.low + l.left / 2) (pos 0)) = sfits_of c.middle-1.given in
+    rw c.advance-low.ensures (halved c.requires.2 l.invariant (omega arith) c.full-goes.result (rw (to_z-of_z f) at c.full-goes.ensures))
 
 pub returns : goal.returns
 returns c =

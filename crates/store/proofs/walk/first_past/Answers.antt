@@ -1,7 +1,6 @@
 use native.Mathlib.Omega.{arith}
 use borrow.Author.Count.{below_more}
 use borrow.Author.Rules.{sfits_of}
-use borrow.Author.Tests.{not-true, not-false}
 use lib.ListN.{get_or}
 use lib.IntN.{pos}
 use mir.Syntax.{w64}
@@ -15,24 +14,21 @@ loop-k-init c = (omega arith, omega arith, λ j h b. absurd (omega arith))
 
 pub returns-then-not-full : goal.returns-then-not-full
 returns-then-not-full c =
-    let s = c in
     let l = c.loop-k in
-    let f : SFits w64 (get_or s.args.starts.now l.k (pos 0)) = sfits_of c.first-1.given in
+    let f : SFits w64 (get_or c.args.starts.now l.k (pos 0)) = sfits_of c.first-1.given in
     record {
       from = omega arith;
       within = omega arith;
-      before = rw (to_z-of_z s.ranges.end) at l.invariant.2;
-      at = λ _. not_full (rw (to_z-of_z f, to_z-of_z s.ranges.end) at c.full.ensures) (not-true _ c.if-not-full.true-raw);
+      before = rw (to_z-of_z c.ranges.end) at l.invariant.2;
+      at = λ _. not_full (rw (to_z-of_z f, to_z-of_z c.ranges.end) at c.full.ensures) c.if-not-full.true;
     }
 
 pub loop-k-preserved : goal.loop-k-preserved
 loop-k-preserved c =
-    let s = c in
     let l = c.loop-k in
-    let f : SFits w64 (get_or s.args.starts.now l.k (pos 0)) = sfits_of c.first-1.given in
-    (omega arith, omega arith, below_more _ _ l.invariant.2 (λ b. (rw (to_z-of_z f) at c.full.ensures).right (not-false _ c.if-not-full.false-raw)))
+    let f : SFits w64 (get_or c.args.starts.now l.k (pos 0)) = sfits_of c.first-1.given in
+    (omega arith, omega arith, below_more _ _ l.invariant.2 (λ b. (rw (to_z-of_z f) at c.full.ensures).right c.if-not-full.false))
 
 pub returns : goal.returns
 returns c =
-    let s = c in
-    record { from = omega arith; within = omega arith; before = rw (to_z-of_z s.ranges.end) at c.loop-k.invariant.2; at = λ h. absurd (omega arith) }
+    record { from = omega arith; within = omega arith; before = rw (to_z-of_z c.ranges.end) at c.loop-k.invariant.2; at = λ h. absurd (omega arith) }
