@@ -1,15 +1,14 @@
 -- The steps of the loop that fills numbers in.
-use Prim.Native.Nat.{ℕ, zero, suc, ◌+◌, ◌*◌, ◌^◌, ◌≤◌, ◌<◌}
+use Prim.Native.Nat.{ℕ, suc, ◌+◌, ◌*◌, ◌^◌, ◌≤◌, ◌<◌}
 use native.Mathlib.Omega.{arith}
 use native.Mathlib.Numerals.{add-one}
 use mathlib.Core.Path.{◌≡◌, refl, sym, ap, ◌∙◌}
-use mathlib.Core.Bool.{cond}
 use mathlib.Core.List.{List, [], ◌∷◌, ◌++◌, append_assoc, append-nil}
 use borrow.Author.Tests.{eq-eqb, ne_eqb}
 use lib.ListN.{length, get_or, take, drop, drop_of_length-le, take-append-drop}
 use lib.Seq.{take-suc, drop-cons}
 use Rattle.text.specs.Text.{Adds}
-use Rattle.text.proofs.Laws.{adds_none, adds_then, adds_as, adds_length}
+use Rattle.text.proofs.Laws.{adds_none, adds_then, adds_as}
 use Rattle.decimal.specs.Decimal.{longest_number, decimal_text}
 use Rattle.decimal.proofs.Digits.{length_u64}
 use Rattle.filling.specs.Filling.{hole, piece_of, left_by, filled_in, filled_room, AddsWithin}

@@ -1,9 +1,9 @@
 -- Laws of texts that are put one after another, with the room that they take.
-use Prim.Native.Nat.{ℕ, suc, ◌+◌, ◌≤◌}
+use Prim.Native.Nat.{ℕ, ◌+◌, ◌≤◌}
 use native.Mathlib.Omega.{arith}
 use native.Mathlib.Numerals.{add-one}
-use mathlib.Core.Path.{◌≡◌, refl, sym, ap, ◌∙◌}
-use mathlib.Core.List.{List, [], ◌++◌}
+use mathlib.Core.Path.{◌≡◌, sym, ap, ◌∙◌}
+use mathlib.Core.List.{List, ◌++◌}
 use lib.ListN.{length, take}
 use Rattle.text.specs.Text.{Adds}
 use Rattle.text.proofs.Laws.{adds_none, adds_then, adds_as, adds_length, adds_one, text_first}
