@@ -30,12 +30,10 @@ use Rattle.store.proofs.Checked.{formed_steps}
 use Rattle.store.proofs.Seeking.{reached_after, ends_ascend}
 use Rattle.duty.specs.Duty.{is_off_duty, is_sleeper_berth, is_driving, is_on_duty, is_status, seconds_of, unrecorded_of, strange, totals_of, tally_sound}
 use Rattle.duty.specs.declared.Tallied.{Tallied}
-use Rattle.duty.specs.declared.Tallied.TheVariants as Tallied
 use Rattle.duty.specs.InnerWalk.{u32_limit, table_length, sum_over, gathered_of, gathering, tally_sum, completing, tally_of, walk_finds}
 use Rattle.duty.specs.InnerCounting.{Statuses, part, Met, EachApart, Inside, no_seconds, credited, Joined, seconds_in, TableRoom, Added}
 use Rattle.duty.specs.declared.Tally.{Tally}
 use Rattle.duty.specs.declared.Walked.{Walked}
-use Rattle.duty.specs.declared.Walked.TheVariants as Walked
 use Rattle.duty.proofs.Laws.{seconds_cons, seconds_alike, seconds_none, strange_cons, strange_alike, strange_none}
 use Rattle.duty.proofs.Laws.{within_ended, within_past, within_front}
 use Rattle.duty.proofs.ByStatus.{past_table, status_upto, sum_same, seconds_by_status}
