@@ -25,7 +25,6 @@ use Rattle.outcomes.specs.Stored.{places, Stored, spans, ranges, storing, well_f
 use Rattle.outcomes.specs.Numbers as Numbers
 use Rattle.outcomes.specs.Outcomes.{first_place, range_at_sound, lookup_sound, lookup}
 use Rattle.outcomes.specs.declared.Found.{Found}
-use Rattle.outcomes.specs.declared.Found.TheVariants as Found
 use Rattle.outcomes.proofs.Formed.{formed, shape, good, length_ranges, get_or_ranges}
 use Rattle.outcomes.proofs.Storing.{map_take, starts_back, ends_back, values_back, upto_ranges}
 use Rattle.byte_form.proofs.Entries.{sound_formed, filled_take}

@@ -25,17 +25,11 @@ use Rattle.outcomes.specs.Outcomes.{range_at_sound, lookup_sound, overlaps_sound
 use Rattle.outcomes.specs.Outcomes.{range_at, lookup, overlaps, overlapping, gaps, order, equal, edit, bulk_insert}
 use Rattle.outcomes.specs.Sets.{plain, total_is, intersection_sound, union_sound, total_sound, formed_set, intersection, union, total_of}
 use Rattle.outcomes.specs.declared.Asked.{Asked}
-use Rattle.outcomes.specs.declared.Asked.TheVariants as Asked
 use Rattle.outcomes.specs.declared.Counted.{Counted}
-use Rattle.outcomes.specs.declared.Counted.TheVariants as Counted
 use Rattle.outcomes.specs.declared.Found.{Found}
-use Rattle.outcomes.specs.declared.Found.TheVariants as Found
 use Rattle.outcomes.specs.declared.Part.{Part}
-use Rattle.outcomes.specs.declared.Part.TheVariants as Part
 use Rattle.outcomes.specs.declared.Compared.{Compared}
-use Rattle.outcomes.specs.declared.Compared.TheVariants as Compared
 use Rattle.outcomes.specs.declared.Totalled.{Totalled}
-use Rattle.outcomes.specs.declared.Totalled.TheVariants as Totalled
 use Rattle.byte_form.specs.Layout.{rm01}
 use Rattle.byte_form.specs.Form.{form_of, Output, output, map_in, is_form, read}
 use Rattle.byte_form.specs.Form as Form

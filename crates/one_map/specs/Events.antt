@@ -9,7 +9,6 @@ use Rattle.key.specs.Range.{Kind, half_open}
 use Rattle.outcomes.specs.Stored.{places, Stored, AllFit, Sound}
 use Rattle.outcomes.specs.Outcomes.{Entry, entry_change, Edited, leaving, Change, lookup, clear, insert, remove, bulk_insert, span_edits}
 use Rattle.outcomes.specs.declared.Found.{Found}
-use Rattle.outcomes.specs.declared.Found.TheVariants as Found
 use Rattle.byte_form.specs.Layout.{rm01}
 use Rattle.byte_form.specs.Bytes.{Bytes}
 use Rattle.byte_form.specs.Form.{entries_of, map_in, read}

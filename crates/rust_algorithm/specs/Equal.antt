@@ -14,7 +14,6 @@ use Rattle.outcomes.specs.Outcomes.{is_empty, count_of, range_at, first_of, last
 use Rattle.outcomes.specs.Sets.{SoundSet, intersection, union}
 use Rattle.outcomes.specs.declared.Counted.TheVariants as Counted
 use Rattle.outcomes.specs.declared.Part.{Part}
-use Rattle.outcomes.specs.declared.Part.TheVariants as Part
 use Rattle.rust_algorithm.specs.Btree.{nth}
 use Rattle.rust_algorithm.specs.Map.{map_first, map_last, map_len, map_is_empty}
 use Rattle.rust_algorithm.specs.Answers.{Functions, related_by, common_by, rust_found, rust_run}
