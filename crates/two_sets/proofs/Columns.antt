@@ -4,7 +4,7 @@ use native.Mathlib.Omega.{arith}
 use mathlib.Core.Path.{◌≡◌, refl, ◌∙◌}
 use mathlib.Core.Bool.{Bool, true, false, not}
 use mathlib.Core.List.{List, [], ◌∷◌}
-use lib.ListN.{length, get_or, take, drop, replicate}
+use lib.ListN.{length, get_or, drop, replicate}
 use lib.IntN.{ℤ, pos}
 use mir.Val.{bool_byte}
 use Rattle.span.specs.Span.{Span, span}

@@ -15,7 +15,6 @@ use Rattle.key.specs.Rank.{rank, bit_rank, lesser, greater}
 use Rattle.key.specs.Range.{kind_of}
 use Rattle.key.specs.InnerDecides.{Decides}
 use Rattle.key.specs.declared.RangeKind.{RangeKind}
-use Rattle.key.specs.declared.RangeKind.TheVariants as RangeKind
 use Rattle.key.proofs.Laws.{rank_lt, rank_ge, rank_back, rank_lesser, rank_greater, to_z_fit}
 use Rattle.key.proofs.Answers.{not_full}
 use Rattle.key.proofs.Lawful.{lawful}

@@ -1,7 +1,6 @@
 -- How far past its end a range reaches, by its kind.
 use Rattle.std.specs.Prelude.{ℕ}
 use Rattle.key.specs.declared.RangeKind.{RangeKind}
-use Rattle.key.specs.declared.RangeKind.TheVariants as RangeKind
 
 abbrev pub wide : RangeKind → ℕ
 wide RangeKind.HalfOpen = 0
