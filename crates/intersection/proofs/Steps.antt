@@ -1,13 +1,13 @@
 -- The walk, one step at a time: of the two ranges at hand the one that ends first goes, and what they have in common is found.
-use Prim.Native.Nat.{ℕ, ◌+◌, ◌-◌, ◌≤◌, ◌<◌, min, max}
+use Prim.Native.Nat.{ℕ, ◌+◌, ◌≤◌, ◌<◌, min, max}
 use native.Mathlib.Omega.{arith}
 use mathlib.Core.Path.{◌≡◌, refl, sym, ap, ◌∙◌}
 use mathlib.Core.Bool.{Bool, true, false, not, cond}
 use mathlib.Core.List.{List, [], ◌∷◌, ◌++◌}
 use borrow.Author.Tests.{ltb-true, ltb-false}
 use lib.Dec.{ltb}
-use lib.ListN.{length, get_or, set}
-use lib.IntN.{ℤ, pos}
+use lib.ListN.{length, set}
+use lib.IntN.{ℤ}
 use mir.Syntax.{w64}
 use mir.Val.{SFits, bool_byte}
 use Rattle.span.specs.Span.{Span, span, keep}
@@ -19,7 +19,7 @@ use Rattle.key.specs.declared.RangeKind.{RangeKind}
 use Rattle.key.proofs.Answers.{one_answer}
 use Rattle.key.proofs.Laws.{rank_one}
 use Rattle.two_sets.specs.InnerKind.{wide}
-use Rattle.range_list.specs.InnerColumns.{column_rows, rest}
+use Rattle.range_list.specs.InnerColumns.{column_rows}
 use Rattle.two_sets.specs.InnerSides.{Side}
 use Rattle.two_sets.proofs.Columns.{length_rows, spaced_rows, spaced_rest, rest_more, rest_none, rest_all}
 use Rattle.two_sets.specs.InnerLists.{Going}
