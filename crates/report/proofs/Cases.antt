@@ -17,7 +17,6 @@ use Rattle.calendar.specs.Calendar as Calendar
 use Rattle.log_day.specs.Days.{standard, changes_clock, daylight, offset, midnight, accepted, day_of}
 use Rattle.report.specs.Report.{day_report, reported_in_c}
 use Rattle.report.specs.declared.Reported.{Reported}
-use Rattle.report.specs.declared.Reported.TheVariants as Reported
 
 -- status 1 over 2024-11-03, Eastern, then 3 on 1730628000..1730653200
 abbrev november : Stored

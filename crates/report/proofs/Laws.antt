@@ -22,15 +22,12 @@ use Rattle.hours.proofs.Near.{hours_nearest}
 use Rattle.duty.specs.Duty.{is_off_duty, is_sleeper_berth, is_driving, is_on_duty, seconds_of, unrecorded_of, strange, totals_of, tally_sound}
 use Rattle.duty.specs.declared.Totals.{Totals}
 use Rattle.duty.specs.declared.Tallied.{Tallied}
-use Rattle.duty.specs.declared.Tallied.TheVariants as Tallied
 use Rattle.duty.proofs.Instants.{seconds_instants, unrecorded_instants}
 use Rattle.duty.proofs.Sums.{duties_sum, unrecorded_free, free_unrecorded}
 use Rattle.log_day.specs.Days.{day_of}
 use Rattle.log_day.specs.declared.Day.{Day}
-use Rattle.log_day.specs.declared.Day.TheVariants as Day
 use Rattle.report.specs.Report.{with_keys, day_report_sound, day_report}
 use Rattle.report.specs.declared.Reported.{Reported}
-use Rattle.report.specs.declared.Reported.TheVariants as Reported
 use Rattle.report.proofs.Returns.{Window, day_window}
 
 -- a report that is no refusal: the map is well formed, the day is the date's, no strange status is in it, and its seconds are counted

@@ -20,11 +20,10 @@ use Rattle.outcomes.specs.Stored.{places, Stored, ranges, storing, well_formed}
 use Rattle.outcomes.specs.Outcomes.{leaving, edit_sound, edit, formed}
 use Rattle.outcomes.proofs.Formed as Formed
 use Rattle.outcomes.proofs.Edits.{edit_accepted, edit_ranges, edit_sound_lem, edit_length}
-use Rattle.duty.specs.Duty.{strange, tally_sound}
+use Rattle.duty.specs.Duty.{tally_sound}
 use Rattle.duty.proofs.Sums.{same_totals, same_strange}
 use Rattle.log_day.specs.Days.{day_of}
 use Rattle.log_day.specs.declared.Day.{Day}
-use Rattle.log_day.specs.declared.Day.TheVariants as Day
 use Rattle.report.specs.Report.{with_keys, day_report}
 use Rattle.report.proofs.Returns.{day_window}
 

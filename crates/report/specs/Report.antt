@@ -9,12 +9,9 @@ use Rattle.hours.specs.Hours.{hours_of}
 use Rattle.duty.specs.Duty.{tally_sound}
 use Rattle.duty.specs.declared.Totals.{Totals}
 use Rattle.duty.specs.declared.Tallied.{Tallied}
-use Rattle.duty.specs.declared.Tallied.TheVariants as Tallied
 use Rattle.log_day.specs.Days.{day_of}
 use Rattle.log_day.specs.declared.Day.{Day}
-use Rattle.log_day.specs.declared.Day.TheVariants as Day
 use Rattle.report.specs.declared.Reported.{Reported}
-use Rattle.report.specs.declared.Reported.TheVariants as Reported
 use Rattle.report.specs.declared.DayReport.{DayReport}
 
 -- the seconds between two keys, with the keys
