@@ -5,7 +5,7 @@ use native.Mathlib.Numerals.{add-one}
 use mathlib.Core.Path.{◌≡◌, refl, sym, ap, ◌∙◌}
 use mathlib.Core.List.{List, [], ◌∷◌, ◌++◌, append_assoc, append-nil}
 use borrow.Author.Tests.{lt-ltb, le-ltb}
-use borrow.Rule.Slice.PartMut.{mid_of, put_mid}
+use borrow.Rule.Slice.PartMut.{mid_of, put_mid as put_back}
 use lib.ListN.{length, get_or, take, drop}
 use lib.Seq.{sets, sets-eq, length-sets, take-suc, length-take-le}
 use lib.IntN.{ℤ, pos}
@@ -51,7 +51,7 @@ module _ {layout : Layout} (law : Lawful layout) where
       → at ≡ form_size layout i → at + layout.size ≤ length l → out ≡ sets l (head_size layout) (ranges_bytes layout (take i (entries ss es vs)))
       → s ≡ get_or ss i (pos 0) → e ≡ get_or es i (pos 0) → v ≡ get_or vs i 0
       → ys ≡ sets (mid_of at (at + layout.size - at) out) 0 (layout.written (record { start = s; end = e; value = v }))
-      → put_mid at (at + layout.size - at) out ys ≡ sets l (head_size layout) (ranges_bytes layout (take (i + 1) (entries ss es vs)))
+      → put_back at (at + layout.size - at) out ys ≡ sets l (head_size layout) (ranges_bytes layout (take (i + 1) (entries ss es vs)))
   write_more ss es vs l i at {out} {ys} {s} {e} {v} h c a b o es' ee ev y =
       let xs : List Entry = take i (entries ss es vs) in
       let x : Entry = record { start = s; end = e; value = v } in

@@ -16,7 +16,7 @@ shape_of-out-then-k-numbers c = adds_length c.put_u64.ensures
 pub returns-then-k-numbers : goal.returns-then-k-numbers
 returns-then-k-numbers c =
     let a = c.args in
-    number_piece a.byte a.numbers.now a.k c.if-byte-ne123.false (omega arith) refl (omega (arith, c.shared_slice_known-then-k-numbers-1.given a.k)) c.put_u64.ensures
+    number_piece a.byte a.numbers.now a.k c.if-byte-ne123.false (omega arith) refl (omega (arith, c.type_inv.numbers a.k)) c.put_u64.ensures
 
 pub shape_of-out : goal.shape_of-out
 shape_of-out c = adds_length c.put_byte-2.ensures
