@@ -98,11 +98,7 @@ pub fn range_inclusive_map_overlaps(m: &RangeInclusiveMap, start: i64, end: i64)
 }
 
 // Which consecutive stored part meets the query.
-pub fn range_inclusive_map_overlapping(
-    m: &RangeInclusiveMap,
-    start: i64,
-    end: i64,
-) -> Stretch
+pub fn range_inclusive_map_overlapping(m: &RangeInclusiveMap, start: i64, end: i64) -> Stretch
     ensures { RangeInclusiveMapOverlapping m.now start end result }
 {
     map_abi::overlapping(KIND, &m.count, &m.starts, &m.ends, &m.values, start, end)
@@ -213,10 +209,7 @@ pub fn range_inclusive_map_well_formed(m: &RangeInclusiveMap) -> bool
 }
 
 // Lookup through the unchecked door: the map must be well formed.
-pub fn range_inclusive_map_get_key_value_unchecked(
-    m: &RangeInclusiveMap,
-    key: i64,
-) -> Range
+pub fn range_inclusive_map_get_key_value_unchecked(m: &RangeInclusiveMap, key: i64) -> Range
     requires { Sound inclusive (held m.now) }
     ensures { RangeInclusiveMapGetKeyValueUnchecked m.now key result }
 {
@@ -262,11 +255,7 @@ pub fn range_inclusive_map_insert_unchecked(
 }
 
 // Remove through the unchecked door: the map must be well formed.
-pub fn range_inclusive_map_remove_unchecked(
-    m: &mut RangeInclusiveMap,
-    start: i64,
-    end: i64,
-) -> u8
+pub fn range_inclusive_map_remove_unchecked(m: &mut RangeInclusiveMap, start: i64, end: i64) -> u8
     requires { Sound inclusive (held m.old) }
     ensures { RangeInclusiveMapRemoveUnchecked m.old m.new start end result }
 {

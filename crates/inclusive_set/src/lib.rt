@@ -95,11 +95,7 @@ pub fn range_inclusive_set_overlaps(m: &RangeInclusiveSet, start: i64, end: i64)
 }
 
 // Which consecutive stored part meets the query.
-pub fn range_inclusive_set_overlapping(
-    m: &RangeInclusiveSet,
-    start: i64,
-    end: i64,
-) -> Stretch
+pub fn range_inclusive_set_overlapping(m: &RangeInclusiveSet, start: i64, end: i64) -> Stretch
     ensures { RangeInclusiveSetOverlapping m.now start end result }
 {
     set_abi::overlapping(KIND, &m.count, &m.starts, &m.ends, &m.values, start, end)

@@ -173,12 +173,7 @@ pub fn range_map_clear(m: &mut RangeMap)
 }
 
 // Inserts the entries of three lent lists in order, up to the first refusal.
-pub fn range_map_extend(
-    m: &mut RangeMap,
-    starts: &[i64],
-    ends: &[i64],
-    values: &[Value],
-) -> Applied
+pub fn range_map_extend(m: &mut RangeMap, starts: &[i64], ends: &[i64], values: &[Value]) -> Applied
     ensures { RangeMapExtend m.old m.new starts.now ends.now values.now result }
 {
     map_ops::change::bulk::extend(
@@ -225,12 +220,7 @@ pub fn range_map_gaps_unchecked(
 }
 
 // Insert through the unchecked door: the map must be well formed.
-pub fn range_map_insert_unchecked(
-    m: &mut RangeMap,
-    start: i64,
-    end: i64,
-    value: Value,
-) -> u8
+pub fn range_map_insert_unchecked(m: &mut RangeMap, start: i64, end: i64, value: Value) -> u8
     requires { Sound half_open (held m.old) }
     ensures { RangeMapInsertUnchecked m.old m.new start end value result }
 {

@@ -10,13 +10,7 @@ use report::DayReport;
 pub mod inner;
 
 // The report of a date's day in a zone: 4, 8 or 10, or all that document 01 says.
-pub fn range_map_day_report(
-    m: &RangeMap,
-    zone: u8,
-    year: u16,
-    month: u8,
-    day: u8,
-) -> DayReport
+pub fn range_map_day_report(m: &RangeMap, zone: u8, year: u16, month: u8, day: u8) -> DayReport
     ensures { RangeMapDayReport m.now zone year month day result }
 {
     report::day_report(

@@ -39,12 +39,7 @@ pub fn range_touches(start: i64, end: i64, other_start: i64, other_end: i64) -> 
 }
 
 // The keys of both ranges, from the greater start to the lesser end, or 5.
-pub fn range_intersect(
-    start: i64,
-    end: i64,
-    other_start: i64,
-    other_end: i64,
-) -> Intersected
+pub fn range_intersect(start: i64, end: i64, other_start: i64, other_end: i64) -> Intersected
     ensures { RangeIntersect start end other_start other_end result }
 {
     let range = Bounds { start, end };

@@ -15,12 +15,7 @@ pub fn range_inclusive_contains(start: i64, end: i64, key: i64) -> Related
 }
 
 // Whether a key is in both ranges.
-pub fn range_inclusive_overlaps(
-    start: i64,
-    end: i64,
-    other_start: i64,
-    other_end: i64,
-) -> Related
+pub fn range_inclusive_overlaps(start: i64, end: i64, other_start: i64, other_end: i64) -> Related
     ensures { RangeInclusiveOverlaps start end other_start other_end result }
 {
     let range = Bounds { start, end };
@@ -32,12 +27,7 @@ pub fn range_inclusive_overlaps(
 }
 
 // Whether nothing lies between the two ranges; so ranges that overlap touch too.
-pub fn range_inclusive_touches(
-    start: i64,
-    end: i64,
-    other_start: i64,
-    other_end: i64,
-) -> Related
+pub fn range_inclusive_touches(start: i64, end: i64, other_start: i64, other_end: i64) -> Related
     ensures { RangeInclusiveTouches start end other_start other_end result }
 {
     let range = Bounds { start, end };
