@@ -18,10 +18,7 @@ use Rattle.key.proofs.Lawful.{half_open_lawful}
 use Rattle.outcomes.specs.Stored.{Stored, ranges}
 use Rattle.outcomes.specs.Outcomes.{not_written, Written, into_lists, yes_no}
 use Rattle.outcomes.specs.declared.Asked.{Asked}
-use Rattle.outcomes.specs.declared.Asked.TheVariants as Asked
 use Rattle.outcomes.specs.declared.Counted.{Counted}
-use Rattle.outcomes.specs.declared.Counted.TheVariants as Counted
-use Rattle.outcomes.specs.declared.Count.{Count}
 use Rattle.outcomes.proofs.Sets.{covers}
 use Rattle.range_list.specs.InnerColumns.{column_rows}
 use Rattle.query_text.specs.Grammar.{Query, Is}

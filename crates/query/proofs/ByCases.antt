@@ -15,7 +15,6 @@ use Rattle.key.specs.Range.{half_open}
 use Rattle.outcomes.specs.Stored.{places, Stored, ranges}
 use Rattle.outcomes.specs.Outcomes.{not_written, Written, into_lists, formed, yes_no}
 use Rattle.outcomes.specs.declared.Asked.{Asked}
-use Rattle.outcomes.specs.declared.Asked.TheVariants as Asked
 use Rattle.outcomes.proofs.Formed as formed
 use Rattle.query_text.specs.Grammar.{Query, Is}
 use Rattle.query_text.specs.Reader.{Read, got, bad, query_of}

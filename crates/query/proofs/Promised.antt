@@ -17,7 +17,6 @@ use Rattle.outcomes.specs.Numbers.{asked_in_c, counted_in_c}
 use Rattle.outcomes.specs.Outcomes.{Written, Listed, into_lists, yes_no}
 use Rattle.outcomes.specs.declared.Asked.{Asked}
 use Rattle.outcomes.specs.declared.Counted.{Counted}
-use Rattle.outcomes.specs.declared.Counted.TheVariants as Counted
 use Rattle.outcomes.specs.declared.Count.{Count}
 use Rattle.outcomes.specs.declared.Told.{Told}
 use Rattle.outcomes.proofs.Sets.{covers}

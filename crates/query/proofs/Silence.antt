@@ -1,5 +1,5 @@
 -- Rows of a table that say no: their bits are 0.
-use Prim.Native.Nat.{ℕ, suc, ◌+◌, ◌-◌, ◌*◌, ◌/◌, ◌%◌, ◌^◌, ◌≤◌, ◌<◌}
+use Prim.Native.Nat.{ℕ, suc, ◌+◌, ◌-◌, ◌*◌, ◌/◌, ◌%◌, ◌^◌, ◌<◌}
 use native.Mathlib.Omega.{arith}
 use native.Mathlib.Nat.{mul_assoc, mul-div_cancel, div-add-mod', div-div-eq-div-mul}
 use native.Mathlib.Decide.{dec_lt}

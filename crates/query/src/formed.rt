@@ -20,10 +20,10 @@ pub fn are_formed(
     ends_b: &[i64; PLACES],
     values_b: &[Value; PLACES],
 ) -> bool
-    ensures value { result ≡ (formed half_open (columns count_a starts_a ends_a values_a)
-        && formed half_open (columns count_b starts_b ends_b values_b)) }
-    ensures sound { result ≡ true → Sound half_open (columns count_a starts_a ends_a values_a)
-        × Sound half_open (columns count_b starts_b ends_b values_b) }
+    ensures value { result ≡ (formed half_open (columns count_a starts_a.now ends_a.now values_a.now)
+        && formed half_open (columns count_b starts_b.now ends_b.now values_b.now)) }
+    ensures sound { result ≡ true → Sound half_open (columns count_a starts_a.now ends_a.now values_a.now)
+        × Sound half_open (columns count_b starts_b.now ends_b.now values_b.now) }
 {
     if !well_formed(RangeKind::HalfOpen, count_a, starts_a, ends_a, values_a) {
         return false;

@@ -30,10 +30,10 @@ fn by_table(
     key: i64,
     end: i64,
 ) -> Asked
-    requires { Sound half_open (columns count_a starts_a ends_a values_a) × Sound half_open (columns count_b starts_b ends_b values_b)
+    requires { Sound half_open (columns count_a starts_a.now ends_a.now values_a.now) × Sound half_open (columns count_b starts_b.now ends_b.now values_b.now)
         × (rank key < rank end) }
-    ensures { result ≡ yes_no (says_at t (spans_of count_a starts_a ends_a values_a)
-        (spans_of count_b starts_b ends_b values_b) (rank key)) }
+    ensures { result ≡ yes_no (says_at t (spans_of count_a starts_a.now ends_a.now values_a.now)
+        (spans_of count_b starts_b.now ends_b.now values_b.now) (rank key)) }
 {
     let w = walk_at(key);
     let c = cell_at(
@@ -60,9 +60,9 @@ pub fn query_at_unchecked(
     bytes: &[u8],
     key: i64,
 ) -> Asked
-    requires { Sound half_open (columns count_a starts_a ends_a values_a) × Sound half_open (columns count_b starts_b ends_b values_b) }
-    ensures { result ≡ query_at_sound (columns count_a starts_a ends_a values_a)
-        (columns count_b starts_b ends_b values_b)
+    requires { Sound half_open (columns count_a starts_a.now ends_a.now values_a.now) × Sound half_open (columns count_b starts_b.now ends_b.now values_b.now) }
+    ensures { result ≡ query_at_sound (columns count_a starts_a.now ends_a.now values_a.now)
+        (columns count_b starts_b.now ends_b.now values_b.now)
         start end bytes.now key }
 {
     if start >= end {

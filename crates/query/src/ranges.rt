@@ -34,11 +34,11 @@ fn by_table(
     out_starts: &mut [i64],
     out_ends: &mut [i64],
 ) -> Counted
-    requires { Sound half_open (columns count_a starts_a ends_a values_a) × Sound half_open (columns count_b starts_b ends_b values_b)
-        × (rank start < rank end) × Bounded t (columns count_a starts_a ends_a values_a)
-        (columns count_b starts_b ends_b values_b) start end }
-    ensures { WritesAll t (columns count_a starts_a ends_a values_a)
-        (columns count_b starts_b ends_b values_b)
+    requires { Sound half_open (columns count_a starts_a.now ends_a.now values_a.now) × Sound half_open (columns count_b starts_b.now ends_b.now values_b.now)
+        × (rank start < rank end) × Bounded t (columns count_a starts_a.now ends_a.now values_a.now)
+        (columns count_b starts_b.now ends_b.now values_b.now) start end }
+    ensures { WritesAll t (columns count_a starts_a.now ends_a.now values_a.now)
+        (columns count_b starts_b.now ends_b.now values_b.now)
         start end out_starts.old out_ends.old (wrote result out_starts.new out_ends.new) }
 {
     let w = walk_at(start);
@@ -70,10 +70,10 @@ pub fn query_unchecked(
     out_starts: &mut [i64],
     out_ends: &mut [i64],
 ) -> Counted
-    requires { Sound half_open (columns count_a starts_a ends_a values_a) × Sound half_open (columns count_b starts_b ends_b values_b) }
+    requires { Sound half_open (columns count_a starts_a.now ends_a.now values_a.now) × Sound half_open (columns count_b starts_b.now ends_b.now values_b.now) }
     ensures { wrote result out_starts.new out_ends.new
-        ≡ query_ranges_sound (columns count_a starts_a ends_a values_a)
-        (columns count_b starts_b ends_b values_b)
+        ≡ query_ranges_sound (columns count_a starts_a.now ends_a.now values_a.now)
+        (columns count_b starts_b.now ends_b.now values_b.now)
         start end bytes.now out_starts.old out_ends.old }
 {
     if start >= end {

@@ -34,8 +34,8 @@ fn caught_up(
     place: usize,
     key: i64,
 ) -> usize
-    requires { Sound half_open (columns count starts ends values) × Trails (spans_of count starts ends values) place (rank key) }
-    ensures { Standing (spans_of count starts ends values) result (rank key) }
+    requires { Sound half_open (columns count starts.now ends.now values.now) × Trails (spans_of count starts.now ends.now values.now) place (rank key) }
+    ensures { Standing (spans_of count starts.now ends.now values.now) result (rank key) }
 {
     let mut here = place;
     while here < count {
@@ -57,9 +57,9 @@ fn seen_at(
     key: i64,
     end: i64,
 ) -> Seen
-    requires { Sound half_open (columns count starts ends values)
-        × Standing (spans_of count starts ends values) place (rank key) × (rank key < rank end) }
-    ensures { Sees (spans_of count starts ends values) (rank key) (rank end) (rank result.until) result.class result.place }
+    requires { Sound half_open (columns count starts.now ends.now values.now)
+        × Standing (spans_of count starts.now ends.now values.now) place (rank key) × (rank key < rank end) }
+    ensures { Sees (spans_of count starts.now ends.now values.now) (rank key) (rank end) (rank result.until) result.class result.place }
 {
     if place >= count {
         return Seen {
@@ -93,9 +93,9 @@ pub fn look(
     key: i64,
     end: i64,
 ) -> Seen
-    requires { Sound half_open (columns count starts ends values)
-        × Trails (spans_of count starts ends values) place (rank key) × (rank key < rank end) }
-    ensures { Sees (spans_of count starts ends values) (rank key) (rank end) (rank result.until) result.class result.place }
+    requires { Sound half_open (columns count starts.now ends.now values.now)
+        × Trails (spans_of count starts.now ends.now values.now) place (rank key) × (rank key < rank end) }
+    ensures { Sees (spans_of count starts.now ends.now values.now) (rank key) (rank end) (rank result.until) result.class result.place }
 {
     let here = caught_up(count, starts, ends, values, place, key);
     seen_at(count, starts, ends, values, here, key, end)

@@ -71,12 +71,12 @@ pub fn cell_at(
     w: Walk,
     end: i64,
 ) -> Cell
-    requires { Sound half_open (columns count_a starts_a ends_a values_a)
-        × Sound half_open (columns count_b starts_b ends_b values_b)
-        × Stands (spans_of count_a starts_a ends_a values_a)
-        (spans_of count_b starts_b ends_b values_b) w × (rank w.key < rank end) }
-    ensures { Cells t (spans_of count_a starts_a ends_a values_a)
-        (spans_of count_b starts_b ends_b values_b) (rank w.key) (rank end) result }
+    requires { Sound half_open (columns count_a starts_a.now ends_a.now values_a.now)
+        × Sound half_open (columns count_b starts_b.now ends_b.now values_b.now)
+        × Stands (spans_of count_a starts_a.now ends_a.now values_a.now)
+        (spans_of count_b starts_b.now ends_b.now values_b.now) w × (rank w.key < rank end) }
+    ensures { Cells t (spans_of count_a starts_a.now ends_a.now values_a.now)
+        (spans_of count_b starts_b.now ends_b.now values_b.now) (rank w.key) (rank end) result }
 {
     let x = look(count_a, starts_a, ends_a, values_a, w.a, w.key, end);
     let y = look(count_b, starts_b, ends_b, values_b, w.b, w.key, end);
@@ -107,12 +107,12 @@ pub fn quick_cell(
     w: Walk,
     end: i64,
 ) -> Cell
-    requires { Sound half_open (columns count_a starts_a ends_a values_a)
-        × Sound half_open (columns count_b starts_b ends_b values_b)
-        × Stands (spans_of count_a starts_a ends_a values_a)
-        (spans_of count_b starts_b ends_b values_b) w × (rank w.key < rank end) }
-    ensures { Cells t (spans_of count_a starts_a ends_a values_a)
-        (spans_of count_b starts_b ends_b values_b) (rank w.key) (rank end) result }
+    requires { Sound half_open (columns count_a starts_a.now ends_a.now values_a.now)
+        × Sound half_open (columns count_b starts_b.now ends_b.now values_b.now)
+        × Stands (spans_of count_a starts_a.now ends_a.now values_a.now)
+        (spans_of count_b starts_b.now ends_b.now values_b.now) w × (rank w.key < rank end) }
+    ensures { Cells t (spans_of count_a starts_a.now ends_a.now values_a.now)
+        (spans_of count_b starts_b.now ends_b.now values_b.now) (rank w.key) (rank end) result }
 {
     let x = look(count_a, starts_a, ends_a, values_a, w.a, w.key, end);
     if is_silent(t, x.class) {
@@ -151,12 +151,12 @@ pub fn edge(
     end: i64,
     so: bool,
 ) -> Walk
-    requires { Sound half_open (columns count_a starts_a ends_a values_a)
-        × Sound half_open (columns count_b starts_b ends_b values_b)
-        × Stands (spans_of count_a starts_a ends_a values_a)
-        (spans_of count_b starts_b ends_b values_b) w × (rank w.key ≤ rank end) }
-    ensures { Edges t (spans_of count_a starts_a ends_a values_a)
-        (spans_of count_b starts_b ends_b values_b) (rank w.key) (rank end) so result }
+    requires { Sound half_open (columns count_a starts_a.now ends_a.now values_a.now)
+        × Sound half_open (columns count_b starts_b.now ends_b.now values_b.now)
+        × Stands (spans_of count_a starts_a.now ends_a.now values_a.now)
+        (spans_of count_b starts_b.now ends_b.now values_b.now) w × (rank w.key ≤ rank end) }
+    ensures { Edges t (spans_of count_a starts_a.now ends_a.now values_a.now)
+        (spans_of count_b starts_b.now ends_b.now values_b.now) (rank w.key) (rank end) so result }
 {
     let mut here = w;
     while here.key < end {

@@ -27,12 +27,12 @@ fn count(
     w: Walk,
     end: i64,
 ) -> usize
-    requires { Sound half_open (columns count_a starts_a ends_a values_a)
-        × Sound half_open (columns count_b starts_b ends_b values_b)
-        × Stands (spans_of count_a starts_a ends_a values_a)
-        (spans_of count_b starts_b ends_b values_b) w × (rank w.key ≤ rank end) }
-    ensures { Counts t (spans_of count_a starts_a ends_a values_a)
-        (spans_of count_b starts_b ends_b values_b) (rank w.key) (rank end) result }
+    requires { Sound half_open (columns count_a starts_a.now ends_a.now values_a.now)
+        × Sound half_open (columns count_b starts_b.now ends_b.now values_b.now)
+        × Stands (spans_of count_a starts_a.now ends_a.now values_a.now)
+        (spans_of count_b starts_b.now ends_b.now values_b.now) w × (rank w.key ≤ rank end) }
+    ensures { Counts t (spans_of count_a starts_a.now ends_a.now values_a.now)
+        (spans_of count_b starts_b.now ends_b.now values_b.now) (rank w.key) (rank end) result }
 {
     let mut n = 0;
     let mut s = edge(
@@ -67,13 +67,13 @@ pub fn fits(
     end: i64,
     room: usize,
 ) -> bool
-    requires { Sound half_open (columns count_a starts_a ends_a values_a)
-        × Sound half_open (columns count_b starts_b ends_b values_b)
-        × Stands (spans_of count_a starts_a ends_a values_a)
-        (spans_of count_b starts_b ends_b values_b) w × (rank w.key ≤ rank end)
-        × Bounded t (columns count_a starts_a ends_a values_a) (columns count_b starts_b ends_b values_b) w.key end }
-    ensures { Measures t (spans_of count_a starts_a ends_a values_a)
-        (spans_of count_b starts_b ends_b values_b) (rank w.key) (rank end) room result }
+    requires { Sound half_open (columns count_a starts_a.now ends_a.now values_a.now)
+        × Sound half_open (columns count_b starts_b.now ends_b.now values_b.now)
+        × Stands (spans_of count_a starts_a.now ends_a.now values_a.now)
+        (spans_of count_b starts_b.now ends_b.now values_b.now) w × (rank w.key ≤ rank end)
+        × Bounded t (columns count_a starts_a.now ends_a.now values_a.now) (columns count_b starts_b.now ends_b.now values_b.now) w.key end }
+    ensures { Measures t (spans_of count_a starts_a.now ends_a.now values_a.now)
+        (spans_of count_b starts_b.now ends_b.now values_b.now) (rank w.key) (rank end) room result }
 {
     if roomy(count_a + 1, count_b, room) {
         return true;
@@ -125,14 +125,14 @@ pub fn write(
     out_starts: &mut [i64],
     out_ends: &mut [i64],
 ) -> usize
-    requires { Sound half_open (columns count_a starts_a ends_a values_a)
-        × Sound half_open (columns count_b starts_b ends_b values_b)
-        × Stands (spans_of count_a starts_a ends_a values_a)
-        (spans_of count_b starts_b ends_b values_b) w × (rank w.key ≤ rank end)
-        × HasRoom t (spans_of count_a starts_a ends_a values_a)
-        (spans_of count_b starts_b ends_b values_b) (rank w.key) (rank end) 0 out_starts.old out_ends.old }
-    ensures { Writes t (spans_of count_a starts_a ends_a values_a)
-        (spans_of count_b starts_b ends_b values_b)
+    requires { Sound half_open (columns count_a starts_a.now ends_a.now values_a.now)
+        × Sound half_open (columns count_b starts_b.now ends_b.now values_b.now)
+        × Stands (spans_of count_a starts_a.now ends_a.now values_a.now)
+        (spans_of count_b starts_b.now ends_b.now values_b.now) w × (rank w.key ≤ rank end)
+        × HasRoom t (spans_of count_a starts_a.now ends_a.now values_a.now)
+        (spans_of count_b starts_b.now ends_b.now values_b.now) (rank w.key) (rank end) 0 out_starts.old out_ends.old }
+    ensures { Writes t (spans_of count_a starts_a.now ends_a.now values_a.now)
+        (spans_of count_b starts_b.now ends_b.now values_b.now)
         (rank w.key) (rank end) 0 out_starts.old out_ends.old result out_starts.new out_ends.new }
 {
     let mut n = 0;

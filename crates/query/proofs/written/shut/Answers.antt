@@ -1,0 +1,41 @@
+use Prim.Native.Nat.{ℕ}
+use native.Mathlib.Omega.{arith}
+use mathlib.Core.Path.{◌≡◌, refl}
+use mir.Val.{of_z}
+use mir.Syntax.{w64}
+use Rattle.key.proofs.Laws.{tests}
+use Rattle.range_list.proofs.Answering.{put_start}
+use Rattle.query.proofs.written.shut.Goals as goal
+
+pub returns-then-key-start : goal.returns-then-key-start
+returns-then-key-start c = record {
+  goes_on = λ e. (refl, refl, refl);
+  none_is = λ h. (refl, refl, refl);
+  ends = λ e h. absurd (omega (arith, tests));
+}
+
+pub returns-then-on : goal.returns-then-on
+returns-then-on c = record {
+  goes_on = λ e. (refl, refl, refl);
+  none_is = λ h. (refl, refl, refl);
+  ends = λ e h. let y = c.if-on.true in let z : ◌≡◌ {A = ℕ} 0 1 = cc in absurd (omega arith);
+}
+
+pub put-requires : goal.put-requires
+put-requires c = c.requires c.if-on.false (omega (arith, tests, c.if-key-start.false))
+
+pub overflow_add-result : goal.overflow_add-result
+overflow_add-result c =
+    omega (arith, c.requires c.if-on.false (omega (arith, tests, c.if-key-start.false)), c.well_formed)
+
+pub returns : goal.returns
+returns c =
+    record {
+      goes_on = λ e. let y = c.if-on.false in let z : ◌≡◌ {A = ℕ} 0 1 = cc in absurd (omega arith);
+      none_is = λ h. absurd (omega (arith, tests, c.if-key-start.false));
+      ends = λ e h. (
+        refl,
+        put_start c.args.out_starts.now c.args.n (of_z w64 c.args.start) c.put.ensures.0,
+        put_start c.args.out_ends.now c.args.n (of_z w64 c.args.key) c.put.ensures.1,
+      );
+    }
