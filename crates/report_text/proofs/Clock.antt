@@ -5,7 +5,6 @@ use mathlib.Core.Path.{◌≡◌, sym, ap, ◌∙◌}
 use mathlib.Core.List.{List, ◌++◌}
 use lib.ListN.{length, take, drop, length-append}
 use lib.Seq.{take_at, drop_at}
-use Rattle.decimal.specs.Decimal.{digits_text, decimal_text}
 use Rattle.decimal.proofs.Digits.{one_digits}
 use Rattle.decimal.proofs.Reading.{one_text}
 use Rattle.report_text.specs.Times.{pair_text, clock_text}
