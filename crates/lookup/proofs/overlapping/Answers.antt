@@ -14,41 +14,33 @@ use Rattle.lookup.proofs.overlapping.Goals as goal
 
 pub returns-then-not-full : goal.returns-then-not-full
 returns-then-not-full c =
-    let query : let a = c.args in Decides c.full.result (rank a.start < (kind_of a.kind).past a.end) =
-    let s = c in rw (to_z-of_z s.ranges.start, to_z-of_z s.ranges.end) at c.full.ensures in
-    let s = c in part_empty s.requires s.args.start s.args.end (not_full query c.if-not-full.true)
+    let a = c.args in
+    let query : Decides c.full.result (rank a.start < (kind_of a.kind).past a.end) = rw (to_z-of_z c.ranges.start, to_z-of_z c.ranges.end) at c.full.ensures in
+    part_empty c.requires c.args.start c.args.end (not_full query c.if-not-full.true)
 
 pub reaching-first-requires : goal.reaching-first-requires
 reaching-first-requires c = searched c.requires (lawful c.args.kind)
 
 pub first_past-next-requires : goal.first_past-next-requires
 first_past-next-requires c =
-    let reach : let a = c.args in Reached (kind_of a.kind) a.count a.ends.now a.start c.reaching-first.result =
-    rw (to_z-of_z c.ranges.start) at c.reaching-first.ensures in
+    let a = c.args in
+    let reach : Reached (kind_of a.kind) a.count a.ends.now a.start c.reaching-first.result = rw (to_z-of_z c.ranges.start) at c.reaching-first.ensures in
     omega (arith, reach.within, (good c.requires).held)
 
 pub returns-then-next-first : goal.returns-then-next-first
 returns-then-next-first c =
-    let query : let a = c.args in Decides c.full.result (rank a.start < (kind_of a.kind).past a.end) =
-    let s = c in rw (to_z-of_z s.ranges.start, to_z-of_z s.ranges.end) at c.full.ensures in
-    let real : let a = c.args in rank a.start < (kind_of a.kind).past a.end =
-    query.right c.if-not-full.false in
-    let reach : let a = c.args in Reached (kind_of a.kind) a.count a.ends.now a.start c.reaching-first.result =
-    rw (to_z-of_z c.ranges.start) at c.reaching-first.ensures in
-    let walked : let a = c.args in FirstPast (kind_of a.kind) a.count a.starts.now c.reaching-first.result a.end c.first_past-next.result =
-    rw (to_z-of_z c.ranges.end) at c.first_past-next.ensures in
-    let s = c in
-    part_none s.requires s.args.start s.args.end real reach walked (omega arith)
+    let a = c.args in
+    let query : Decides c.full.result (rank a.start < (kind_of a.kind).past a.end) = rw (to_z-of_z c.ranges.start, to_z-of_z c.ranges.end) at c.full.ensures in
+    let real : rank a.start < (kind_of a.kind).past a.end = query.right c.if-not-full.false in
+    let reach : Reached (kind_of a.kind) a.count a.ends.now a.start c.reaching-first.result = rw (to_z-of_z c.ranges.start) at c.reaching-first.ensures in
+    let walked : FirstPast (kind_of a.kind) a.count a.starts.now c.reaching-first.result a.end c.first_past-next.result = rw (to_z-of_z c.ranges.end) at c.first_past-next.ensures in
+    part_none c.requires c.args.start c.args.end real reach walked (omega arith)
 
 pub returns : goal.returns
 returns c =
-    let query : let a = c.args in Decides c.full.result (rank a.start < (kind_of a.kind).past a.end) =
-    let s = c in rw (to_z-of_z s.ranges.start, to_z-of_z s.ranges.end) at c.full.ensures in
-    let real : let a = c.args in rank a.start < (kind_of a.kind).past a.end =
-    query.right c.if-not-full.false in
-    let reach : let a = c.args in Reached (kind_of a.kind) a.count a.ends.now a.start c.reaching-first.result =
-    rw (to_z-of_z c.ranges.start) at c.reaching-first.ensures in
-    let walked : let a = c.args in FirstPast (kind_of a.kind) a.count a.starts.now c.reaching-first.result a.end c.first_past-next.result =
-    rw (to_z-of_z c.ranges.end) at c.first_past-next.ensures in
-    let s = c in
-    part_some s.requires s.args.start s.args.end real reach walked (omega arith)
+    let a = c.args in
+    let query : Decides c.full.result (rank a.start < (kind_of a.kind).past a.end) = rw (to_z-of_z c.ranges.start, to_z-of_z c.ranges.end) at c.full.ensures in
+    let real : rank a.start < (kind_of a.kind).past a.end = query.right c.if-not-full.false in
+    let reach : Reached (kind_of a.kind) a.count a.ends.now a.start c.reaching-first.result = rw (to_z-of_z c.ranges.start) at c.reaching-first.ensures in
+    let walked : FirstPast (kind_of a.kind) a.count a.starts.now c.reaching-first.result a.end c.first_past-next.result = rw (to_z-of_z c.ranges.end) at c.first_past-next.ensures in
+    part_some c.requires c.args.start c.args.end real reach walked (omega arith)

@@ -19,23 +19,20 @@ use Rattle.lookup.proofs.overlaps.Goals as goal
 
 pub returns-then-not-full : goal.returns-then-not-full
 returns-then-not-full c =
-    let query : let a = c.args in Decides c.full.result (rank a.start < (kind_of a.kind).past a.end) =
-    let s = c in rw (to_z-of_z s.ranges.start, to_z-of_z s.ranges.end) at c.full.ensures in
-    let s = c in met_empty s.requires s.args.start s.args.end (not_full query c.if-not-full.true)
+    let a = c.args in
+    let query : Decides c.full.result (rank a.start < (kind_of a.kind).past a.end) = rw (to_z-of_z c.ranges.start, to_z-of_z c.ranges.end) at c.full.ensures in
+    met_empty c.requires c.args.start c.args.end (not_full query c.if-not-full.true)
 
 pub reaching-place-requires : goal.reaching-place-requires
 reaching-place-requires c = searched c.requires (lawful c.args.kind)
 
 pub returns-then-count-place : goal.returns-then-count-place
 returns-then-count-place c =
-    let query : let a = c.args in Decides c.full.result (rank a.start < (kind_of a.kind).past a.end) =
-    let s = c in rw (to_z-of_z s.ranges.start, to_z-of_z s.ranges.end) at c.full.ensures in
-    let real : let a = c.args in rank a.start < (kind_of a.kind).past a.end =
-    query.right c.if-not-full.false in
-    let reach : let a = c.args in Reached (kind_of a.kind) a.count a.ends.now a.start c.reaching-place.result =
-    rw (to_z-of_z c.ranges.start) at c.reaching-place.ensures in
-    let s = c in
-    met_no s.requires s.args.start s.args.end real reach (λ i. absurd (omega arith))
+    let a = c.args in
+    let query : Decides c.full.result (rank a.start < (kind_of a.kind).past a.end) = rw (to_z-of_z c.ranges.start, to_z-of_z c.ranges.end) at c.full.ensures in
+    let real : rank a.start < (kind_of a.kind).past a.end = query.right c.if-not-full.false in
+    let reach : Reached (kind_of a.kind) a.count a.ends.now a.start c.reaching-place.result = rw (to_z-of_z c.ranges.start) at c.reaching-place.ensures in
+    met_no c.requires c.args.start c.args.end real reach (λ i. absurd (omega arith))
 
 pub offset_bounds-starts-place : goal.offset_bounds-starts-place
 offset_bounds-starts-place c = omega (arith, (good c.requires).held)
@@ -45,30 +42,20 @@ bounds-starts-place c = omega (arith, (good c.requires).held)
 
 pub returns-then-not-full-2 : goal.returns-then-not-full-2
 returns-then-not-full-2 c =
-    let query : let a = c.args in Decides c.full.result (rank a.start < (kind_of a.kind).past a.end) =
-    let s = c in rw (to_z-of_z s.ranges.start, to_z-of_z s.ranges.end) at c.full.ensures in
-    let real : let a = c.args in rank a.start < (kind_of a.kind).past a.end =
-    query.right c.if-not-full.false in
-    let reach : let a = c.args in Reached (kind_of a.kind) a.count a.ends.now a.start c.reaching-place.result =
-    rw (to_z-of_z c.ranges.start) at c.reaching-place.ensures in
-    let begun : let a = c.args in Decides c.full-2.result (rank (get_or a.starts.now c.reaching-place.result (pos 0)) < (kind_of a.kind).past a.end) =
-    let s = c in
-    let f : SFits w64 (get_or s.args.starts.now c.reaching-place.result (pos 0)) = sfits_of c.next-1.given in
-    rw (to_z-of_z f, to_z-of_z s.ranges.end) at c.full-2.ensures in
-    let s = c in
-    met_no s.requires s.args.start s.args.end real reach (λ i. not_full begun c.if-not-full-2.true)
+    let a = c.args in
+    let query : Decides c.full.result (rank a.start < (kind_of a.kind).past a.end) = rw (to_z-of_z c.ranges.start, to_z-of_z c.ranges.end) at c.full.ensures in
+    let real : rank a.start < (kind_of a.kind).past a.end = query.right c.if-not-full.false in
+    let reach : Reached (kind_of a.kind) a.count a.ends.now a.start c.reaching-place.result = rw (to_z-of_z c.ranges.start) at c.reaching-place.ensures in
+    let f : SFits w64 (get_or a.starts.now c.reaching-place.result (pos 0)) = sfits_of c.next-1.given in
+    let begun : Decides c.full-2.result (rank (get_or a.starts.now c.reaching-place.result (pos 0)) < (kind_of a.kind).past a.end) = rw (to_z-of_z f, to_z-of_z c.ranges.end) at c.full-2.ensures in
+    met_no c.requires c.args.start c.args.end real reach (λ i. not_full begun c.if-not-full-2.true)
 
 pub returns : goal.returns
 returns c =
-    let query : let a = c.args in Decides c.full.result (rank a.start < (kind_of a.kind).past a.end) =
-    let s = c in rw (to_z-of_z s.ranges.start, to_z-of_z s.ranges.end) at c.full.ensures in
-    let real : let a = c.args in rank a.start < (kind_of a.kind).past a.end =
-    query.right c.if-not-full.false in
-    let reach : let a = c.args in Reached (kind_of a.kind) a.count a.ends.now a.start c.reaching-place.result =
-    rw (to_z-of_z c.ranges.start) at c.reaching-place.ensures in
-    let begun : let a = c.args in Decides c.full-2.result (rank (get_or a.starts.now c.reaching-place.result (pos 0)) < (kind_of a.kind).past a.end) =
-    let s = c in
-    let f : SFits w64 (get_or s.args.starts.now c.reaching-place.result (pos 0)) = sfits_of c.next-1.given in
-    rw (to_z-of_z f, to_z-of_z s.ranges.end) at c.full-2.ensures in
-    let s = c in
-    met_yes s.requires s.args.start s.args.end real reach (omega arith) (begun.right c.if-not-full-2.false)
+    let a = c.args in
+    let query : Decides c.full.result (rank a.start < (kind_of a.kind).past a.end) = rw (to_z-of_z c.ranges.start, to_z-of_z c.ranges.end) at c.full.ensures in
+    let real : rank a.start < (kind_of a.kind).past a.end = query.right c.if-not-full.false in
+    let reach : Reached (kind_of a.kind) a.count a.ends.now a.start c.reaching-place.result = rw (to_z-of_z c.ranges.start) at c.reaching-place.ensures in
+    let f : SFits w64 (get_or a.starts.now c.reaching-place.result (pos 0)) = sfits_of c.next-1.given in
+    let begun : Decides c.full-2.result (rank (get_or a.starts.now c.reaching-place.result (pos 0)) < (kind_of a.kind).past a.end) = rw (to_z-of_z f, to_z-of_z c.ranges.end) at c.full-2.ensures in
+    met_yes c.requires c.args.start c.args.end real reach (omega arith) (begun.right c.if-not-full-2.false)

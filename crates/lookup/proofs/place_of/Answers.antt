@@ -14,8 +14,8 @@ reaching-place-requires c = searched c.requires (lawful c.args.kind)
 
 pub returns-then-count-place : goal.returns-then-count-place
 returns-then-count-place c =
-    let reach : let a = c.args in Reached (kind_of a.kind) a.count a.ends.now a.key c.reaching-place.result =
-    rw (to_z-of_z c.ranges.key) at c.reaching-place.ensures in
+    let a = c.args in
+    let reach : Reached (kind_of a.kind) a.count a.ends.now a.key c.reaching-place.result = rw (to_z-of_z c.ranges.key) at c.reaching-place.ensures in
     place_none c.requires reach (λ i. absurd (omega arith))
 
 pub offset_bounds-starts-place : goal.offset_bounds-starts-place
@@ -26,12 +26,12 @@ bounds-starts-place c = omega (arith, (good c.requires).held)
 
 pub returns-then-key-starts : goal.returns-then-key-starts
 returns-then-key-starts c =
-    let reach : let a = c.args in Reached (kind_of a.kind) a.count a.ends.now a.key c.reaching-place.result =
-    rw (to_z-of_z c.ranges.key) at c.reaching-place.ensures in
+    let a = c.args in
+    let reach : Reached (kind_of a.kind) a.count a.ends.now a.key c.reaching-place.result = rw (to_z-of_z c.ranges.key) at c.reaching-place.ensures in
     place_none c.requires reach (λ i. omega (arith, tests))
 
 pub returns : goal.returns
 returns c =
-    let reach : let a = c.args in Reached (kind_of a.kind) a.count a.ends.now a.key c.reaching-place.result =
-    rw (to_z-of_z c.ranges.key) at c.reaching-place.ensures in
+    let a = c.args in
+    let reach : Reached (kind_of a.kind) a.count a.ends.now a.key c.reaching-place.result = rw (to_z-of_z c.ranges.key) at c.reaching-place.ensures in
     place_found c.requires reach (omega arith) (omega (arith, tests))

@@ -16,8 +16,7 @@ use Rattle.store.proofs.check.inclusive.Goals.{else-next-end-2-via-then-next-end
 pub overflow_add-end : goal.overflow_add-end
 overflow_add-end c =
     let a = c.args in
-    let room : rank (get_or a.ends.now a.k (pos 0)) < 2 ^ 64 - 1 =
-    omega (arith, tests, rank_below (of_z w64 (get_or a.starts.now (a.k + 1) (pos 0)))) in
+    let room : rank (get_or a.ends.now a.k (pos 0)) < 2 ^ 64 - 1 = omega (arith, tests, rank_below (of_z w64 (get_or a.starts.now (a.k + 1) (pos 0)))) in
     next_fits _ room
 
 pub returns-then-starts-k-clause-by_index : goal.returns-then-starts-k-clause-by_index
@@ -29,16 +28,14 @@ returns-then-next-end-clause-by_index c n = fails (λ w. omega (arith, tests, w.
 pub returns-then-value-other-clause-by_index : goal.returns-then-value-other-clause-by_index
 returns-then-value-other-clause-by_index c n =
     let a = c.args in
-    let room : rank (get_or a.ends.now a.k (pos 0)) < 2 ^ 64 - 1 =
-    omega (arith, tests, rank_below (of_z w64 (get_or a.starts.now (a.k + 1) (pos 0)))) in
+    let room : rank (get_or a.ends.now a.k (pos 0)) < 2 ^ 64 - 1 = omega (arith, tests, rank_below (of_z w64 (get_or a.starts.now (a.k + 1) (pos 0)))) in
     fails (λ w. w.unlike (omega (arith, ap bit_rank c.if-next-end-2.true, rank_next _ room)) (omega (arith, eqb-true)))
 
 pub returns-clause-by_index : goal.returns-clause-by_index
 returns-clause-by_index c n =
     let a = c.args in
     let end = of_z w64 (get_or a.ends.now a.k (pos 0)) in
-    let room : rank (get_or a.ends.now a.k (pos 0)) < 2 ^ 64 - 1 =
-    omega (arith, tests, rank_below (of_z w64 (get_or a.starts.now (a.k + 1) (pos 0)))) in
+    let room : rank (get_or a.ends.now a.k (pos 0)) < 2 ^ 64 - 1 = omega (arith, tests, rank_below (of_z w64 (get_or a.starts.now (a.k + 1) (pos 0)))) in
     holds (record {
       full = omega (arith, tests);
       past = omega (arith, tests);

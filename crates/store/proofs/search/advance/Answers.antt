@@ -17,24 +17,20 @@ shifted n false h = record { amount = omega arith; value = omega arith; most = o
 
 pub overflow_shl-result : goal.overflow_shl-result
 overflow_shl-result c =
-    let step : Shifted c.args.step c.args.goes =
-    shifted c.args.step c.args.goes (omega arith) in
+    let step : Shifted c.args.step c.args.goes = shifted c.args.step c.args.goes (omega arith) in
     step.amount
 
 pub overflow_add-result : goal.overflow_add-result
 overflow_add-result c =
-    let step : Shifted c.args.step c.args.goes =
-    shifted c.args.step c.args.goes (omega arith) in
+    let step : Shifted c.args.step c.args.goes = shifted c.args.step c.args.goes (omega arith) in
     omega (arith, step)
 
 pub overflow_sub-result : goal.overflow_sub-result
 overflow_sub-result c =
-    let step : Shifted c.args.step c.args.goes =
-    shifted c.args.step c.args.goes (omega arith) in
+    let step : Shifted c.args.step c.args.goes = shifted c.args.step c.args.goes (omega arith) in
     omega (arith, step)
 
 pub returns : goal.returns
 returns c =
-    let step : Shifted c.args.step c.args.goes =
-    shifted c.args.step c.args.goes (omega arith) in
+    let step : Shifted c.args.step c.args.goes = shifted c.args.step c.args.goes (omega arith) in
     omega (arith, step)
