@@ -2,7 +2,7 @@
 const LINKED: [(&str, &str); 3] = [
     ("compare", "libhourledger.a"),
     ("bench", "libhourledger.a"),
-    ("foundation", "staticlib/librelations.a"),
+    ("foundation", "staticlib/librelations_c.a"),
 ];
 
 fn main() {

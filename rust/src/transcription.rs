@@ -369,30 +369,30 @@ pub fn replay() -> String {
 
 fn tables() -> String {
     let mut text = "-- What rangemap 1.8.0 answers, printed by `rust/compare --replay transcription`: at the least keys and at the greatest.\n\
-        use Prim.Native.Nat.{_-_, _^_}\n\
-        use mathlib.Core.Path.{_≡_, refl}\n\
-        use mathlib.Core.List.{[], _∷_}\n\
-        use Rattle·test_transcription·specs.specs.Asked.{halfOpenTable, inclusiveTable}\n\
-        use Rattle·test_transcription·proofs.proofs.Computes.{all}\n"
+        use Prim.Native.Nat.{◌-◌, ◌^◌}\n\
+        use mathlib.Core.Path.{◌≡◌, refl}\n\
+        use mathlib.Core.List.{[], ◌∷◌}\n\
+        use Rattle.test_transcription.specs.Asked.{half_open_table, inclusive_table}\n\
+        use Rattle.test_transcription.proofs.Computes.{all}\n"
         .to_string();
     text += &equation(
-        "half-open-least",
-        "halfOpenTable 0",
+        "half_open_least",
+        "half_open_table 0",
         &table::<HalfOpen>(i64::MIN),
     );
     text += &equation(
-        "half-open-greatest",
-        "halfOpenTable (2 ^ 64 - 4)",
+        "half_open_greatest",
+        "half_open_table (2 ^ 64 - 4)",
         &table::<HalfOpen>(i64::MAX - 3),
     );
     text += &equation(
-        "inclusive-least",
-        "inclusiveTable 0",
+        "inclusive_least",
+        "inclusive_table 0",
         &table::<Inclusive>(i64::MIN),
     );
     text += &equation(
-        "inclusive-greatest",
-        "inclusiveTable (2 ^ 64 - 3)",
+        "inclusive_greatest",
+        "inclusive_table (2 ^ 64 - 3)",
         &table::<Inclusive>(i64::MAX - 2),
     );
     text
