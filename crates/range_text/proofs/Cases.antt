@@ -1,8 +1,7 @@
 -- Document 01's three ranges as text, and the longest line, by computation.
 use mathlib.Core.Path.{◌≡◌, refl}
-use mathlib.Core.List.{List, [], ◌∷◌, ◌++◌}
+use mathlib.Core.List.{[], ◌∷◌}
 use lib.IntN.{pos, negsuc}
-use lib.ListN.{length}
 use Rattle.outcomes.specs.Stored.{stored}
 use Rattle.decimal.specs.Decimal.{spelled, decimal_text, signed_text}
 use Rattle.filling.specs.Filling.{ascii, piece_of, left_by, filled_in, series}

@@ -1,7 +1,6 @@
 -- A number with a sign in its room, and one line more of a map and of a result.
-use Prim.Native.Nat.{ℕ, ◌+◌, ◌*◌}
-use native.Mathlib.Omega.{arith}
-use mathlib.Core.Path.{◌≡◌, refl}
+use Prim.Native.Nat.{ℕ, ◌+◌}
+use mathlib.Core.Path.{◌≡◌}
 use mathlib.Core.List.{List}
 use lib.ListN.{get_or}
 use lib.IntN.{ℤ, pos}
@@ -13,7 +12,7 @@ use Rattle.text.specs.Text.{Adds}
 use Rattle.decimal.specs.Decimal.{signed_text}
 use Rattle.decimal.proofs.Signs.{length_signed}
 use Rattle.filling.specs.Filling.{AddsWithin}
-use Rattle.filling.proofs.Laws.{in_room, as_within, series_none, series_more}
+use Rattle.filling.proofs.Laws.{in_room, series_none, series_more}
 use Rattle.range_text.specs.RangeText.{range_line, result_line, ranges_text, result_text}
 use Rattle.range_text.specs.InnerRoom.{range_line_room, result_line_room}
 

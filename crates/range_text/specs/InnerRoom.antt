@@ -1,5 +1,5 @@
 -- How many bytes the lines take at most, and what the functions that put them are given.
-use Rattle.std.specs.Prelude.{ℕ, ◌+◌, ◌*◌, ◌≤◌, List, length, ℤ}
+use Rattle.std.specs.Prelude.{ℕ, ◌*◌, ◌≤◌, List, length, ℤ}
 
 -- two numbers and two dots; the value and what stands around it; the newline
 abbrev pub range_room : ℕ
