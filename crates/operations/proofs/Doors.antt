@@ -17,7 +17,6 @@ use Rattle.intersection.proofs.Steps as intersection
 use Rattle.union.proofs.Steps as union
 use Rattle.operations.specs.InnerOperation.{found_by, combined, combined_any}
 use Rattle.operations.specs.declared.Operation.{Operation}
-use Rattle.operations.specs.declared.Operation.TheVariants as Operation
 
 -- at most as many ranges as the sets have together
 pub most : (operation : Operation) (kind : RangeKind) {sa ea sb eb : List ℤ} {na nb : ℕ} → Side (kind_of kind) sa ea na → Side (kind_of kind) sb eb nb

@@ -9,7 +9,6 @@ use Rattle.outcomes.specs.Sets.{intersection_sound, union_sound, intersection, u
 use Rattle.intersection.specs.InnerFound.{shared}
 use Rattle.union.specs.InnerFound.{either}
 use Rattle.operations.specs.declared.Operation.{Operation}
-use Rattle.operations.specs.declared.Operation.TheVariants as Operation
 
 -- the ranges that its walk finds in two sets that are lent as columns
 abbrev pub found_by : Operation → RangeKind → List ℤ → List ℤ → ℕ → List ℤ → List ℤ → ℕ → List Span

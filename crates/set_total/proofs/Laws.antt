@@ -21,7 +21,6 @@ use Rattle.outcomes.specs.Sets.{SoundSet, total_is, total_sound}
 use Rattle.outcomes.specs.declared.Totalled.TheVariants as Totalled
 use Rattle.key.specs.Range.{kind_of}
 use Rattle.key.specs.declared.RangeKind.{RangeKind}
-use Rattle.key.specs.declared.RangeKind.TheVariants as RangeKind
 use Rattle.two_sets.specs.InnerKind.{wide}
 use Rattle.range_list.specs.InnerColumns.{column_rows, rest}
 use Rattle.two_sets.specs.InnerSides.{Side}
