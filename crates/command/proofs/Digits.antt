@@ -2,7 +2,7 @@
 use Prim.Native.Nat.{ℕ, suc, ◌+◌, ◌-◌, ◌≤◌, ◌<◌, min}
 use native.Mathlib.Omega.{arith}
 use native.Mathlib.Numerals.{add-one}
-use mathlib.Core.Path.{◌≡◌, refl, sym, ap, ◌∙◌}
+use mathlib.Core.Path.{◌≡◌, refl, ◌∙◌}
 use mathlib.Core.Bool.{Bool, true, false, not, ◌&&◌}
 use mathlib.Core.List.{List, [], ◌∷◌}
 use borrow.Author.Tests.{le-leb, lt-leb, eq-eqb, ne_eqb}
@@ -12,7 +12,6 @@ use lib.Seq.{drop-cons, take_all}
 use Rattle.byte_form.specs.Form.{same_bytes}
 use Rattle.decimal.specs.Reading.{no_leading_zero, read_number}
 use Rattle.decimal.specs.declared.Numeral.{Numeral}
-use Rattle.decimal.specs.declared.Numeral.TheVariants as Numeral
 use Rattle.command.specs.Words.{digits, natural, decimal, at_most, number_of}
 
 pub and_no : (t : Bool) → (t && false) ≡ false

@@ -3,14 +3,10 @@ use Rattle.std.specs.Prelude.{ℕ, min, Bool, true, false, not, ◌&&◌, cond, 
 use Rattle.byte_form.specs.Form.{same_bytes}
 use Rattle.decimal.specs.Reading.{no_leading_zero, read_number, read_signed}
 use Rattle.decimal.specs.declared.Numeral.{Numeral}
-use Rattle.decimal.specs.declared.Numeral.TheVariants as Numeral
 use Rattle.decimal.specs.declared.Signed.{Signed}
-use Rattle.decimal.specs.declared.Signed.TheVariants as Signed
 use Rattle.filling.specs.Filling.{ascii, filled_in}
 use Rattle.command.specs.declared.Command.{Command}
-use Rattle.command.specs.declared.Command.TheVariants as Command
 use Rattle.command.specs.declared.View.{View}
-use Rattle.command.specs.declared.View.TheVariants as View
 
 -- ranges, day, graph, query, make, --svg, --help
 abbrev pub ranges_word : List ℕ
