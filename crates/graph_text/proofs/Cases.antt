@@ -1,5 +1,4 @@
 -- Document 01's November day as a grid, by computation.
-use Prim.Native.Nat.{ℕ}
 use mathlib.Core.Path.{◌≡◌, refl}
 use mathlib.Core.List.{List, [], ◌∷◌, ◌++◌}
 use lib.IntN.{pos}
