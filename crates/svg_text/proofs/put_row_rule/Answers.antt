@@ -1,0 +1,9 @@
+use native.Mathlib.Omega.{arith}
+use mathlib.Core.Path.{refl}
+use Rattle.filling.proofs.Laws.{as_within}
+use Rattle.svg_text.specs.SvgText.{row_rule}
+use Rattle.svg_text.proofs.put_row_rule.Goals as goal
+
+pub returns : goal.returns
+unfolding row_rule
+returns c = as_within refl (omega arith) c.fill.ensures
