@@ -5,12 +5,11 @@ use native.Mathlib.Numerals.{add-one}
 use native.Mathlib.Decide.{dec_lt}
 use mathlib.Core.Path.{◌≡◌, refl, sym, ap, ◌∙◌}
 use mathlib.Core.Bool.{Bool, true, false, cond}
-use mathlib.Core.List.{List, [], ◌∷◌}
+use mathlib.Core.List.{List}
 use mathlib.Core.Option.{Option, some, none}
 use borrow.Author.Tests.{ne_eqb}
 use lib.Dec.{eqb}
 use lib.ListN.{length, take, drop, drop_of_length-le}
-use Rattle.bytes.specs.Bytes.{slice, index_of}
 use Rattle.key.specs.Range.{half_open}
 use Rattle.outcomes.specs.Stored.{Stored}
 use Rattle.outcomes.specs.Outcomes.{Change, edit}
@@ -18,9 +17,8 @@ use Rattle.outcomes.specs.InnerOutcome.{outcome_of, Leaves}
 use Rattle.outcomes.specs.declared.Outcome.{Outcome}
 use Rattle.edit_lines.specs.Parts.{parts_at, lines_of}
 use Rattle.edit_lines.specs.Making.{line_of, change_of, Making, making, line_done, makes}
-use Rattle.edit_lines.specs.InnerStep.{made_by}
+use Rattle.edit_lines.specs.InnerStep.{index_of, made_by}
 use Rattle.edit_lines.specs.declared.Made.{Made}
-use Rattle.edit_lines.specs.declared.Made.TheVariants as Made
 use Rattle.edit_lines.proofs.Cutting.{line_more}
 
 -- a line that is an edit, by how the edit went and what it leaves
@@ -66,7 +64,7 @@ has_stopped (Made.Refused n a) h = refl
 has_stopped (Made.NotAnEdit n) h = refl
 
 -- the line of a text from a place on, where the search for its end found r
-module _ (text : List ℕ) (from n r : ℕ) (m : Stored) (is : r ≡ from + index_of 10 (slice from (length text) text)) (more : from < length text) where
+module _ (text : List ℕ) (from n r : ℕ) (m : Stored) (is : r ≡ from + index_of 10 (drop from (take (length text) text))) (more : from < length text) where
   abbrev this : Option Change
   this = change_of (line_of (take (r - from) (drop from text)))
 

@@ -17,7 +17,6 @@ use Rattle.edit_lines.specs.Parts.{ahead, parts_at, lines_of}
 use Rattle.edit_lines.specs.Making.{line_of, change_of, Making, making, makes, made_of}
 use Rattle.edit_lines.specs.declared.Line.TheVariants as Line
 use Rattle.edit_lines.specs.declared.Made.{Made}
-use Rattle.edit_lines.specs.declared.Made.TheVariants as Made
 
 -- lines that are these edits
 pub data Edits : List (List ℕ) → List Change → Type 0 where

@@ -8,15 +8,11 @@ use Rattle.outcomes.specs.Outcomes.{Change, edit, clear}
 use Rattle.byte_form.specs.Form.{same_bytes}
 use Rattle.decimal.specs.Reading.{read_number, read_signed}
 use Rattle.decimal.specs.declared.Numeral.{Numeral}
-use Rattle.decimal.specs.declared.Numeral.TheVariants as Numeral
 use Rattle.decimal.specs.declared.Signed.{Signed}
-use Rattle.decimal.specs.declared.Signed.TheVariants as Signed
 use Rattle.filling.specs.Filling.{ascii, filled_in}
 use Rattle.edit_lines.specs.Parts.{lines_of, words_of}
 use Rattle.edit_lines.specs.declared.Line.{Line}
-use Rattle.edit_lines.specs.declared.Line.TheVariants as Line
 use Rattle.edit_lines.specs.declared.Made.{Made}
-use Rattle.edit_lines.specs.declared.Made.TheVariants as Made
 
 -- the word insert
 abbrev pub insert_word : List ℕ

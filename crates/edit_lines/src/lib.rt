@@ -2,6 +2,7 @@
 #![tactic(auto)]
 
 pub mod said;
+mod scan;
 mod words;
 
 ghost use Rattle.std.specs.Prelude.{◌≡◌, ◌+◌, ◌≤◌, min};
@@ -10,9 +11,9 @@ ghost use Rattle.edit_lines.specs.InnerStep.{made_by};
 ghost use Rattle.edit_lines.specs.Parts.{lines_of};
 ghost use Rattle.edit_lines.specs.Making.{line_of, change_of, making, line_done, makes, made_of};
 
-use bytes::scan::find;
 use key::{RangeKind, Value};
 use outcomes::{Outcome, PLACES};
+use scan::find;
 
 // What a line is.
 #[derive(Clone, Copy)]

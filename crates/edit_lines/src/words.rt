@@ -5,7 +5,7 @@ ghost use Rattle.edit_lines.specs.Making.{words_line, line_of};
 ghost use Rattle.edit_lines.specs.InnerStep.{SpaceAt};
 
 use crate::Line;
-use bytes::scan::find;
+use crate::scan::find;
 use check::same;
 use decimal::{Numeral, Signed};
 
