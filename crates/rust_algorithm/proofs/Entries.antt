@@ -11,7 +11,7 @@ use lib.ListN.{length}
 use borrow.Author.Tests.{lt-ltb, le-ltb, le-leb, lt-leb, eq-eqb, ne_eqb}
 use Rattle.span.specs.Span.{Span, span, Ordered, Upto, keep}
 use Rattle.span.proofs.Holding.{ordered_from, ordered_right}
-use Rattle.rust_algorithm.specs.Btree.{and_then, filtered, next, from_to, strictly_between, deleted, entered}
+use Rattle.rust_algorithm.specs.Btree.{rust_then, filtered, next, from_to, strictly_between, deleted, entered}
 use Rattle.rust_algorithm.specs.Map.{cut_out}
 
 -- all of the list starts before c
@@ -108,6 +108,6 @@ module _ (x : Span) (s e : ℕ) (xs : List Span) (full : x.lo < x.hi) (real : s 
       (put_right (ls ++ new ∷ []) (below_snoc ls new (omega arith) (below_more ls from b)))
 
 -- what comes after what may panic is the same where it is the same of each answer
-pub after_both : {A B : Type 0} (a : Option A) (f g : A → Option B) → ((x : A) → f x ≡ g x) → and_then a f ≡ and_then a g
+pub after_both : {A B : Type 0} (a : Option A) (f g : A → Option B) → ((x : A) → f x ≡ g x) → rust_then a f ≡ rust_then a g
 after_both none f g e = refl
 after_both (some x) f g e = e x

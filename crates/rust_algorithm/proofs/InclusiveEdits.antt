@@ -11,7 +11,7 @@ use lib.Dec.{ltb, leb, eqb}
 use borrow.Author.Tests.{lt-ltb, le-ltb, le-leb, lt-leb, eq-eqb, ne_eqb}
 use Rattle.span.specs.Span.{Span, span, Ordered, Upto, Tidy, keep, inserted, removed}
 use Rattle.span.proofs.Tests.{cases}
-use Rattle.rust_algorithm.specs.Btree.{and_then, if_let, filtered, filtered_by, reversed, taken, next}
+use Rattle.rust_algorithm.specs.Btree.{rust_then, if_let, filtered, filtered_by, reversed, taken, next}
 use Rattle.rust_algorithm.specs.Btree.{up_to, strictly_between, starting, starting_by, deleted, entered}
 use Rattle.rust_algorithm.specs.Map.{rust_ranges_overlap, rust_ranges_touch, State, state, last_candidate, cut_out, adjust, candidate, remove_candidate}
 use Rattle.rust_algorithm.specs.InclusiveMap.{StepFns, inclusive_ranges_overlap, inclusive_ranges_touch, left_back, right_back}
@@ -160,7 +160,7 @@ module _ (add-one sub-one : ℕ → Option ℕ) (greatest : ℕ) (steps : StepFn
   -- INSERT
   module _ (ls : List Span) (s v e : ℕ) (real : s < e) (below : Below s ls) where
     go : ℕ → List Span → ℕ → Option (List Span)
-    go n m f = and_then (inclusive_insert_loop add-one sub-one n (e - 1) v (state m s (f - 1))) (inclusive_finish add-one sub-one v)
+    go n m f = rust_then (inclusive_insert_loop add-one sub-one n (e - 1) v (state m s (f - 1))) (inclusive_finish add-one sub-one v)
 
     whole : (f : ℕ) → s < f → suc (f - 1) ≡ f
     whole f h = omega arith
@@ -252,7 +252,7 @@ module _ (add-one sub-one : ℕ → Option ℕ) (greatest : ℕ) (steps : StepFn
     chosen_narrow (x ∷ []) s = adjust_narrow x v m lo hi s.0 s.1 real
     chosen_narrow (x ∷ y ∷ ys) s = adjust_narrow y v m lo hi s.2.0 s.2.1 real
 
-    started : Sound (suc greatest) m → and_then (inclusive_candidate add-one sub-one lo (hi - 1) m)
+    started : Sound (suc greatest) m → rust_then (inclusive_candidate add-one sub-one lo (hi - 1) m)
         (λ c. if_let c (λ x. inclusive_adjust add-one sub-one x v (state m lo (hi - 1))) (some (state m lo (hi - 1)))) ≡ some (narrow begun)
     unfolding inclusive_candidate candidate begun
     started s =
@@ -264,7 +264,7 @@ module _ (add-one sub-one : ℕ → Option ℕ) (greatest : ℕ) (steps : StepFn
         (chosen_narrow (filtered test near) (sound_filtered (suc greatest) test near u))
 
   -- what comes after what may panic, in one go or in two
-  then_then : {A B C : Type 0} (a : Option A) (f : A → Option B) (g : B → Option C) → and_then a (λ x. and_then (f x) g) ≡ and_then (and_then a f) g
+  then_then : {A B C : Type 0} (a : Option A) (f : A → Option B) (g : B → Option C) → rust_then a (λ x. rust_then (f x) g) ≡ rust_then (rust_then a f) g
   then_then none f g = refl
   then_then (some x) f g = refl
 
@@ -281,7 +281,7 @@ module _ (add-one sub-one : ℕ → Option ℕ) (greatest : ℕ) (steps : StepFn
       = λ n e w. rw e (prepare lo (suc last) v (omega arith) p.left p.ends p.right p.reaches (subst (Tidy 0) e w)) in
       rw (le-leb lo last h)
       (then_then (inclusive_candidate add-one sub-one lo last m) _ (inclusive_insert_body add-one sub-one v)
-      ∙ ap (λ (s : Option State). and_then s (inclusive_insert_body add-one sub-one v)) first
+      ∙ ap (λ (s : Option State). rust_then s (inclusive_insert_body add-one sub-one v)) first
       ∙ inserts lo (suc last) v m _ (omega arith) t u (ready m p.whole t))
 
   pub inclusive_insert_panics : (lo last v : ℕ) (m : List Span) → last < lo → inclusive_insert add-one sub-one lo last v m ≡ none

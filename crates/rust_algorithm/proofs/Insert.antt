@@ -8,7 +8,7 @@ use mathlib.Core.Option.{Option, some, none}
 use lib.Dec.{eqb}
 use borrow.Author.Tests.{lt-ltb, le-ltb, eq-eqb, ne_eqb}
 use Rattle.span.specs.Span.{Span, span, Ordered, Tidy, keep, inserted}
-use Rattle.rust_algorithm.specs.Btree.{and_then, if_let, entered}
+use Rattle.rust_algorithm.specs.Btree.{rust_then, if_let, entered}
 use Rattle.rust_algorithm.specs.Map.{State, state, adjust, candidate, insert_loop, finish, insert_body, map_insert}
 use Rattle.rust_algorithm.proofs.Entries.{Below, below_more, query_skip, query_none, query_here, cut_clear}
 use Rattle.rust_algorithm.proofs.Candidate.{part}
@@ -21,7 +21,7 @@ and_no false = refl
 
 module _ (ls : List Span) (s v e top : ℕ) (real : s < e) (below : Below s ls) where
   go : ℕ → List Span → ℕ → Option (List Span)
-  go n m f = and_then (insert_loop n e v (state m s f)) (finish v)
+  go n m f = rust_then (insert_loop n e v (state m s f)) (finish v)
 
   out : (n f c : ℕ) (rest : List Span) → 0 < n → e < c → Ordered c rest → go n (ls ++ rest) f ≡ some (entered (span s f v) (ls ++ rest))
   unfolding go insert_loop

@@ -15,7 +15,7 @@ use Rattle.key.specs.Range.{Kind, half_open, inclusive}
 use Rattle.key.proofs.Lawful.{Lawful, half_open_lawful, inclusive_too}
 use Rattle.relations.specs.Relations.{spans_touch}
 use Rattle.outcomes.specs.Outcomes.{is_equal}
-use Rattle.rust_algorithm.specs.Btree.{and_then, filtered, next}
+use Rattle.rust_algorithm.specs.Btree.{rust_then, filtered, next}
 use Rattle.rust_algorithm.specs.Map.{rust_ranges_overlap, rust_ranges_touch, map_edit, map_history}
 use Rattle.rust_algorithm.specs.InclusiveMap.{StepFns, inclusive_range_contains, inclusive_edit, inclusive_history}
 use Rattle.rust_algorithm.specs.Operations.{range_intersect}
@@ -54,7 +54,7 @@ pub record Same (rust : Functions) (first limit : ℕ) : Type 0 where
   pub edit_same : (lo hi : ℕ) (new : Option ℕ) (m : List Span) → lo < hi → hi ≤ limit → Kept limit m → rust.edit lo hi new m ≡ some (given lo hi new m)
   pub edit_panics : (lo hi : ℕ) (new : Option ℕ) (m : List Span) → first ≤ hi → hi ≤ lo → rust.edit lo hi new m ≡ none
   pub history_first : (x : Edit) (es : List Edit) (m : List Span)
-      → rust.history (x ∷ es) m ≡ and_then (rust.edit x.lo x.hi x.new m) (rust.history es)
+      → rust.history (x ∷ es) m ≡ rust_then (rust.edit x.lo x.hi x.new m) (rust.history es)
   pub history_same : (es : List Edit) (m : List Span) → Real es → By limit es → Kept limit m → rust.history es m ≡ some (history es m)
   pub extend_same : (xs m : List Span) → rust.extend xs m ≡ rust.history (puts xs) m
   pub get_same : (k : ℕ) (m : List Span) → Kept limit m → rust.get_key_value k m ≡ next (filtered (holds k) m)

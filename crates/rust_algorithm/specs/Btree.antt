@@ -6,9 +6,9 @@ use Rattle.std.proofs.Math.Option.{Option, some, none}
 use Rattle.span.specs.Span.{Span, span}
 
 -- what may panic, and what comes after it
-abbrev pub and_then : {A B : Type 0} → Option A → (A → Option B) → Option B
-and_then none f = none
-and_then (some a) f = f a
+abbrev pub rust_then : {A B : Type 0} → Option A → (A → Option B) → Option B
+rust_then none f = none
+rust_then (some a) f = f a
 
 -- if let Some(x) = .. { .. } else { .. }
 abbrev pub if_let : {A : Type 0} → Option Span → (Span → A) → A → A
@@ -27,7 +27,7 @@ filtered p (x ∷ xs) = let rest = filtered p xs in cond (p x) (x ∷ rest) rest
 -- Iterator::filter, by a test that may panic, of a list of which every entry is asked for
 unfoldable pub filtered_by : (Span → Option Bool) → List Span → Option (List Span)
 filtered_by p [] = some []
-filtered_by p (x ∷ xs) = and_then (p x) (λ t. and_then (filtered_by p xs) (λ rest. some (cond t (x ∷ rest) rest)))
+filtered_by p (x ∷ xs) = rust_then (p x) (λ t. rust_then (filtered_by p xs) (λ rest. some (cond t (x ∷ rest) rest)))
 
 -- what an iterator gives until its first None, where it gives None for the first entry that fails the test
 unfoldable pub taken_while : (Span → Bool) → List Span → List Span

@@ -5,7 +5,7 @@ use Prim.Native.Nat.{ℕ, zero, suc, ◌-◌, ◌^◌, min, max, Ordering, ◌<�
 use Rattle.std.specs.Prelude.{◌≡◌, List, [], ◌∷◌, Bool, true, false, ◌&&◌, not, cond, ltb, leb, eqb, length}
 use Rattle.std.proofs.Math.Option.{Option, some, none}
 use Rattle.span.specs.Span.{Span, span, Edit}
-use Rattle.rust_algorithm.specs.Btree.{and_then, if_let, is_some, filtered, filtered_by, taken_while, reversed, taken, next}
+use Rattle.rust_algorithm.specs.Btree.{rust_then, if_let, is_some, filtered, filtered_by, taken_while, reversed, taken, next}
 use Rattle.rust_algorithm.specs.Btree.{up_to, starting, starting_by, deleted, entered}
 use Rattle.rust_algorithm.specs.Map.{State, state, last_candidate, GapStep, gap_step, given_first, number_cmp, cmp_then}
 
@@ -28,40 +28,40 @@ inclusive_ranges_overlap a b c d = leb (max a c) (min b d)
 module _ (add-one sub-one : ℕ → Option ℕ) where
   -- std_ext.rs, 44-67: does a..=b touch c..=d
   unfoldable pub inclusive_ranges_touch : ℕ → ℕ → ℕ → ℕ → Option Bool
-  inclusive_ranges_touch a b c d = and_then (cond (ltb (min b d) (max a c)) (add-one (min b d)) (some (min b d))) (λ extended. some (leb (max a c) extended))
+  inclusive_ranges_touch a b c d = rust_then (cond (ltb (min b d) (max a c)) (add-one (min b d)) (some (min b d))) (λ extended. some (leb (max a c) extended))
 
   -- 489-498 and 526-534: add back what of the stored range x lies left of s
   unfoldable pub left_back : Span → ℕ → List Span → Option (List Span)
-  left_back x s m = cond (ltb x.lo s) (and_then (sub-one s) (λ e. some (entered (closed_range x.lo e x.label) m))) (some m)
+  left_back x s m = cond (ltb x.lo s) (rust_then (sub-one s) (λ e. some (entered (closed_range x.lo e x.label) m))) (some m)
 
   -- 499-508 and 535-543: add back what of it lies right of e
   unfoldable pub right_back : Span → ℕ → List Span → Option (List Span)
-  right_back x e m = cond (ltb e (final x)) (and_then (add-one e) (λ s. some (entered (closed_range s (final x) x.label) m))) (some m)
+  right_back x e m = cond (ltb e (final x)) (rust_then (add-one e) (λ s. some (entered (closed_range s (final x) x.label) m))) (some m)
 
   -- 488-508, and 524-543: delete the stored range x, and add back what of it lies left of s..=e, and what lies right of it
   unfoldable pub inclusive_cut_out : Span → ℕ → ℕ → List Span → Option (List Span)
-  inclusive_cut_out x s e m = and_then (left_back x s (deleted x.lo m)) (right_back x e)
+  inclusive_cut_out x s e m = rust_then (left_back x s (deleted x.lo m)) (right_back x e)
 
   -- 462-514: adjust_touching_ranges_for_insert
   unfoldable pub inclusive_adjust : Span → ℕ → State → Option State
   inclusive_adjust x v s = cond (eqb x.label v)
       (some (state (deleted x.lo s.btm) (min s.start x.lo) (max s.end (final x))))
       (cond (inclusive_ranges_overlap s.start s.end x.lo (final x))
-      (and_then (inclusive_cut_out x s.start s.end s.btm) (λ m. some (state m s.start s.end)))
+      (rust_then (inclusive_cut_out x s.start s.end s.btm) (λ m. some (state m s.start s.end)))
       (some s))
 
   -- 275-295: the candidate; each of the two entries is asked whether it touches
   unfoldable pub inclusive_candidate : ℕ → ℕ → List Span → Option (Option Span)
   inclusive_candidate lo last m =
-      and_then (filtered_by (λ x. inclusive_ranges_touch x.lo (final x) lo last) (taken 2 (reversed (up_to lo m)))) (λ near. some (last_candidate near))
+      rust_then (filtered_by (λ x. inclusive_ranges_touch x.lo (final x) lo last) (taken 2 (reversed (up_to lo m)))) (λ near. some (last_candidate near))
 
   -- 321-370: the loop, for n rounds at most; last is second_last_possible_start of 317-320
   unfoldable pub inclusive_insert_loop : ℕ → ℕ → ℕ → State → Option State
   inclusive_insert_loop zero last v s = none
   inclusive_insert_loop (suc n) last v s = if_let (next (starting s.start s.btm))
-      (λ x. let round = and_then (inclusive_adjust x v s) (inclusive_insert_loop n last v) in
+      (λ x. let round = rust_then (inclusive_adjust x v s) (inclusive_insert_loop n last v) in
       cond (ltb last x.lo)
-      (and_then (add-one last) (λ latest. cond (ltb latest x.lo) (some s) (cond (eqb x.lo latest && not (eqb x.label v)) (some s) round)))
+      (rust_then (add-one last) (λ latest. cond (ltb latest x.lo) (some s) (cond (eqb x.lo latest && not (eqb x.label v)) (some s) round)))
       round)
       (some s)
 
@@ -71,14 +71,14 @@ module _ (add-one sub-one : ℕ → Option ℕ) where
 
   -- 317-373: from the loop on
   abbrev pub inclusive_insert_body : ℕ → State → Option (List Span)
-  inclusive_insert_body v s = and_then (inclusive_insert_loop (suc (length s.btm)) s.end v s) (inclusive_finish v)
+  inclusive_insert_body v s = rust_then (inclusive_insert_loop (suc (length s.btm)) s.end v s) (inclusive_finish v)
 
   -- 249-374: insert
   unfoldable pub inclusive_insert : ℕ → ℕ → ℕ → List Span → Option (List Span)
   inclusive_insert lo last v m =
       let given = state m lo last in
       cond (leb lo last)
-      (and_then (inclusive_candidate lo last m) (λ c. and_then (if_let c (λ x. inclusive_adjust x v given) (some given)) (inclusive_insert_body v)))
+      (rust_then (inclusive_candidate lo last m) (λ c. rust_then (if_let c (λ x. inclusive_adjust x v given) (some given)) (inclusive_insert_body v)))
       none
 
   -- 407-421: the last that starts by lo, if it overlaps lo..=last
@@ -89,7 +89,7 @@ module _ (add-one sub-one : ℕ → Option ℕ) where
   unfoldable pub inclusive_remove_loop : ℕ → ℕ → ℕ → List Span → Option (List Span)
   inclusive_remove_loop zero lo last m = none
   inclusive_remove_loop (suc n) lo last m =
-      if_let (next (starting_by lo last m)) (λ x. and_then (inclusive_cut_out x lo last m) (inclusive_remove_loop n lo last)) (some m)
+      if_let (next (starting_by lo last m)) (λ x. rust_then (inclusive_cut_out x lo last m) (inclusive_remove_loop n lo last)) (some m)
 
   -- 438-459: from the loop on
   abbrev pub inclusive_remove_body : ℕ → ℕ → List Span → Option (List Span)
@@ -98,7 +98,7 @@ module _ (add-one sub-one : ℕ → Option ℕ) where
   -- 386-460: remove
   unfoldable pub inclusive_remove : ℕ → ℕ → List Span → Option (List Span)
   inclusive_remove lo last m = cond (leb lo last)
-      (and_then (if_let (inclusive_remove_candidate lo last m) (λ x. inclusive_cut_out x lo last m) (some m)) (inclusive_remove_body lo last))
+      (rust_then (if_let (inclusive_remove_candidate lo last m) (λ x. inclusive_cut_out x lo last m) (some m)) (inclusive_remove_body lo last))
       none
 
   -- one call: insert where the edit gives a label, remove where it gives none. The edit from lo up to hi is a call with lo..=hi - 1
@@ -109,12 +109,12 @@ module _ (add-one sub-one : ℕ → Option ℕ) where
   -- a sequence of calls
   unfoldable pub inclusive_history : List Edit → List Span → Option (List Span)
   inclusive_history [] m = some m
-  inclusive_history (e ∷ es) m = and_then (inclusive_edit e.lo e.hi e.new m) (inclusive_history es)
+  inclusive_history (e ∷ es) m = rust_then (inclusive_edit e.lo e.hi e.new m) (inclusive_history es)
 
   -- 722-726: extend. from_iter (710-714) and from (941-947) are extend of an empty map
   unfoldable pub inclusive_extend : List Span → List Span → Option (List Span)
   inclusive_extend [] m = some m
-  inclusive_extend (x ∷ xs) m = and_then (inclusive_insert x.lo (final x) x.label m) (inclusive_extend xs)
+  inclusive_extend (x ∷ xs) m = rust_then (inclusive_insert x.lo (final x) x.label m) (inclusive_extend xs)
 
 -- what the theorems ask of them: where a key is below the greatest, the next one; where it is not the first, the one before
 pub record StepFns (add-one sub-one : ℕ → Option ℕ) (greatest : ℕ) : Type 0 where
@@ -167,7 +167,7 @@ module _ (add-one sub-one : ℕ → Option ℕ) where
   -- 862-874: the gap at the end of the outer range, if there is one. After Gaps::next candidate_needs_plus_one is always true
   unfoldable pub inclusive_tail_gap : ℕ → Bool → ℕ → List Span → Option GapStep
   inclusive_tail_gap end plus c xs = cond plus
-      (cond (ltb c end) (and_then (add-one c) (λ s. some (gap_step (some (closed_range s end 0)) end xs))) (some (gap_step none end xs)))
+      (cond (ltb c end) (rust_then (add-one c) (λ s. some (gap_step (some (closed_range s end 0)) end xs))) (some (gap_step none end xs)))
       (cond (leb c end) (some (gap_step (some (closed_range c end 0)) end xs)) (some (gap_step none end xs)))
 
   -- 835-877: Gaps::next
@@ -175,14 +175,14 @@ module _ (add-one sub-one : ℕ → Option ℕ) where
   inclusive_next_gap end plus c [] = inclusive_tail_gap end plus c []
   inclusive_next_gap end plus c (x ∷ xs) =
       let more = inclusive_next_gap end true (final x) xs in
-      cond (ltb end x.lo) (inclusive_tail_gap end plus c xs) (and_then (cond plus (add-one c) (some c)) (λ start.
-      cond (ltb start x.lo) (and_then (sub-one x.lo) (λ e. some (gap_step (some (closed_range start e 0)) (final x) xs))) more))
+      cond (ltb end x.lo) (inclusive_tail_gap end plus c xs) (rust_then (cond plus (add-one c) (some c)) (λ start.
+      cond (ltb start x.lo) (rust_then (sub-one x.lo) (λ e. some (gap_step (some (closed_range start e 0)) (final x) xs))) more))
 
   -- all that Gaps gives until it gives None, in n calls at most
   unfoldable pub inclusive_collect_gaps : ℕ → ℕ → Bool → ℕ → List Span → Option (List Span)
   inclusive_collect_gaps zero end plus c xs = none
   inclusive_collect_gaps (suc n) end plus c xs =
-      and_then (inclusive_next_gap end plus c xs) (λ s. given_first s.gap (inclusive_collect_gaps n end true s.candidate s.iter))
+      rust_then (inclusive_next_gap end plus c xs) (λ s. given_first s.gap (inclusive_collect_gaps n end true s.candidate s.iter))
 
   -- 551-563: gaps, collected
   unfoldable pub inclusive_gaps : ℕ → ℕ → List Span → Option (List Span)

@@ -4,7 +4,7 @@ use Prim.Native.Nat.{ℕ, zero, suc, min, max, Ordering}
 use Rattle.std.specs.Prelude.{List, [], ◌∷◌, Bool, true, false, ◌&&◌, not, cond, ltb, leb, eqb, length}
 use Rattle.std.proofs.Math.Option.{Option, some, none}
 use Rattle.span.specs.Span.{Span, span, inside, Edit}
-use Rattle.rust_algorithm.specs.Btree.{and_then, if_let, is_some, filtered, taken_while, reversed, taken, next, next_back}
+use Rattle.rust_algorithm.specs.Btree.{rust_then, if_let, is_some, filtered, taken_while, reversed, taken, next, next_back}
 use Rattle.rust_algorithm.specs.Btree.{up_to, from_to, strictly_between, deleted, entered}
 
 -- std_ext.rs, 12-16: does a..b overlap c..d
@@ -60,7 +60,7 @@ finish v s = some (entered (span s.start s.end v) s.btm)
 
 -- 322-362: from the loop on
 abbrev pub insert_body : ℕ → State → Option (List Span)
-insert_body v s = and_then (insert_loop (suc (length s.btm)) s.end v s) (finish v)
+insert_body v s = rust_then (insert_loop (suc (length s.btm)) s.end v s) (finish v)
 
 -- 261-363: insert
 unfoldable pub map_insert : ℕ → ℕ → ℕ → List Span → Option (List Span)
@@ -93,12 +93,12 @@ map_edit lo hi (some v) m = map_insert lo hi v m
 -- a sequence of calls
 unfoldable pub map_history : List Edit → List Span → Option (List Span)
 map_history [] m = some m
-map_history (e ∷ es) m = and_then (map_edit e.lo e.hi e.new m) (map_history es)
+map_history (e ∷ es) m = rust_then (map_edit e.lo e.hi e.new m) (map_history es)
 
 -- 627-631: extend. from_iter (615-619) and from (823-829) are extend of an empty map
 unfoldable pub map_extend : List Span → List Span → Option (List Span)
 map_extend [] m = some m
-map_extend (x ∷ xs) m = and_then (map_insert x.lo x.hi x.label m) (map_extend xs)
+map_extend (x ∷ xs) m = rust_then (map_insert x.lo x.hi x.label m) (map_extend xs)
 
 -- 163-176: get_key_value, the last that starts by the key, if it contains the key (Range::contains is `inside`)
 unfoldable pub map_get_key_value : ℕ → List Span → Option Span

@@ -4,7 +4,7 @@
 use Rattle.std.specs.Prelude.{ℕ, zero, suc, ◌+◌, min, max, List, [], ◌∷◌, cond, ltb, leb, length}
 use Rattle.std.proofs.Math.Option.{Option, some, none}
 use Rattle.span.specs.Span.{Span, span, inside}
-use Rattle.rust_algorithm.specs.Btree.{and_then, if_let}
+use Rattle.rust_algorithm.specs.Btree.{rust_then, if_let}
 use Rattle.rust_algorithm.specs.Map.{given_first, map_extend}
 use Rattle.rust_algorithm.specs.InclusiveMap.{final, closed_range, inclusive_range_contains, inclusive_extend}
 
@@ -70,7 +70,7 @@ module _ (merge : Span → Span → Option Span) where
   -- all that Union gives until it gives None, in n calls at most
   unfoldable pub collect_union : ℕ → List Span → List Span → Option (List Span)
   collect_union zero a b = none
-  collect_union (suc n) a b = and_then (union_next a b) (λ s. given_first s.range (collect_union n s.left s.right))
+  collect_union (suc n) a b = rust_then (union_next a b) (λ s. given_first s.range (collect_union n s.left s.right))
 
 -- 225-245: Intersection::next, for n rounds at most; end_of_lem is what order_end compares
 module _ (end_of_lem : Span → ℕ) (intersect : Span → Span → Option Span) where
@@ -87,7 +87,7 @@ module _ (end_of_lem : Span → ℕ) (intersect : Span → Span → Option Span)
   unfoldable pub collect_intersection : ℕ → List Span → List Span → Option (List Span)
   collect_intersection zero a b = none
   collect_intersection (suc n) a b =
-      and_then (intersection_next (suc (length a + length b)) a b) (λ s. given_first s.range (collect_intersection n s.left s.right))
+      rust_then (intersection_next (suc (length a + length b)) a b) (λ s. given_first s.range (collect_intersection n s.left s.right))
 
 -- set.rs, 113-115, and inclusive_set.rs, 203-205: union, collected
 unfoldable pub set_union : List Span → List Span → Option (List Span)
@@ -105,15 +105,15 @@ inclusive_set_intersection a b = collect_intersection final inclusive_intersect 
 
 -- set.rs, 425-431, 417-423 and 266-286: a | b and a & b collect their ranges into a new set: extend of an empty one
 unfoldable pub set_or : List Span → List Span → Option (List Span)
-set_or a b = and_then (set_union a b) (λ xs. map_extend xs [])
+set_or a b = rust_then (set_union a b) (λ xs. map_extend xs [])
 
 unfoldable pub set_and : List Span → List Span → Option (List Span)
-set_and a b = and_then (set_intersection a b) (λ xs. map_extend xs [])
+set_and a b = rust_then (set_intersection a b) (λ xs. map_extend xs [])
 
 -- inclusive_set.rs, 484-490, 476-482 and 292-312: the same of inclusive sets
 module _ (add-one sub-one : ℕ → Option ℕ) where
   unfoldable pub inclusive_set_or : List Span → List Span → Option (List Span)
-  inclusive_set_or a b = and_then (inclusive_set_union a b) (λ xs. inclusive_extend add-one sub-one xs [])
+  inclusive_set_or a b = rust_then (inclusive_set_union a b) (λ xs. inclusive_extend add-one sub-one xs [])
 
   unfoldable pub inclusive_set_and : List Span → List Span → Option (List Span)
-  inclusive_set_and a b = and_then (inclusive_set_intersection a b) (λ xs. inclusive_extend add-one sub-one xs [])
+  inclusive_set_and a b = rust_then (inclusive_set_intersection a b) (λ xs. inclusive_extend add-one sub-one xs [])

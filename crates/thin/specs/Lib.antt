@@ -1,2 +1,2 @@
--- Kept (a small map of four places, and what is done to it).
-pub mod Kept
+-- Four (a small map of four places, and what is done to it).
+pub mod Four

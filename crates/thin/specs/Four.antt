@@ -3,21 +3,21 @@ use Rattle.std.specs.Prelude.{ℕ, ◌+◌, List, length, ℤ}
 use Rattle.thin.specs.declared.Small.{Small}
 
 -- what a small map stores
-pub record Kept : Type 0 where
+pub record Four : Type 0 where
   pub count : ℕ
   pub starts : List ℤ
   pub values : List ℕ
 
-abbrev pub kept : ℕ → List ℤ → List ℕ → Kept
-kept n ss vs = record { count = n; starts = ss; values = vs }
+abbrev pub four : ℕ → List ℤ → List ℕ → Four
+four n ss vs = record { count = n; starts = ss; values = vs }
 
-abbrev pub kept_in : Small → Kept
-kept_in m = kept m.count m.starts m.values
+abbrev pub four_in : Small → Four
+four_in m = four m.count m.starts m.values
 
 -- the same with one range more
-unfoldable pub counted_on : Kept → Kept
-counted_on m = kept (m.count + 1) m.starts m.values
+unfoldable pub counted_on : Four → Four
+counted_on m = four (m.count + 1) m.starts m.values
 
 -- how many ranges two of them have, and how many bytes come with them
-unfoldable pub together : Kept → Kept → List ℕ → ℕ
+unfoldable pub together : Four → Four → List ℕ → ℕ
 together a b bytes = a.count + b.count + length bytes
