@@ -1,7 +1,11 @@
 use mir.Facts.{to_z-of_z}
-use borrow.Author.Rules.{sfits_of}
+use mir.Syntax.{w64}
+use mir.Val.{SFits}
+use borrow.Author.Rules.{rules}
 use Rattle.relations.proofs.starts_before.Goals as goal
 
 pub returns : goal.returns
 returns c =
-    rw (to_z-of_z (sfits_of c.struct_told-1.given.0.1), to_z-of_z (sfits_of c.struct_told-2-1.given.1.0.1)) at c.full.ensures
+    let start_fits : SFits w64 c.args.range.start = search rules in
+    let end_fits : SFits w64 c.args.other.end = search rules in
+    rw (to_z-of_z start_fits, to_z-of_z end_fits) at c.full.ensures

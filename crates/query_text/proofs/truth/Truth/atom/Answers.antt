@@ -2,11 +2,7 @@ use Rattle.query_text.proofs.Tables.{first_shows, second_shows}
 use Rattle.query_text.proofs.truth.Truth.atom.Goals as goal
 
 pub returns-then-second : goal.returns-then-second
-returns-then-second c =
-    let s = c in
-    rw c.if-second.true (second_shows s.args.digit s.requires)
+returns-then-second c = rw c.if-second.true (second_shows c.args.digit c.requires)
 
 pub returns : goal.returns
-returns c =
-    let s = c in
-    rw c.if-second.false (first_shows s.args.digit s.requires)
+returns c = rw c.if-second.false (first_shows c.args.digit c.requires)

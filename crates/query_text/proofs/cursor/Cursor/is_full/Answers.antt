@@ -1,5 +1,0 @@
-use mathlib.Core.Path.{refl}
-use Rattle.query_text.proofs.cursor.Cursor.is_full.Goals as goal
-
-pub returns : goal.returns
-returns c = refl
