@@ -11,7 +11,7 @@ use borrow.Author.Tests.{le-ltb}
 use lib.ListN.{length, get_or}
 use lib.IntN.{ℤ, pos}
 use Rattle.key.specs.Rank.{rank, lesser}
-use Rattle.key.specs.Range.{Kind, half_open, inclusive}
+use Rattle.key.specs.Range.{Kind}
 use Rattle.key.specs.InnerDecides.{Decides}
 use Rattle.key.proofs.Answers.{neither_less, not_full}
 use Rattle.key.proofs.Lawful.{Lawful}
@@ -50,20 +50,6 @@ halved {kind} {n} {p} {low} {left} {keys} {e} a k some false d =
       before = λ j h b. k.before j (omega arith) b;
       at = λ h. rw same (not_full d refl);
     }
-
--- where nothing is left, the place is found
-pub found_past : {kind : Kind} {n p low : ℕ} {keys : List ℤ} {e : ℤ} (left : ℕ) → left ≡ 0 → Left kind n keys p e low left → FirstPast kind n keys p e low
-found_past {low = low} left z k =
-    let same : low + left ≡ low = omega arith in
-    record { from = k.from; within = omega (arith, k.within); before = k.before; at = rw same at k.at }
-
--- THE OTHER KIND: a half-open range reaches a key where its end lies past a range that has the key as its last, and an inclusive one where its end
--- lies past a range that has the key as its half-open end
-pub reached_by : {n p : ℕ} {ends : List ℤ} {k : ℤ} → FirstPast inclusive n ends 0 k p → Reached half_open n ends k p
-reached_by f = record { within = f.within; below = λ j h. omega (arith, f.before j h (omega arith)); at = λ h. omega (arith, f.at h) }
-
-pub reached_in : {n p : ℕ} {ends : List ℤ} {k : ℤ} → FirstPast half_open n ends 0 k p → Reached inclusive n ends k p
-reached_in f = record { within = f.within; below = λ j h. omega (arith, f.before j h (omega arith)); at = λ h. omega (arith, f.at h) }
 
 -- where the ends ascend, the ranges from there on reach the key too
 pub reached_after : {kind : Kind} {n p : ℕ} {l : List ℤ} {k : ℤ} → Lawful kind → Ascends n l → Reached kind n l k p → (j : ℕ) → p ≤ j → j < n → rank k < kind.past (get_or l j (pos 0))

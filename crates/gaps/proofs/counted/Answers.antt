@@ -10,11 +10,8 @@ use Rattle.key.proofs.Laws.{tests, rank_back}
 use Rattle.key.proofs.Lawful.{lawful}
 use Rattle.key.proofs.Answers.{not_full}
 use Rattle.gaps.proofs.Walk.{one_gap}
-use Rattle.gaps.proofs.Steps.{met_first, met_stop, met_last, met_on, followed}
+use Rattle.gaps.proofs.Steps.{met_stop, met_last, met_on, followed}
 use Rattle.gaps.proofs.counted.Goals as goal
-
-pub loop-k-init : goal.loop-k-init
-loop-k-init c = simp rank_back (met_first (kind_of c.args.kind) c.requires.0 c.requires.1)
 
 pub returns-then-not-full : goal.returns-then-not-full
 returns-then-not-full c =

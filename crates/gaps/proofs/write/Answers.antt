@@ -9,11 +9,8 @@ use Rattle.key.specs.Range.{kind_of}
 use Rattle.key.proofs.Laws.{tests, rank_back, to_z_fit}
 use Rattle.key.proofs.Lawful.{lawful}
 use Rattle.key.proofs.Answers.{not_full}
-use Rattle.gaps.proofs.Steps.{met_stop, followed, set_start, set_end, going_first, going_room, going_stop, going_last, going_on}
+use Rattle.gaps.proofs.Steps.{met_stop, followed, set_start, set_end, going_room, going_stop, going_last, going_on}
 use Rattle.gaps.proofs.write.Goals as goal
-
-pub loop-k-init : goal.loop-k-init
-loop-k-init c = simp rank_back (going_first (kind_of c.args.kind) c.requires.0 c.requires.1)
 
 pub put-requires : goal.put-requires
 put-requires c =

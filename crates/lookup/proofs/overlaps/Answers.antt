@@ -34,9 +34,6 @@ returns-then-count-place c =
     let reach : Reached (kind_of a.kind) a.count a.ends.now a.start c.reaching-place.result = rw (to_z-of_z c.ranges.start) at c.reaching-place.ensures in
     met_no c.requires c.args.start c.args.end real reach (λ i. absurd (omega arith))
 
-pub offset_bounds-starts-place : goal.offset_bounds-starts-place
-offset_bounds-starts-place c = omega (arith, (good c.requires).held)
-
 pub bounds-starts-place : goal.bounds-starts-place
 bounds-starts-place c = omega (arith, (good c.requires).held)
 

@@ -18,9 +18,6 @@ returns-then-count-place c =
     let reach : Reached (kind_of a.kind) a.count a.ends.now a.key c.reaching-place.result = rw (to_z-of_z c.ranges.key) at c.reaching-place.ensures in
     place_none c.requires reach (λ i. absurd (omega arith))
 
-pub offset_bounds-starts-place : goal.offset_bounds-starts-place
-offset_bounds-starts-place c = omega (arith, (good c.requires).held)
-
 pub bounds-starts-place : goal.bounds-starts-place
 bounds-starts-place c = omega (arith, (good c.requires).held)
 

@@ -13,12 +13,6 @@ use Rattle.key.proofs.Answers.{holds, fails}
 use Rattle.store.proofs.check.inclusive.Goals as goal
 use Rattle.store.proofs.check.inclusive.Goals.{else-next-end-2-via-then-next-end-2+else-value-other, else-next-end-2-via-else-next-end-2}
 
-pub overflow_add-end : goal.overflow_add-end
-overflow_add-end c =
-    let a = c.args in
-    let room : rank (get_or a.ends.now a.k (pos 0)) < 2 ^ 64 - 1 = omega (arith, tests, rank_below (of_z w64 (get_or a.starts.now (a.k + 1) (pos 0)))) in
-    next_fits _ room
-
 pub returns-then-starts-k-clause-by_index : goal.returns-then-starts-k-clause-by_index
 returns-then-starts-k-clause-by_index c n = fails (λ w. omega (arith, tests))
 

@@ -12,9 +12,6 @@ use Rattle.key.proofs.Answers.{fails}
 use Rattle.store.proofs.Checked.{all_steps, step_follows}
 use Rattle.store.proofs.check.tidy.Goals as goal
 
-pub loop-k-init : goal.loop-k-init
-loop-k-init c = (omega arith, omega arith, (λ j h. absurd (omega arith)), λ j h. absurd (omega arith))
-
 pub returns-then-not-step-clause-decides : goal.returns-then-not-step-clause-decides
 returns-then-not-step-clause-decides c = fails (λ w. (c.step.ensures.by_index _).wrong c.if-not-step.true (step_follows (omega arith) (w _ (omega arith))))
 
@@ -32,11 +29,3 @@ returns-clause-decides c =
     let e : SFits w64 (get_or a.ends.now (a.count - 1) (pos 0)) = sfits_of c.end-1.given in
     let f = rw (to_z-of_z s, to_z-of_z e) at c.full.ensures in
     record { right = λ t. all_steps (kind_of a.kind) _ (a.count - 1) (omega arith) (λ k h. l.2 k (omega arith)) (f.right t); wrong = λ t w. f.wrong t (w (a.count - 1) (omega arith)).full }
-
-pub returns-clause-keys : goal.returns-clause-keys
-returns-clause-keys c t k h =
-    let l = c.loop-k.invariant in
-    let a = c.args in
-    let s : SFits w64 (get_or a.starts.now (a.count - 1) (pos 0)) = sfits_of c.start-1.given in
-    let e : SFits w64 (get_or a.ends.now (a.count - 1) (pos 0)) = sfits_of c.end-1.given in
-    below_more _ (a.count - 1) (λ j i. l.3 j (omega arith)) (record { start_fits = s; end_fits = e }) k (omega arith)

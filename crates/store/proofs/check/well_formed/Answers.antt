@@ -15,9 +15,6 @@ returns-then-not-unused-clause-value c =
     let kind = kind_of c.args.kind in
     (whole kind shape (omega arith) (refuses kind shape (c.unused.ensures.wrong c.if-not-unused.true)) (λ e. never e)).0
 
-pub tidy-requires : goal.tidy-requires
-tidy-requires c = let u = c.unused.ensures.right c.if-not-unused.false in omega arith
-
 pub returns-clause-value : goal.returns-clause-value
 returns-clause-value c =
     let m : Stored = stored c.args.count c.args.starts.now c.args.ends.now c.args.values.now in

@@ -7,12 +7,8 @@ use lib.ListN.{get_or}
 use lib.IntN.{pos}
 use native.Mathlib.Omega.{arith}
 use Rattle.key.proofs.Laws.{bits_inj}
-use Rattle.key.proofs.Answers.{holds, fails}
-use Rattle.store.proofs.Zeros.{seen_none, seen_more, seen_spare, spare_seen}
+use Rattle.store.proofs.Zeros.{seen_more}
 use Rattle.store.proofs.check.zeros_from.Goals as goal
-
-pub loop-k-init : goal.loop-k-init
-loop-k-init c = (omega arith, omega arith, seen_none)
 
 pub loop-k-preserved : goal.loop-k-preserved
 loop-k-preserved c =
@@ -23,9 +19,3 @@ loop-k-preserved c =
       omega arith,
       rw (of_z-to_z (Fits-or l.auto.seen (Fits-of_z f))) (seen_more _ (omega arith) (λ e. bits_inj f (sfits_lit tt) e) (λ e. ap (of_z w64) e) s),
     )
-
-pub returns-then-seen-eq0 : goal.returns-then-seen-eq0
-returns-then-seen-eq0 c = holds (seen_spare (omega arith) (rw (of_z-to_z c.loop-k.auto.seen) at c.loop-k.invariant.2) c.if-seen-eq0.true)
-
-pub returns : goal.returns
-returns c = fails (λ w. c.if-seen-eq0.false (spare_seen (rw (of_z-to_z c.loop-k.auto.seen) at c.loop-k.invariant.2) w))

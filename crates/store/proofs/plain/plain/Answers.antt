@@ -1,12 +1,9 @@
 use native.Mathlib.Omega.{arith}
 use mathlib.Core.Path.{sym}
 use Rattle.outcomes.proofs.Formed.{noughts_all, all_noughts}
-use Rattle.store.proofs.Zeros.{seen_none, seen_more, seen_spare, spare_seen}
+use Rattle.store.proofs.Zeros.{seen_more, seen_spare, spare_seen}
 use Rattle.store.proofs.Checked.{refused}
 use Rattle.store.proofs.plain.plain.Goals as goal
-
-pub loop-k-init : goal.loop-k-init
-loop-k-init c = (omega arith, seen_none)
 
 pub loop-k-preserved : goal.loop-k-preserved
 loop-k-preserved c = (omega arith, seen_more _ (omega arith) (λ e. e) (λ e. e) c.loop-k.invariant.1)

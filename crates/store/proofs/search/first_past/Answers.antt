@@ -6,20 +6,11 @@ use borrow.Author.Rules.{sfits_of}
 use mir.Syntax.{w64}
 use mir.Val.{SFits}
 use mir.Facts.{to_z-of_z}
-use Rattle.store.proofs.Seeking.{halved, found_past}
+use Rattle.store.proofs.Seeking.{halved}
 use Rattle.store.proofs.search.first_past.Goals as goal
-
-pub loop-left-init : goal.loop-left-init
-loop-left-init c =
-    record { from = omega arith; within = omega arith; before = λ j h b. absurd (omega arith); at = λ h. absurd (omega arith) }
 
 pub loop-left-preserved : goal.loop-left-preserved
 loop-left-preserved c =
     let l = c.loop-left in
     let f : SFits w64 (get_or c.args.keys.now (l.low + l.left / 2) (pos 0)) = sfits_of c.middle-1.given in
     rw c.advance-low.ensures (halved c.requires.2 l.invariant (omega arith) c.full-goes.result (rw (to_z-of_z f) at c.full-goes.ensures))
-
-pub returns : goal.returns
-returns c =
-    let l = c.loop-left in
-    found_past l.left (omega arith) (rw (to_z-of_z c.ranges.end) at l.invariant)
