@@ -17,7 +17,7 @@ use test_print::{
 // As many places as the lists of a step have at most.
 const LISTED: usize = 9;
 
-#[derive(Drop)]
+#[derive(Clone, Copy)]
 struct Map {
     kind: RangeKind,
     count: usize,
@@ -27,7 +27,7 @@ struct Map {
 }
 
 // Entries for a bulk insert.
-#[derive(Drop)]
+#[derive(Clone, Copy)]
 struct List {
     length: usize,
     starts: [i64; LISTED],
@@ -35,7 +35,7 @@ struct List {
     values: [u8; LISTED],
 }
 
-#[derive(Drop)]
+#[derive(Clone, Copy)]
 struct Step {
     what: u8,
     one: u8,
@@ -311,7 +311,7 @@ fn new(kind: RangeKind) -> Map {
 }
 
 // What an edit answers, and the map that it leaves.
-#[derive(Drop)]
+#[derive(Clone, Copy)]
 struct Edited {
     answer: u8,
     map: Map,
@@ -737,7 +737,7 @@ fn edit(m: Map, s: Step) -> Map {
 }
 
 // What the steps work on.
-#[derive(Drop)]
+#[derive(Clone, Copy)]
 struct State {
     map: Map,
     other: Map,

@@ -12,7 +12,7 @@ use test_print::{print, print_key, print_list, print_number, print_range, print_
 // No question has a longer query.
 const MOST: usize = 80;
 
-#[derive(Drop)]
+#[derive(Clone, Copy)]
 struct Map {
     count: usize,
     starts: [i64; PLACES],

@@ -7,7 +7,7 @@ use outcomes::PLACES;
 use report::DayReport;
 use test_print::{print, print_found, print_number};
 
-#[derive(Drop)]
+#[derive(Clone, Copy)]
 struct Map {
     count: usize,
     starts: [i64; PLACES],

@@ -11,7 +11,7 @@ use operations::Operation;
 use outcomes::{Count, Order, PLACES, Range, Stretch, Told, Total};
 use test_print::{Ends, key_at, print, print_field, print_key, print_list, print_range, range_at};
 
-#[derive(Drop)]
+#[derive(Clone, Copy)]
 struct Set {
     count: usize,
     starts: [i64; PLACES],
@@ -71,7 +71,7 @@ fn new() -> Set {
 }
 
 // What an edit answers, and the set that it leaves.
-#[derive(Drop)]
+#[derive(Clone, Copy)]
 struct Edited {
     answer: u8,
     set: Set,
