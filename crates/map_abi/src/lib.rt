@@ -1,4 +1,4 @@
-// The functions of a map of either kind, over its fields, with their answers as structs of numbers: what C and Rust see. The exported functions of
+// The functions of a map of either kind, over its fields, with their answers as structs of numbers: what C and Rust see. The functions of
 // `map` and `inclusive_map` name their kind and lend all the fields of their map to these.
 #![tactic(auto)]
 
@@ -160,7 +160,8 @@ pub fn eq(
     ends2: &[i64; PLACES],
     values2: &[Value; PLACES],
 ) -> Told
-    ensures { result ≡ asked_in_c (equal (kind_of kind) (stored count.now starts.now ends.now values.now) (stored count2.now starts2.now ends2.now values2.now)) }
+    ensures { result ≡ asked_in_c
+        (equal (kind_of kind) (stored count.now starts.now ends.now values.now) (stored count2.now starts2.now ends2.now values2.now)) }
 {
     told_of(map_ops::list::eq(
         kind, count, starts, ends, values, count2, starts2, ends2, values2,
@@ -178,7 +179,8 @@ pub fn cmp(
     ends2: &[i64; PLACES],
     values2: &[Value; PLACES],
 ) -> Order
-    ensures { result ≡ compared_in_c (order (kind_of kind) (stored count.now starts.now ends.now values.now) (stored count2.now starts2.now ends2.now values2.now)) }
+    ensures { result ≡ compared_in_c
+        (order (kind_of kind) (stored count.now starts.now ends.now values.now) (stored count2.now starts2.now ends2.now values2.now)) }
 {
     order_of(map_ops::list::cmp(
         kind, count, starts, ends, values, count2, starts2, ends2, values2,
@@ -195,7 +197,8 @@ pub fn insert(
     end: i64,
     value: Value,
 ) -> u8
-    ensures { leaving result (stored count.new starts.new ends.new values.new) ≡ insert (kind_of kind) (stored count.old starts.old ends.old values.old) start end value }
+    ensures { leaving result (stored count.new starts.new ends.new values.new)
+        ≡ insert (kind_of kind) (stored count.old starts.old ends.old values.old) start end value }
 {
     number_of(map_ops::change::insert(kind, count, starts, ends, values, start, end, value))
 }
@@ -209,7 +212,8 @@ pub fn remove(
     start: i64,
     end: i64,
 ) -> u8
-    ensures { leaving result (stored count.new starts.new ends.new values.new) ≡ remove (kind_of kind) (stored count.old starts.old ends.old values.old) start end }
+    ensures { leaving result (stored count.new starts.new ends.new values.new)
+        ≡ remove (kind_of kind) (stored count.old starts.old ends.old values.old) start end }
 {
     number_of(map_ops::change::remove(kind, count, starts, ends, values, start, end))
 }
@@ -273,7 +277,8 @@ pub fn insert_unchecked(
     value: Value,
 ) -> u8
     requires { Sound (kind_of kind) (stored count.old starts.old ends.old values.old) }
-    ensures { leaving result (stored count.new starts.new ends.new values.new) ≡ edit_sound (kind_of kind) places (stored count.old starts.old ends.old values.old) start end (some value) }
+    ensures { leaving result (stored count.new starts.new ends.new values.new)
+        ≡ edit_sound (kind_of kind) places (stored count.old starts.old ends.old values.old) start end (some value) }
 {
     number_of(edit::insert(kind, count, starts, ends, values, start, end, value))
 }
@@ -288,7 +293,8 @@ pub fn remove_unchecked(
     end: i64,
 ) -> u8
     requires { Sound (kind_of kind) (stored count.old starts.old ends.old values.old) }
-    ensures { leaving result (stored count.new starts.new ends.new values.new) ≡ edit_sound (kind_of kind) places (stored count.old starts.old ends.old values.old) start end none }
+    ensures { leaving result (stored count.new starts.new ends.new values.new)
+        ≡ edit_sound (kind_of kind) places (stored count.old starts.old ends.old values.old) start end none }
 {
     number_of(edit::remove(kind, count, starts, ends, values, start, end))
 }

@@ -1,4 +1,4 @@
-// The byte form of a `RangeMap`: the exported functions, for C and Rust. Each lends all the fields of its map to the writer or to the reader.
+// The byte form of a `RangeMap`: the functions that `hourledger_c` exports. Each lends all the fields of its map to the writer or to the reader.
 #![tactic(auto)]
 
 ghost use Rattle.map_bytes.specs.Promises.{RangeMapWrite, RangeMapRead};

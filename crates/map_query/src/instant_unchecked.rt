@@ -26,7 +26,8 @@ fn in_numbers(
     bytes: &[u8],
     key: i64,
 ) -> Told
-    requires { Sound half_open (stored count_a.now starts_a.now ends_a.now values_a.now) × Sound half_open (stored count_b.now starts_b.now ends_b.now values_b.now) }
+    requires { Sound half_open (stored count_a.now starts_a.now ends_a.now values_a.now)
+        × Sound half_open (stored count_b.now starts_b.now ends_b.now values_b.now) }
     ensures { result ≡ asked_in_c (query_at_sound (stored count_a.now starts_a.now ends_a.now values_a.now)
         (stored count_b.now starts_b.now ends_b.now values_b.now) start end bytes.now key) }
 {

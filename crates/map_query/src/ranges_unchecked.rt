@@ -26,7 +26,8 @@ fn in_numbers(
     out_starts: &mut [i64],
     out_ends: &mut [i64],
 ) -> Count
-    requires { Sound half_open (stored count_a.now starts_a.now ends_a.now values_a.now) × Sound half_open (stored count_b.now starts_b.now ends_b.now values_b.now) }
+    requires { Sound half_open (stored count_a.now starts_a.now ends_a.now values_a.now)
+        × Sound half_open (stored count_b.now starts_b.now ends_b.now values_b.now) }
     ensures { Listed result out_starts.new out_ends.new
         (query_ranges_sound (stored count_a.now starts_a.now ends_a.now values_a.now)
         (stored count_b.now starts_b.now ends_b.now values_b.now) start end bytes.now

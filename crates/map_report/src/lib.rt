@@ -1,5 +1,5 @@
-// A day's report of a map, for C and Rust. Each exported function has a file of its own, so that each line of code stands once in its file and a wrong one
-// can be tried.
+// A day's report of a map: the functions that `hourledger_c` exports. Each has a file of its own, so that each line of code stands once in its file
+// and a wrong one can be tried.
 #![tactic(auto)]
 
 ghost use Rattle.map_report.specs.Promises.{RangeMapDayReport};

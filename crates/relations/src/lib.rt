@@ -1,5 +1,5 @@
 // Module 1: contains, overlaps, touches and intersect, for ranges of either kind. From range_wrapper.rs, std_ext.rs and operations.rs of rangemap.
-// The exported functions stand in mod half_open and mod inclusive, and name their kind.
+// The functions that `relations_c` exports stand in mod half_open and mod inclusive, and name their kind.
 #![tactic(auto)]
 
 pub mod half_open;

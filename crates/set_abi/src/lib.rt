@@ -1,4 +1,4 @@
-// The functions of a set of either kind, over its fields, with their answers as structs of numbers: what C and Rust see. The exported functions of
+// The functions of a set of either kind, over its fields, with their answers as structs of numbers: what C and Rust see. The functions of
 // `set` and `inclusive_set` name their kind and lend all the fields of their set to these.
 #![tactic(auto)]
 
@@ -31,7 +31,8 @@ pub fn is_empty(
     ends: &[i64; PLACES],
     values: &[Value; PLACES],
 ) -> Told
-    ensures { result ≡ asked_in_c (if_set (stored count.now starts.now ends.now values.now) (is_empty (kind_of kind) (stored count.now starts.now ends.now values.now)) Asked.Refused) }
+    ensures { result ≡ asked_in_c (if_set (stored count.now starts.now ends.now values.now)
+        (is_empty (kind_of kind) (stored count.now starts.now ends.now values.now)) Asked.Refused) }
 {
     told_of(set_ops::stored::is_empty(kind, count, starts, ends, values))
 }
@@ -43,7 +44,8 @@ pub fn len(
     ends: &[i64; PLACES],
     values: &[Value; PLACES],
 ) -> Count
-    ensures { result ≡ counted_in_c (if_set (stored count.now starts.now ends.now values.now) (count_of (kind_of kind) (stored count.now starts.now ends.now values.now)) Counted.Refused) }
+    ensures { result ≡ counted_in_c (if_set (stored count.now starts.now ends.now values.now)
+        (count_of (kind_of kind) (stored count.now starts.now ends.now values.now)) Counted.Refused) }
 {
     count_of(set_ops::stored::len(kind, count, starts, ends, values))
 }
@@ -56,7 +58,8 @@ pub fn range_at(
     values: &[Value; PLACES],
     place: usize,
 ) -> Range
-    ensures { result ≡ found_in_c (if_set (stored count.now starts.now ends.now values.now) (range_at (kind_of kind) (stored count.now starts.now ends.now values.now) place) Found.Refused) }
+    ensures { result ≡ found_in_c (if_set (stored count.now starts.now ends.now values.now)
+        (range_at (kind_of kind) (stored count.now starts.now ends.now values.now) place) Found.Refused) }
 {
     range_of(set_ops::stored::range_at(kind, count, starts, ends, values, place))
 }
@@ -68,7 +71,8 @@ pub fn first(
     ends: &[i64; PLACES],
     values: &[Value; PLACES],
 ) -> Range
-    ensures { result ≡ found_in_c (if_set (stored count.now starts.now ends.now values.now) (first_of (kind_of kind) (stored count.now starts.now ends.now values.now)) Found.Refused) }
+    ensures { result ≡ found_in_c (if_set (stored count.now starts.now ends.now values.now)
+        (first_of (kind_of kind) (stored count.now starts.now ends.now values.now)) Found.Refused) }
 {
     range_of(set_ops::stored::first(kind, count, starts, ends, values))
 }
@@ -80,7 +84,8 @@ pub fn last(
     ends: &[i64; PLACES],
     values: &[Value; PLACES],
 ) -> Range
-    ensures { result ≡ found_in_c (if_set (stored count.now starts.now ends.now values.now) (last_of (kind_of kind) (stored count.now starts.now ends.now values.now)) Found.Refused) }
+    ensures { result ≡ found_in_c (if_set (stored count.now starts.now ends.now values.now)
+        (last_of (kind_of kind) (stored count.now starts.now ends.now values.now)) Found.Refused) }
 {
     range_of(set_ops::stored::last(kind, count, starts, ends, values))
 }
@@ -93,7 +98,8 @@ pub fn get(
     values: &[Value; PLACES],
     key: i64,
 ) -> Range
-    ensures { result ≡ found_in_c (if_set (stored count.now starts.now ends.now values.now) (lookup (kind_of kind) (stored count.now starts.now ends.now values.now) key) Found.Refused) }
+    ensures { result ≡ found_in_c (if_set (stored count.now starts.now ends.now values.now)
+        (lookup (kind_of kind) (stored count.now starts.now ends.now values.now) key) Found.Refused) }
 {
     range_of(set_ops::found::get(kind, count, starts, ends, values, key))
 }
@@ -106,7 +112,8 @@ pub fn contains(
     values: &[Value; PLACES],
     key: i64,
 ) -> Told
-    ensures { result ≡ asked_in_c (if_set (stored count.now starts.now ends.now values.now) (contains (kind_of kind) (stored count.now starts.now ends.now values.now) key) Asked.Refused) }
+    ensures { result ≡ asked_in_c (if_set (stored count.now starts.now ends.now values.now)
+        (contains (kind_of kind) (stored count.now starts.now ends.now values.now) key) Asked.Refused) }
 {
     told_of(set_ops::found::contains(kind, count, starts, ends, values, key))
 }
@@ -153,7 +160,8 @@ pub fn gaps(
     out_ends: &mut [i64],
 ) -> Count
     ensures { Listed result out_starts.new out_ends.new
-        (if_set (stored count.now starts.now ends.now values.now) (gaps (kind_of kind) (stored count.now starts.now ends.now values.now) start end out_starts.old out_ends.old)
+        (if_set (stored count.now starts.now ends.now values.now)
+        (gaps (kind_of kind) (stored count.now starts.now ends.now values.now) start end out_starts.old out_ends.old)
         (λ n. not_written n out_starts.old out_ends.old)) }
 {
     count_of(set_ops::found::gaps(

@@ -64,7 +64,8 @@ pub fn extend(
     new_ends: &[i64],
 ) -> Applied
     ensures { extended result (stored count.new starts.new ends.new values.new)
-        ≡ if_set (stored count.old starts.old ends.old values.old) (bulk_insert (kind_of kind) (stored count.old starts.old ends.old values.old) (pairs new_starts.now new_ends.now))
+        ≡ if_set (stored count.old starts.old ends.old values.old)
+        (bulk_insert (kind_of kind) (stored count.old starts.old ends.old values.old) (pairs new_starts.now new_ends.now))
         (λ n. extended (record { answer = n; applied = 0 }) (stored count.old starts.old ends.old values.old)) }
 {
     if !plain(values) {

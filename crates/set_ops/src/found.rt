@@ -20,7 +20,8 @@ pub fn get(
     values: &[Value; PLACES],
     key: i64,
 ) -> Found
-    ensures { result ≡ if_set (stored count.now starts.now ends.now values.now) (lookup (kind_of kind) (stored count.now starts.now ends.now values.now) key) Found.Refused }
+    ensures { result ≡ if_set (stored count.now starts.now ends.now values.now)
+        (lookup (kind_of kind) (stored count.now starts.now ends.now values.now) key) Found.Refused }
 {
     if !plain(values) {
         return Found::Refused(NOT_FORMED);
@@ -37,7 +38,8 @@ pub fn contains(
     values: &[Value; PLACES],
     key: i64,
 ) -> Asked
-    ensures { result ≡ if_set (stored count.now starts.now ends.now values.now) (contains (kind_of kind) (stored count.now starts.now ends.now values.now) key) Asked.Refused }
+    ensures { result ≡ if_set (stored count.now starts.now ends.now values.now)
+        (contains (kind_of kind) (stored count.now starts.now ends.now values.now) key) Asked.Refused }
 {
     if !plain(values) {
         return Asked::Refused(NOT_FORMED);
@@ -55,7 +57,8 @@ pub fn overlaps(
     start: i64,
     end: i64,
 ) -> Asked
-    ensures { result ≡ if_set (stored count.now starts.now ends.now values.now) (overlaps (kind_of kind) (stored count.now starts.now ends.now values.now) start end) Asked.Refused }
+    ensures { result ≡ if_set (stored count.now starts.now ends.now values.now)
+        (overlaps (kind_of kind) (stored count.now starts.now ends.now values.now) start end) Asked.Refused }
 {
     if !plain(values) {
         return Asked::Refused(NOT_FORMED);
@@ -73,7 +76,8 @@ pub fn overlapping(
     start: i64,
     end: i64,
 ) -> Part
-    ensures { result ≡ if_set (stored count.now starts.now ends.now values.now) (overlapping (kind_of kind) (stored count.now starts.now ends.now values.now) start end) Part.Refused }
+    ensures { result ≡ if_set (stored count.now starts.now ends.now values.now)
+        (overlapping (kind_of kind) (stored count.now starts.now ends.now values.now) start end) Part.Refused }
 {
     if !plain(values) {
         return Part::Refused(NOT_FORMED);
@@ -94,7 +98,8 @@ pub fn gaps(
     out_ends: &mut [i64],
 ) -> Counted
     ensures { wrote result out_starts.new out_ends.new
-        ≡ if_set (stored count.now starts.now ends.now values.now) (gaps (kind_of kind) (stored count.now starts.now ends.now values.now) start end out_starts.old out_ends.old)
+        ≡ if_set (stored count.now starts.now ends.now values.now)
+        (gaps (kind_of kind) (stored count.now starts.now ends.now values.now) start end out_starts.old out_ends.old)
         (λ n. not_written n out_starts.old out_ends.old) }
 {
     if !plain(values) {

@@ -18,7 +18,8 @@ pub fn is_empty(
     ends: &[i64; PLACES],
     values: &[Value; PLACES],
 ) -> Asked
-    ensures { result ≡ if_set (stored count.now starts.now ends.now values.now) (is_empty (kind_of kind) (stored count.now starts.now ends.now values.now)) Asked.Refused }
+    ensures { result ≡ if_set (stored count.now starts.now ends.now values.now)
+        (is_empty (kind_of kind) (stored count.now starts.now ends.now values.now)) Asked.Refused }
 {
     if !plain(values) {
         return Asked::Refused(NOT_FORMED);
@@ -34,7 +35,8 @@ pub fn len(
     ends: &[i64; PLACES],
     values: &[Value; PLACES],
 ) -> Counted
-    ensures { result ≡ if_set (stored count.now starts.now ends.now values.now) (count_of (kind_of kind) (stored count.now starts.now ends.now values.now)) Counted.Refused }
+    ensures { result ≡ if_set (stored count.now starts.now ends.now values.now)
+        (count_of (kind_of kind) (stored count.now starts.now ends.now values.now)) Counted.Refused }
 {
     if !plain(values) {
         return Counted::Refused(NOT_FORMED);
@@ -51,7 +53,8 @@ pub fn range_at(
     values: &[Value; PLACES],
     place: usize,
 ) -> Found
-    ensures { result ≡ if_set (stored count.now starts.now ends.now values.now) (range_at (kind_of kind) (stored count.now starts.now ends.now values.now) place) Found.Refused }
+    ensures { result ≡ if_set (stored count.now starts.now ends.now values.now)
+        (range_at (kind_of kind) (stored count.now starts.now ends.now values.now) place) Found.Refused }
 {
     if !plain(values) {
         return Found::Refused(NOT_FORMED);
@@ -67,7 +70,8 @@ pub fn first(
     ends: &[i64; PLACES],
     values: &[Value; PLACES],
 ) -> Found
-    ensures { result ≡ if_set (stored count.now starts.now ends.now values.now) (first_of (kind_of kind) (stored count.now starts.now ends.now values.now)) Found.Refused }
+    ensures { result ≡ if_set (stored count.now starts.now ends.now values.now)
+        (first_of (kind_of kind) (stored count.now starts.now ends.now values.now)) Found.Refused }
 {
     if !plain(values) {
         return Found::Refused(NOT_FORMED);
@@ -83,7 +87,8 @@ pub fn last(
     ends: &[i64; PLACES],
     values: &[Value; PLACES],
 ) -> Found
-    ensures { result ≡ if_set (stored count.now starts.now ends.now values.now) (last_of (kind_of kind) (stored count.now starts.now ends.now values.now)) Found.Refused }
+    ensures { result ≡ if_set (stored count.now starts.now ends.now values.now)
+        (last_of (kind_of kind) (stored count.now starts.now ends.now values.now)) Found.Refused }
 {
     if !plain(values) {
         return Found::Refused(NOT_FORMED);

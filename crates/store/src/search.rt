@@ -7,7 +7,7 @@ use key::{RangeKind, full};
 
 // `low`, or the place `step` places on where the search goes on. It is computed and not jumped to: no processor foresees in which half a key lies,
 // and a branch that was mistaken takes longer than a comparison. The compiler makes a branch of what it sees as a choice, as an `if`, a product, or
-// a shift to the right by 63 or by none; of this it makes none (docs/changes/W-201.md).
+// a shift to the right by 63 or by none; of this it makes none.
 fn advance(low: usize, step: usize, goes: bool) -> usize
     requires { low + 2 * step < 2 ^ 64 }
     ensures { result ≡ low + cond goes step 0 }

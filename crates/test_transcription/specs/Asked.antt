@@ -64,7 +64,9 @@ unfoldable pub of_two : ℕ → ℕ → ℕ → List (List Span)
 of_two o a b = small_map o a b 0 ∷ small_map o a b 1 ∷ small_map o a b 2 ∷ []
 
 unfoldable pub small_maps : ℕ → List (List Span)
-small_maps o = (of_two o 0 0 ++ (of_two o 0 1 ++ of_two o 0 2)) ++ ((of_two o 1 0 ++ (of_two o 1 1 ++ of_two o 1 2)) ++ (of_two o 2 0 ++ (of_two o 2 1 ++ of_two o 2 2)))
+small_maps o =
+    (of_two o 0 0 ++ (of_two o 0 1 ++ of_two o 0 2))
+    ++ ((of_two o 1 0 ++ (of_two o 1 1 ++ of_two o 1 2)) ++ (of_two o 2 0 ++ (of_two o 2 1 ++ of_two o 2 2)))
 
 -- the ranges of a set have the label 0
 unfoldable pub plainly : List Span → List Span
