@@ -24,15 +24,11 @@ use Rattle.outcomes.specs.Numbers.{asked_in_c, counted_in_c, found_in_c, part_in
 use Rattle.outcomes.specs.Sets.{if_set, if_sets, pairs, union, intersection}
 use Rattle.outcomes.specs.declared.Applied.{Applied}
 use Rattle.outcomes.specs.declared.Asked.{Asked}
-use Rattle.outcomes.specs.declared.Asked.TheVariants as Asked
 use Rattle.outcomes.specs.declared.Compared.TheVariants as Compared
 use Rattle.outcomes.specs.declared.Count.{Count}
 use Rattle.outcomes.specs.declared.Counted.{Counted}
-use Rattle.outcomes.specs.declared.Counted.TheVariants as Counted
 use Rattle.outcomes.specs.declared.Found.{Found}
-use Rattle.outcomes.specs.declared.Found.TheVariants as Found
 use Rattle.outcomes.specs.declared.Part.{Part}
-use Rattle.outcomes.specs.declared.Part.TheVariants as Part
 use Rattle.rust_algorithm.specs.Answers.{Functions, rust_edited, rust_run}
 use Rattle.rust_algorithm.specs.Equal.{LentMap, ListGiven, EqualToTheRust, entry_spans}
 use Rattle.one_map.specs.Events.{Proper}

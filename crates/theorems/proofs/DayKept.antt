@@ -21,7 +21,6 @@ use Rattle.duty.proofs.Sums.{same_totals, same_strange}
 use Rattle.log_day.specs.Days.{day_of}
 use Rattle.log_day.specs.Promises.{LogDayPromise}
 use Rattle.log_day.specs.declared.Day.{Day}
-use Rattle.log_day.specs.declared.Day.TheVariants as Day
 use Rattle.log_day.specs.declared.LogDay.{LogDay}
 use Rattle.report.specs.Report.{day_report, reported_in_c}
 use Rattle.report.specs.declared.DayReport.{DayReport}

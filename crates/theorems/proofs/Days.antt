@@ -18,14 +18,12 @@ use Rattle.calendar.specs.Calendar.{date, next_date}
 use Rattle.log_day.specs.Days.{day_of, day_in_c}
 use Rattle.log_day.specs.Promises.{LogDayPromise}
 use Rattle.log_day.specs.declared.Day.{Day}
-use Rattle.log_day.specs.declared.Day.TheVariants as Day
 use Rattle.log_day.specs.declared.LogDay.{LogDay}
 use Rattle.log_day.proofs.Spans.{Length, refused_is, meet}
 use Rattle.log_day.proofs.Spans as Spans
 use Rattle.report.specs.Report.{with_keys, day_report_sound, day_report, reported_in_c}
 use Rattle.report.specs.declared.DayReport.{DayReport}
 use Rattle.report.specs.declared.Reported.{Reported}
-use Rattle.report.specs.declared.Reported.TheVariants as Reported
 use Rattle.report.proofs.Laws.{told, report_sum}
 use Rattle.map.specs.declared.RangeMap.{RangeMap}
 use Rattle.map.specs.Map.{held}

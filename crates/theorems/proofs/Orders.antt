@@ -19,7 +19,6 @@ use Rattle.duty.specs.Duty.{strange, totals_of, tally_sound}
 use Rattle.duty.specs.declared.Tallied.TheVariants as Tallied
 use Rattle.log_day.specs.Days.{day_of}
 use Rattle.log_day.specs.declared.Day.{Day}
-use Rattle.log_day.specs.declared.Day.TheVariants as Day
 use Rattle.log_day.proofs.Spans.{refused_is}
 use Rattle.report.specs.Report.{with_keys, day_report_sound, day_report, reported_in_c}
 use Rattle.report.specs.declared.DayReport.{DayReport}

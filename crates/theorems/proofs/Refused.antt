@@ -24,11 +24,9 @@ use Rattle.outcomes.specs.declared.Total.{Total}
 use Rattle.byte_form.specs.Form.{Output, Wrote}
 use Rattle.log_day.specs.Days.{day_in_c}
 use Rattle.log_day.specs.declared.Day.{Day}
-use Rattle.log_day.specs.declared.Day.TheVariants as Day
 use Rattle.log_day.specs.declared.LogDay.{LogDay}
 use Rattle.report.specs.Report.{reported_in_c}
 use Rattle.report.specs.declared.Reported.{Reported}
-use Rattle.report.specs.declared.Reported.TheVariants as Reported
 use Rattle.report.specs.declared.DayReport.{DayReport}
 use Rattle.one_map.proofs.Refusals.{Kept, BytesKept, told_zero, count_zero, range_zero, stretch_zero, order_zero, total_zero}
 
