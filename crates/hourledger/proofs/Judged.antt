@@ -6,7 +6,7 @@ use mathlib.Core.Bool.{Bool, true, false}
 use Rattle.answers.specs.Answers.{bad_day}
 use Rattle.calendar.specs.Calendar.{date}
 use Rattle.calendar.proofs.Lengths.{month_short}
-use Rattle.log_day.specs.Days.{zones, accepted, day_of}
+use Rattle.log_day.specs.Days.{accepted, day_of}
 use Rattle.log_day.specs.declared.Day.TheVariants as Day
 use Rattle.log_day.proofs.Accepted.{good, refuses}
 

@@ -14,7 +14,6 @@ use Rattle.key.specs.Range.{half_open}
 use Rattle.outcomes.specs.Stored.{places, Stored}
 use Rattle.outcomes.specs.Outcomes.{not_written, formed, leaving, Written, into_lists}
 use Rattle.outcomes.specs.declared.Counted.{Counted}
-use Rattle.outcomes.specs.declared.Counted.TheVariants as Counted
 use Rattle.outcomes.proofs.Formed as well
 use Rattle.byte_form.specs.Layout.{rm01}
 use Rattle.byte_form.specs.Form.{form_of, Output, output, into_output, read}

@@ -3,7 +3,6 @@ use Rattle.std.specs.Prelude.{ℕ, ◌≤◌, List, length}
 use Rattle.key.specs.Range.{half_open}
 use Rattle.outcomes.specs.Stored.{places, Stored, Sound}
 use Rattle.hourledger.specs.declared.input.Input.{Input}
-use Rattle.hourledger.specs.declared.input.Input.TheVariants as Input
 
 -- what was read has room in the lent bytes
 abbrev pub Held : Input → List ℕ → Type 0
