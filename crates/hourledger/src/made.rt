@@ -2,7 +2,7 @@
 ghost use Rattle.hourledger.specs.InnerInput.{Held};
 
 use crate::input::{Input, read_all};
-use crate::output::{fail, print, say};
+use crate::output::{fail, print, print_error};
 use byte_form::rm01::LONGEST;
 use edit_lines::Made;
 use edit_lines::said::{TOLD_ROOM, told_text};
@@ -12,10 +12,10 @@ use outcomes::{Counted, PLACES};
 // The most bytes that are taken, and a byte more.
 const ROOM: usize = 1048577;
 
-fn told(rt: &HostRuntime, made: Made) {
+fn say(rt: &HostRuntime, made: Made) {
     let mut out = [0u8; TOLD_ROOM];
     let n = told_text(made, &mut out);
-    say(rt, &out, n);
+    print_error(rt, &out, n);
 }
 
 fn write_form<'a>(
@@ -40,7 +40,7 @@ fn of_text(rt: &HostRuntime, text: &[u8]) {
     let made = edit_lines::make(text, &mut count, &mut starts, &mut ends, &mut values);
     match made {
         Made::Done => write_form(rt, &count, &starts, &ends, &values),
-        _ => told(rt, made),
+        _ => say(rt, made),
     }
 }
 
@@ -56,7 +56,7 @@ fn of_input(rt: &HostRuntime, got: Input, bytes: &[u8])
 {
     match got {
         Input::Bytes(n) => of_text(rt, &bytes[..n]),
-        Input::TooLong => say(rt, b"too long\n", 9),
+        Input::TooLong => print_error(rt, b"too long\n", 9),
         Input::Failed(e) => fail(rt, b"standard input", &e),
     }
 }

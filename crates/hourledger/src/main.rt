@@ -10,16 +10,24 @@ mod output;
 mod ranges;
 mod words;
 
-use crate::output::{print, say};
 use command::Command;
+use std::io::Write;
 
-// How the program is called.
-const USAGE: [u8; 217] = *b"hourledger [ranges] < FORM\n\
-    hourledger day ZONE YEAR MONTH DAY < FORM\n\
-    hourledger graph ZONE YEAR MONTH DAY [--svg] < FORM\n\
-    hourledger query START END QUERY FILE_A FILE_B\n\
-    hourledger make < LINES > FORM\n\
-    hourledger --help\n";
+// How the program is called. Where that cannot be written, there is nobody left to tell.
+fn usage<W: Write + Drop>(mut out: W) {
+    let written = out.write_all(
+        b"hourledger [ranges] < FORM\n\
+        hourledger day ZONE YEAR MONTH DAY < FORM\n\
+        hourledger graph ZONE YEAR MONTH DAY [--svg] < FORM\n\
+        hourledger query START END QUERY FILE_A FILE_B\n\
+        hourledger make < LINES > FORM\n\
+        hourledger --help\n",
+    );
+    match written {
+        Ok(()) => {}
+        Err(_) => {}
+    }
+}
 
 fn main(rt: HostRuntime) {
     let command = words::asked(&rt);
@@ -30,7 +38,7 @@ fn main(rt: HostRuntime) {
         ),
         Command::Query(start, end) => asked::run(&rt, start, end),
         Command::Make => made::run(&rt),
-        Command::Help => print(&rt, &USAGE, USAGE.len()),
-        Command::Other => say(&rt, &USAGE, USAGE.len()),
+        Command::Help => usage(rt.stdout()),
+        Command::Other => usage(rt.stderr()),
     }
 }

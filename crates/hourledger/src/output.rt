@@ -30,7 +30,7 @@ pub fn print(rt: &HostRuntime, bytes: &[u8], n: usize)
 }
 
 // The same on standard error.
-pub fn say(rt: &HostRuntime, bytes: &[u8], n: usize)
+pub fn print_error(rt: &HostRuntime, bytes: &[u8], n: usize)
     requires { n ≤ length bytes.now }
 {
     let mut out = rt.stderr();
