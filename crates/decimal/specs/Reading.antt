@@ -1,4 +1,4 @@
--- What a text says as a number. It says one exactly where it is that number's text: `read_written` and `Written-Read` in proofs/Reading.antt.
+-- What a text says as a number. It says one exactly where it is that number's text: `read_written` and `written_read` in proofs/Reading.antt.
 use Rattle.std.specs.Prelude.{ℕ, zero, suc, ◌+◌, ◌-◌, ◌*◌, ◌^◌, Bool, true, false, cond, not, ◌&&◌, List, [], ◌∷◌, ltb, leb, eqb, pos, negsuc}
 use Rattle.decimal.specs.declared.Numeral.{Numeral}
 use Rattle.decimal.specs.declared.Signed.{Signed}

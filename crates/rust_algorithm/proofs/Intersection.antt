@@ -42,15 +42,15 @@ last_intersect x y h i =
 
 -- of two sets, by what the two kinds agree on where no range is empty
 module _
-    (end_of_lem : Span → ℕ) (intersect : Span → Span → Option Span)
-    (first_ends : (x y : Span) → x.lo < x.hi → y.lo < y.hi → ltb (end_of_lem x) (end_of_lem y) ≡ ltb x.hi y.hi)
+    (end_of : Span → ℕ) (intersect : Span → Span → Option Span)
+    (first_ends : (x y : Span) → x.lo < x.hi → y.lo < y.hi → ltb (end_of x) (end_of y) ≡ ltb x.hi y.hi)
     (is : (x y : Span) → x.lo < x.hi → y.lo < y.hi → intersect x y ≡ range_intersect x y) where
   -- one call of next: the next range, if there is one, and what is left
   record Given (n : ℕ) (a b : List Span) : Type 0 where
     range : Option Span
     left : List Span
     right : List Span
-    runs : intersection_next end_of_lem intersect n a b ≡ some (pair_step range left right)
+    runs : intersection_next end_of intersect n a b ≡ some (pair_step range left right)
     left_set : Spaced 0 left
     right_set : Spaced 0 right
     whole : common a b ≡ in_front_of range (common left right)
@@ -58,8 +58,8 @@ module _
     over : if_let range (λ r. []) (common left right) ≡ []
 
   module _ (n : ℕ) (x y : Span) (xs ys c d : List Span) (s : Spaced 0 (x ∷ xs)) (t : Spaced 0 (y ∷ ys)) (v : Spaced 0 c) (w : Spaced 0 d)
-      (run : intersection_next end_of_lem intersect (suc n) (x ∷ xs) (y ∷ ys)
-      ≡ if_let (intersect x y) (λ r. some (pair_step (some r) c d)) (intersection_next end_of_lem intersect n c d))
+      (run : intersection_next end_of intersect (suc n) (x ∷ xs) (y ∷ ys)
+      ≡ if_let (intersect x y) (λ r. some (pair_step (some r) c d)) (intersection_next end_of intersect n c d))
       (whole : common (x ∷ xs) (y ∷ ys) ≡ meet x y ++ common c d) (fewer : suc (length c + length d) ≡ length (x ∷ xs) + length (y ∷ ys)) where
     -- the two have something in common, or what comes after them is asked
     after_one : (z : Option Span) → range_intersect x y ≡ z → Given n c d → Given (suc n) (x ∷ xs) (y ∷ ys)
@@ -87,14 +87,14 @@ module _
     }
 
   pops_left : (n : ℕ) (x y : Span) (xs ys : List Span) → Spaced 0 (x ∷ xs) → Spaced 0 (y ∷ ys) → x.hi < y.hi
-      → intersection_next end_of_lem intersect (suc n) (x ∷ xs) (y ∷ ys)
-      ≡ if_let (intersect x y) (λ r. some (pair_step (some r) xs (y ∷ ys))) (intersection_next end_of_lem intersect n xs (y ∷ ys))
+      → intersection_next end_of intersect (suc n) (x ∷ xs) (y ∷ ys)
+      ≡ if_let (intersect x y) (λ r. some (pair_step (some r) xs (y ∷ ys))) (intersection_next end_of intersect n xs (y ∷ ys))
   unfolding intersection_next
   pops_left n x y xs ys s t h = rw (first_ends x y s.1 t.1, lt-ltb x.hi y.hi h)
 
   pops_right : (n : ℕ) (x y : Span) (xs ys : List Span) → Spaced 0 (x ∷ xs) → Spaced 0 (y ∷ ys) → y.hi ≤ x.hi
-      → intersection_next end_of_lem intersect (suc n) (x ∷ xs) (y ∷ ys)
-      ≡ if_let (intersect x y) (λ r. some (pair_step (some r) (x ∷ xs) ys)) (intersection_next end_of_lem intersect n (x ∷ xs) ys)
+      → intersection_next end_of intersect (suc n) (x ∷ xs) (y ∷ ys)
+      ≡ if_let (intersect x y) (λ r. some (pair_step (some r) (x ∷ xs) ys)) (intersection_next end_of intersect n (x ∷ xs) ys)
   unfolding intersection_next
   pops_right n x y xs ys s t h = rw (first_ends x y s.1 t.1, le-ltb x.hi y.hi h)
 
@@ -133,23 +133,23 @@ module _
 
   -- all that is given
   module _ (n : ℕ) (a b : List Span) where
-    step : (z : Option Span) (c d : List Span) → intersection_next end_of_lem intersect (suc (length a + length b)) a b ≡ some (pair_step z c d)
-        → collect_intersection end_of_lem intersect (suc n) a b ≡ given_first z (collect_intersection end_of_lem intersect n c d)
+    step : (z : Option Span) (c d : List Span) → intersection_next end_of intersect (suc (length a + length b)) a b ≡ some (pair_step z c d)
+        → collect_intersection end_of intersect (suc n) a b ≡ given_first z (collect_intersection end_of intersect n c d)
     unfolding collect_intersection
     step z c d e = rw e
 
-  collects : (n : ℕ) (a b : List Span) → length a + length b < n → Spaced 0 a → Spaced 0 b → collect_intersection end_of_lem intersect n a b ≡ some (common a b)
+  collects : (n : ℕ) (a b : List Span) → length a + length b < n → Spaced 0 a → Spaced 0 b → collect_intersection end_of intersect n a b ≡ some (common a b)
   collects zero a b f s t = absurd (omega arith)
   collects (suc n) a b f s t =
       let g = gives (suc (length a + length b)) a b (omega arith) s t in
       go g.range g.left g.right g.runs g.whole g.over g.fewer
       (λ h. collects n g.left g.right h g.left_set g.right_set)
     where
-      go : (z : Option Span) (c d : List Span) → intersection_next end_of_lem intersect (suc (length a + length b)) a b ≡ some (pair_step z c d)
+      go : (z : Option Span) (c d : List Span) → intersection_next end_of intersect (suc (length a + length b)) a b ≡ some (pair_step z c d)
           → common a b ≡ in_front_of z (common c d) → if_let z (λ r. []) (common c d) ≡ []
           → if_let z (λ r. suc (length c + length d)) 0 ≤ length a + length b
-          → (length c + length d < n → collect_intersection end_of_lem intersect n c d ≡ some (common c d))
-          → collect_intersection end_of_lem intersect (suc n) a b ≡ some (common a b)
+          → (length c + length d < n → collect_intersection end_of intersect n c d ≡ some (common c d))
+          → collect_intersection end_of intersect (suc n) a b ≡ some (common a b)
       go none c d e w o h ih = step n a b none c d e ∙ rw (w, o)
       go (some r) c d e w o h ih = step n a b (some r) c d e ∙ rw (ih (omega arith), w)
 

@@ -72,15 +72,15 @@ module _ (merge : Span → Span → Option Span) where
   collect_union zero a b = none
   collect_union (suc n) a b = rust_then (union_next a b) (λ s. given_first s.range (collect_union n s.left s.right))
 
--- 225-245: Intersection::next, for n rounds at most; end_of_lem is what order_end compares
-module _ (end_of_lem : Span → ℕ) (intersect : Span → Span → Option Span) where
+-- 225-245: Intersection::next, for n rounds at most; end_of is what order_end compares
+module _ (end_of : Span → ℕ) (intersect : Span → Span → Option Span) where
   unfoldable pub intersection_next : ℕ → List Span → List Span → Option PairStep
   intersection_next zero a b = none
   intersection_next (suc n) [] b = some (pair_step none [] b)
   intersection_next (suc n) (x ∷ xs) [] = some (pair_step none (x ∷ xs) [])
   intersection_next (suc n) (x ∷ xs) (y ∷ ys) =
-      let left = cond (ltb (end_of_lem x) (end_of_lem y)) xs (x ∷ xs) in
-      let right = cond (ltb (end_of_lem x) (end_of_lem y)) (y ∷ ys) ys in
+      let left = cond (ltb (end_of x) (end_of y)) xs (x ∷ xs) in
+      let right = cond (ltb (end_of x) (end_of y)) (y ∷ ys) ys in
       if_let (intersect x y) (λ r. some (pair_step (some r) left right)) (intersection_next n left right)
 
   -- all that Intersection gives until it gives None, in n calls at most

@@ -759,7 +759,7 @@ fn take(state: State, s: Step) -> State {
     let list = state.list;
     match what {
         b'H' => {
-            io::write_all(1, b"half_open_literal maps\n");
+            io::write_all(1, b"half-open maps\n");
             anew(RangeKind::HalfOpen)
         }
         b'I' => {
