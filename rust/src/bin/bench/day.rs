@@ -2,7 +2,7 @@
 use crate::lists::Lists;
 use crate::logs::{Log, STEP};
 use crate::maps::{handed_over, inner_doors, race_lookups};
-use crate::{race, tell, tell_one, want_unchecked, Wanted};
+use crate::{race, tell, tell_one};
 use beside_rust::ffi::Map;
 use beside_rust::maps::kind::{Ends, Kind};
 use beside_rust::maps::random::Random;
@@ -25,7 +25,7 @@ fn days<K: Kind>() -> Vec<Ends> {
     (0..CALLS).map(|_| day()).collect()
 }
 
-fn race_gaps<K: Kind>(log: &Log, days: &[Ends], wanted: &mut Vec<Wanted>) {
+fn race_gaps<K: Kind>(log: &Log, days: &[Ends]) {
     let rust = K::rust_of(&log.entries);
     let (mut map, mut lent) = (Map::of(&log.entries), Map::of(&log.entries));
     let [mut one, mut other, mut rusts] = [const { Lists::EMPTY }; 3];
@@ -56,9 +56,10 @@ fn race_gaps<K: Kind>(log: &Log, days: &[Ends], wanted: &mut Vec<Wanted>) {
             },
         ],
     );
-    let what = format!("{}, gaps of one day at {}", K::NAME, log.name);
-    tell(&what, times);
-    want_unchecked(wanted, 0.5, &what, times);
+    tell(
+        &format!("{}, gaps of one day at {}", K::NAME, log.name),
+        times,
+    );
 }
 
 /// All that a caller takes from the places that ours names, in one number.
@@ -102,10 +103,10 @@ fn race_overlapping<K: Kind>(log: &Log, days: &[Ends]) {
     tell_one(&what, times, "rangemap");
 }
 
-pub fn race_days<K: Kind>(wanted: &mut Vec<Wanted>) {
+pub fn race_days<K: Kind>() {
     let log = Log::touching::<K>(RANGES);
     let days = days::<K>();
-    race_gaps::<K>(&log, &days, wanted);
+    race_gaps::<K>(&log, &days);
     race_overlapping::<K>(&log, &days);
     race_lookups::<K>(&log);
 }

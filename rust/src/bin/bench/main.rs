@@ -55,15 +55,6 @@ struct Wanted {
     got: f64,
 }
 
-/// At most so much of rangemap's time is wanted of an unchecked door.
-fn want_unchecked(wanted: &mut Vec<Wanted>, most: f64, what: &str, [inner, _, rust]: [f64; 3]) {
-    wanted.push(Wanted {
-        what: format!("{what}, unchecked door, ratio"),
-        most,
-        got: inner / rust,
-    });
-}
-
 fn tell(what: &str, [inner, checked, rust]: [f64; 3]) {
     println!(
         "{what}: unchecked door {inner:.1} ns, ratio {:.2}; checked door {checked:.1} ns, ratio {:.2}; rangemap {rust:.1} ns",
@@ -81,10 +72,8 @@ fn tell_one(what: &str, [ours, rust]: [f64; 2], by: &str) -> f64 {
 
 /// The measures that figures are wanted of.
 fn race_kind<K: Kind>(wanted: &mut Vec<Wanted>) {
-    let (what, times) = maps::race_lookups::<K>(&Log::apart::<K>(RANGES));
-    want_unchecked(wanted, 0.5, &what, times);
-    let (what, times) = maps::race_edits::<K>(&Log::apart::<K>(RANGES));
-    want_unchecked(wanted, 1.5, &what, times);
+    maps::race_lookups::<K>(&Log::apart::<K>(RANGES));
+    maps::race_edits_wanted::<K>(&Log::apart::<K>(RANGES), wanted);
     maps::race_gaps::<K>(wanted);
     wanted.extend(maps::race_checks::<K>().map(|(what, got)| Wanted {
         what,
@@ -94,7 +83,7 @@ fn race_kind<K: Kind>(wanted: &mut Vec<Wanted>) {
 }
 
 /// What a driver's log asks for: ranges that touch, keys that ascend, one day of many, and maps of few ranges.
-fn race_log<K: Kind>(wanted: &mut Vec<Wanted>) {
+fn race_log<K: Kind>() {
     let touching = Log::touching::<K>(RANGES);
     maps::race_check_beside::<K>(&Log::apart::<K>(RANGES));
     maps::race_check_beside::<K>(&touching);
@@ -102,7 +91,7 @@ fn race_log<K: Kind>(wanted: &mut Vec<Wanted>) {
     maps::race_edits::<K>(&touching);
     maps::race_ascending::<K>(&Log::apart::<K>(RANGES));
     maps::race_ascending::<K>(&touching);
-    day::race_days::<K>(wanted);
+    day::race_days::<K>();
     small::race_small::<K>();
 }
 
@@ -115,8 +104,8 @@ fn main() {
     bytes::race_bytes(&mut wanted);
     report::race_reports(&mut wanted);
     query::race_queries(&mut wanted);
-    race_log::<HalfOpen>(&mut wanted);
-    race_log::<Inclusive>(&mut wanted);
+    race_log::<HalfOpen>();
+    race_log::<Inclusive>();
     for Wanted { what, most, got } in wanted {
         let met = if got <= most { "met" } else { "NOT MET" };
         println!("wanted at most {most}: {met}, {got:.2} ({what})");

@@ -1,7 +1,7 @@
 //! One map: lookups, edits, gaps and the check.
 use crate::lists::Lists;
 use crate::logs::{Log, CALLS, STEP};
-use crate::{race, tell, want_unchecked, Wanted, GAPS_RANGES, RANGES};
+use crate::{race, tell, Wanted, GAPS_RANGES, RANGES};
 use beside_rust::ffi::{Gaps, Inner, Map, Range, PLACES};
 use beside_rust::maps::kind::{Ends, Entry, Kind};
 use beside_rust::maps::{edit, edit_unchecked, Edit};
@@ -26,7 +26,7 @@ pub fn inner_doors<K: Kind>() -> Inner {
     K::OURS.inner.expect("a map has unchecked doors")
 }
 
-fn race_lookups_of<K: Kind>(what: &str, log: &Log, keys: &[i64]) -> (String, [f64; 3]) {
+fn race_lookups_of<K: Kind>(what: &str, log: &Log, keys: &[i64]) {
     let rust = K::rust_of(&log.entries);
     let (mut map, mut lent) = (Map::of(&log.entries), Map::of(&log.entries));
     // SAFETY: the map is well formed.
@@ -51,14 +51,11 @@ fn race_lookups_of<K: Kind>(what: &str, log: &Log, keys: &[i64]) -> (String, [f6
             },
         ],
     );
-    let what = format!("{}, {what} at {}", K::NAME, log.name);
-    tell(&what, times);
-    (what, times)
+    tell(&format!("{}, {what} at {}", K::NAME, log.name), times);
 }
 
-/// What was raced, and the times.
-pub fn race_lookups<K: Kind>(log: &Log) -> (String, [f64; 3]) {
-    race_lookups_of::<K>("lookup", log, &log.random_keys(11))
+pub fn race_lookups<K: Kind>(log: &Log) {
+    race_lookups_of::<K>("lookup", log, &log.random_keys(11));
 }
 
 pub fn race_ascending<K: Kind>(log: &Log) {
@@ -117,6 +114,15 @@ pub fn race_edits<K: Kind>(log: &Log) -> (String, [f64; 3]) {
     (what, times)
 }
 
+pub fn race_edits_wanted<K: Kind>(log: &Log, wanted: &mut Vec<Wanted>) {
+    let (what, times) = race_edits::<K>(log);
+    wanted.push(Wanted {
+        what: format!("{what}, unchecked door, ratio"),
+        most: 1.5,
+        got: times[0] / times[2],
+    });
+}
+
 impl Lists {
     pub fn gaps_by(&mut self, gaps: Gaps, m: &mut Map, r: Ends) -> usize {
         self.write(|starts, starts_length, ends, ends_length| {
@@ -168,7 +174,11 @@ pub fn race_gaps<K: Kind>(wanted: &mut Vec<Wanted>) {
 
     let what = format!("{}, gaps of {GAPS_RANGES} ranges", K::NAME);
     tell(&what, times);
-    want_unchecked(wanted, 0.6, &what, times);
+    wanted.push(Wanted {
+        what: format!("{what}, unchecked door, ratio"),
+        most: 0.6,
+        got: times[0] / times[2],
+    });
 }
 
 /// Calls of a batch of checks.

@@ -78,11 +78,10 @@ pub fn race_reports(wanted: &mut Vec<Wanted>) {
     );
     let what = format!("a day's report at {RANGES} ranges");
     tell(&what, times);
-    let doors = [("unchecked door", 0.45), ("checked door", 1.0)];
-    for ((door, most), time) in doors.into_iter().zip(times) {
+    for (door, time) in [("unchecked door", times[0]), ("checked door", times[1])] {
         wanted.push(Wanted {
             what: format!("{what}, {door}, by what rangemap's overlapping takes, ratio"),
-            most,
+            most: 1.0,
             got: time / times[2],
         });
     }
