@@ -15,7 +15,7 @@ use std::io::Write;
 
 // How the program is called. Where that cannot be written, there is nobody left to tell.
 fn usage<W: Write + Drop>(mut out: W) {
-    let written = out.write_all(
+    let _ = out.write_all(
         b"hourledger [ranges] < FORM\n\
         hourledger day ZONE YEAR MONTH DAY < FORM\n\
         hourledger graph ZONE YEAR MONTH DAY [--svg] < FORM\n\
@@ -23,10 +23,6 @@ fn usage<W: Write + Drop>(mut out: W) {
         hourledger make < LINES > FORM\n\
         hourledger --help\n",
     );
-    match written {
-        Ok(()) => {}
-        Err(_) => {}
-    }
 }
 
 fn main(rt: HostRuntime) {

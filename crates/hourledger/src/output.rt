@@ -7,37 +7,31 @@ use std::io::Write;
 
 // A line on standard error that says why something was not done. Where that fails too, there is nobody left to tell.
 pub fn fail(rt: &HostRuntime, what: &[u8], error: &io::Error) {
-    let mut out = rt.stderr();
-    match out.write_all(what) {
-        Ok(()) => {}
-        Err(_) => {}
-    }
-    match eprintln!(rt; ": {error}") {
-        Ok(()) => {}
-        Err(_) => {}
+    let _ = rt.stderr().write_all(what);
+    let _ = eprintln!(rt; ": {error}");
+}
+
+// Bytes to a stream, all at once. What could not be written is said: a form that is cut short must not pass for a whole one.
+fn put<W: Write + Drop>(rt: &HostRuntime, mut stream: W, name: &[u8], bytes: &[u8], n: usize)
+    requires { n ≤ length bytes.now }
+{
+    if let Err(e) = stream.write_all(&bytes[..n]) {
+        fail(rt, name, &e);
     }
 }
 
-// Bytes, all at once. What could not be written is said: a form that is cut short must not pass for a whole one.
+// On standard output.
 pub fn print(rt: &HostRuntime, bytes: &[u8], n: usize)
     requires { n ≤ length bytes.now }
 {
-    let mut out = rt.stdout();
-    match out.write_all(&bytes[..n]) {
-        Ok(()) => {}
-        Err(e) => fail(rt, b"standard output", &e),
-    }
+    put(rt, rt.stdout(), b"standard output", bytes, n);
 }
 
-// The same on standard error.
+// On standard error.
 pub fn print_error(rt: &HostRuntime, bytes: &[u8], n: usize)
     requires { n ≤ length bytes.now }
 {
-    let mut out = rt.stderr();
-    match out.write_all(&bytes[..n]) {
-        Ok(()) => {}
-        Err(e) => fail(rt, b"standard error", &e),
-    }
+    put(rt, rt.stderr(), b"standard error", bytes, n);
 }
 
 // The number of a refusal.

@@ -1,5 +1,5 @@
--- A small map, as a thin function lends it, and three things that are said of it. Nothing in the ledger rests on these.
-use Rattle.std.specs.Prelude.{ℕ, ◌+◌, List, length, ℤ}
+-- A small map, as a thin function lends it, and what is asked and made of it. Nothing in the ledger rests on these.
+use Rattle.std.specs.Prelude.{ℕ, Bool, ◌&&◌, List, length, nat_le, ℤ}
 use Rattle.thin.specs.declared.Small.{Small}
 
 -- what a small map stores
@@ -14,10 +14,10 @@ four n ss vs = record { count = n; starts = ss; values = vs }
 abbrev pub four_in : Small → Four
 four_in m = four m.count m.starts m.values
 
--- the same with one range more
-unfoldable pub counted_on : Four → Four
-counted_on m = four (m.count + 1) m.starts m.values
+-- the same with no range
+unfoldable pub emptied : Four → Four
+emptied m = four 0 m.starts m.values
 
--- how many ranges two of them have, and how many bytes come with them
-unfoldable pub together : Four → Four → List ℕ → ℕ
-together a b bytes = a.count + b.count + length bytes
+-- has a list a place for each range of two of them
+unfoldable pub roomy : Four → Four → List ℕ → Bool
+roomy a b bytes = nat_le a.count (length bytes) && nat_le b.count (length bytes)

@@ -3,6 +3,10 @@ use Rattle.std.specs.Prelude.{ℕ, nat_lt, ℤ}
 use Rattle.outcomes.specs.declared.Told.{Told}
 use Rattle.outcomes.specs.declared.Count.{Count}
 use Rattle.outcomes.specs.declared.Range.{Range}
+use Rattle.outcomes.specs.declared.Stretch.{Stretch}
+use Rattle.outcomes.specs.declared.Order.{Order}
+use Rattle.outcomes.specs.declared.Total.{Total}
+use Rattle.outcomes.specs.declared.Applied.{Applied}
 
 -- is a number less than another
 unfoldable pub told_less : ℕ → ℕ → Told
@@ -15,3 +19,19 @@ counted_as n = record { answer = 0; count = n }
 -- a range as it is
 unfoldable pub found_as : ℤ → ℤ → ℕ → Range
 found_as s e v = record { answer = 0; start = s; end = e; value = v }
+
+-- a place and a count as a part
+unfoldable pub part_as : ℕ → ℕ → Stretch
+part_as i n = record { answer = 0; place = i; count = n }
+
+-- an order as it is
+unfoldable pub ordered_as : ℤ → Order
+ordered_as z = record { answer = 0; order = z }
+
+-- a number as a total
+unfoldable pub totalled_as : ℕ → Total
+totalled_as n = record { answer = 0; total = n }
+
+-- a number as how many were applied
+unfoldable pub applied_as : ℕ → Applied
+applied_as n = record { answer = 0; applied = n }

@@ -4,8 +4,9 @@
 
 ghost use Rattle.std.specs.Prelude.{◌≡◌};
 ghost use Rattle.thin_answers.specs.Answered.{told_less, counted_as, found_as};
+ghost use Rattle.thin_answers.specs.Answered.{part_as, ordered_as, totalled_as, applied_as};
 
-use outcomes::{Count, Range, Told};
+use outcomes::{Applied, Count, Order, Range, Stretch, Told, Total};
 
 // Two numbers.
 #[repr(C)]
@@ -47,6 +48,38 @@ fn found(start: i64, end: i64, value: u8) -> Range
     }
 }
 
+#[tactic(auto, unfolding(crate::specs::Answered::part_as))]
+fn part(place: usize, count: usize) -> Stretch
+    ensures { result ≡ part_as place count }
+{
+    Stretch {
+        answer: 0,
+        place,
+        count,
+    }
+}
+
+#[tactic(auto, unfolding(crate::specs::Answered::ordered_as))]
+fn ordered(order: i8) -> Order
+    ensures { result ≡ ordered_as order }
+{
+    Order { answer: 0, order }
+}
+
+#[tactic(auto, unfolding(crate::specs::Answered::totalled_as))]
+fn totalled(total: u64) -> Total
+    ensures { result ≡ totalled_as total }
+{
+    Total { answer: 0, total }
+}
+
+#[tactic(auto, unfolding(crate::specs::Answered::applied_as))]
+fn applied(applied: usize) -> Applied
+    ensures { result ≡ applied_as applied }
+{
+    Applied { answer: 0, applied }
+}
+
 // Yes or no of a struct's fields.
 pub fn pair_less(p: &Pair) -> Told
     ensures { result ≡ told_less p.now.first p.now.second }
@@ -66,4 +99,32 @@ pub fn pair_found(_p: &Pair, start: i64, end: i64, value: u8) -> Range
     ensures { result ≡ found_as start end value }
 {
     found(start, end, value)
+}
+
+// A part of the places.
+pub fn pair_part(_p: &Pair, place: usize, count: usize) -> Stretch
+    ensures { result ≡ part_as place count }
+{
+    part(place, count)
+}
+
+// An order.
+pub fn pair_ordered(_p: &Pair, order: i8) -> Order
+    ensures { result ≡ ordered_as order }
+{
+    ordered(order)
+}
+
+// A total.
+pub fn pair_totalled(_p: &Pair, total: u64) -> Total
+    ensures { result ≡ totalled_as total }
+{
+    totalled(total)
+}
+
+// How many edits of a list were applied.
+pub fn pair_applied(_p: &Pair, n: usize) -> Applied
+    ensures { result ≡ applied_as n }
+{
+    applied(n)
 }
