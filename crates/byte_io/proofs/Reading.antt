@@ -11,8 +11,10 @@ use lib.Seq.{sets, sets-eq, length-sets, drop-drop}
 use lib.IntN.{ℤ, pos}
 use Rattle.answers.specs.Answers.{done}
 use Rattle.key.specs.InnerDecides.{Decides}
-use Rattle.outcomes.specs.Stored.{places, Stored, stored, filled}
-use Rattle.outcomes.specs.Outcomes.{Entry, formed, leaving}
+use Rattle.outcomes.specs.Stored.{places, stored, filled}
+use Rattle.outcomes.specs.declared.Stored.{Stored}
+use Rattle.outcomes.specs.Outcomes.{formed, leaving}
+use Rattle.key.specs.declared.Entry.{Entry}
 use Rattle.outcomes.proofs.Formed.{Shaped}
 use Rattle.outcomes.proofs.Formed as Formed
 use Rattle.outcomes.proofs.Storing.{spare_filled}

@@ -1,8 +1,9 @@
 -- What the parts of the reader are given, and what they leave.
 use Rattle.std.specs.Prelude.{ℕ, ◌-◌, ◌≤◌, ◌≡◌, List, map, length, drop, replicate, ℤ, pos}
 use Rattle.std.proofs.lemmas.List.Edits.{sets}
-use Rattle.outcomes.specs.Stored.{places, Stored}
-use Rattle.outcomes.specs.Outcomes.{Entry}
+use Rattle.outcomes.specs.Stored.{places}
+use Rattle.outcomes.specs.declared.Stored.{Stored}
+use Rattle.key.specs.declared.Entry.{Entry}
 use Rattle.byte_form.specs.Layout.{Layout, head_size, form_size}
 use Rattle.byte_form.specs.Form.{ranges_in, map_of}
 

@@ -14,7 +14,7 @@ use byte_form::rm01::{
     HEAD_SIZE, RANGE_SIZE, count_in, end_at, form_size, has_mark, start_at, value_at,
 };
 use key::Value;
-use outcomes::PLACES;
+use outcomes::{PLACES, Stored};
 
 // Whether the range at `k` is not empty, and the next one may follow it.
 fn step(bytes: &[u8], count: usize, k: usize) -> bool
@@ -118,21 +118,18 @@ fn clear_rest(
 
 // The map whose form the bytes are.
 pub fn read(
-    count: &mut usize,
-    starts: &mut [i64; PLACES],
-    ends: &mut [i64; PLACES],
-    values: &mut [Value; PLACES],
+    m: &mut Stored,
     bytes: &[u8],
 ) -> u8
-    ensures { leaving result (stored count.new starts.new ends.new values.new)
-        ≡ read rm01 (stored count.old starts.old ends.old values.old) bytes.now }
+    ensures { leaving result m.new
+        ≡ read rm01 m.old bytes.now }
 {
     if !is_form(bytes) {
         return NO_MAP;
     }
     let n = count_in(bytes) as usize;
-    fill(starts, ends, values, bytes, n);
-    clear_rest(starts, ends, values, n);
-    *count = n;
+    fill(&m.starts, &m.ends, &m.values, bytes, n);
+    clear_rest(&m.starts, &m.ends, &m.values, n);
+    m.count = n;
     DONE
 }

@@ -7,10 +7,10 @@ ghost use Rattle.byte_form.specs.Layout.{rm01, head_size};
 ghost use Rattle.byte_form.specs.Form.{entries_of, ranges_bytes, form_of, output, into_output, write, Wrote};
 ghost use Rattle.byte_io.specs.InnerWrite.{OutputRoom};
 
-use answers::{NOT_FORMED, TOO_SHORT};
+use answers::Refusal;
 use byte_form::rm01::{RANGE_SIZE, form_size, put_head, put_range};
 use key::{RangeKind, Value};
-use outcomes::{Count, Counted, PLACES, count_of};
+use outcomes::{Count, Stored};
 use store::check::well_formed;
 
 // Range after range, each into its own bytes.
@@ -29,52 +29,43 @@ fn write_ranges(starts: &[i64], ends: &[i64], values: &[Value], count: usize, ou
 
 // The form of a well-formed map, and its length.
 fn write_formed(
-    count: usize,
-    starts: &[i64; PLACES],
-    ends: &[i64; PLACES],
-    values: &[Value; PLACES],
+    m: &Stored,
     out: &mut [u8],
-) -> Counted
-    requires { Sound half_open (stored count starts.now ends.now values.now) × (count ≤ places) }
+) -> Result<usize, Refusal>
+    requires { Sound half_open m.now × (count ≤ places) }
     ensures { output result out.new
-        ≡ into_output (form_of rm01 (stored count starts.now ends.now values.now)) out.old }
+        ≡ into_output (form_of rm01 m.now) out.old }
 {
-    let n = form_size(count);
+    let n = form_size(m.count);
     if out.len() < n {
-        return Counted::Refused(TOO_SHORT);
+        return Err(Refusal::TooShort);
     }
-    put_head(out, count);
-    write_ranges(starts, ends, values, count, out);
-    Counted::Count(n)
+    put_head(out, m.count);
+    write_ranges(&m.starts, &m.ends, &m.values, m.count, out);
+    Ok(n)
 }
 
 // The form of any map.
 pub fn write(
-    count: &usize,
-    starts: &[i64; PLACES],
-    ends: &[i64; PLACES],
-    values: &[Value; PLACES],
+    m: &Stored,
     out: &mut [u8],
-) -> Counted
+) -> Result<usize, Refusal>
     ensures { output result out.new
-        ≡ write rm01 (stored count.now starts.now ends.now values.now) out.old }
+        ≡ write rm01 m.now out.old }
 {
-    if !well_formed(RangeKind::HalfOpen, *count, starts, ends, values) {
-        return Counted::Refused(NOT_FORMED);
+    if !well_formed(RangeKind::HalfOpen, m) {
+        return Err(Refusal::NotFormed);
     }
-    write_formed(*count, starts, ends, values, out)
+    write_formed(m, out)
 }
 
 // The same answer as a struct of numbers: what C and Rust see.
 pub fn write_number(
-    count: &usize,
-    starts: &[i64; PLACES],
-    ends: &[i64; PLACES],
-    values: &[Value; PLACES],
+    m: &Stored,
     out: &mut [u8],
 ) -> Count
     ensures { Wrote result out.new
-        (write rm01 (stored count.now starts.now ends.now values.now) out.old) }
+        (write rm01 m.now out.old) }
 {
-    count_of(write(count, starts, ends, values, out))
+    Count::from(write(m, out))
 }

@@ -11,10 +11,13 @@ use lib.IntN.{pos}
 use Rattle.span.specs.Span.{Span}
 use Rattle.span.specs.Operations.{flat, lex, span_order}
 use Rattle.key.specs.Range.{Kind, half_open, span_of}
-use Rattle.outcomes.specs.Stored.{Stored, ranges}
+use Rattle.outcomes.specs.Stored.{ranges}
+use Rattle.outcomes.specs.declared.Stored.{Stored}
 use Rattle.outcomes.specs.Outcomes.{order_sound, compared_by}
-use Rattle.outcomes.specs.declared.Compared.{Compared}
+use Rattle.outcomes.specs.Answered.{Compared}
 use Rattle.outcomes.proofs.Formed.{Shaped, length_ranges, get_or_ranges}
+use Rattle.std.specs.Prelude.{Ok}
+use Rattle.std.specs.declared.cmp.Ordering.TheVariants.{Less, Equal, Greater}
 
 -- the first answer, unless it is that both are equal
 abbrev pub or_else : Ordering → Ordering → Ordering
@@ -82,15 +85,15 @@ all_left a b = refl
 
 -- all places before k were equal
 module _ (a b : Stored) (h : Columns a) (h' : Columns b) (k : ℕ) (so_far : order_sound half_open a b ≡ onward a b k) where
-  pub first_left : k < a.count → b.count ≤ k → Compared.Greater ≡ compared_by (order_sound half_open a b)
+  pub first_left : k < a.count → b.count ≤ k → (Ok Greater) ≡ compared_by (order_sound half_open a b)
   unfolding span_order flat lex
   first_left l l' = rw (so_far, some_left a h k l, none_left b h' k l')
 
-  pub second_left : a.count ≤ k → k < b.count → Compared.Less ≡ compared_by (order_sound half_open a b)
+  pub second_left : a.count ≤ k → k < b.count → (Ok Less) ≡ compared_by (order_sound half_open a b)
   unfolding span_order flat lex
   second_left l l' = rw (so_far, none_left a h k l, some_left b h' k l')
 
-  pub neither_left : a.count ≤ k → b.count ≤ k → Compared.Equal ≡ compared_by (order_sound half_open a b)
+  pub neither_left : a.count ≤ k → b.count ≤ k → (Ok Equal) ≡ compared_by (order_sound half_open a b)
   unfolding span_order flat lex
   neither_left l l' = rw (so_far, none_left a h k l, none_left b h' k l')
 
@@ -99,15 +102,15 @@ module _ (a b : Stored) (h : Columns a) (h' : Columns b) (k : ℕ) (so_far : ord
     both_left : order_sound half_open a b ≡ or_else (span_order (place_of half_open a k ∷ []) (place_of half_open b k ∷ [])) (onward a b (k + 1))
     both_left = so_far ∙ rw (some_left a h k l, some_left b h' k l') (order_cons _ _ _ _)
 
-    pub passed : r ≡ Compared.Equal → order_sound half_open a b ≡ onward a b (k + 1)
+    pub passed : r ≡ (Ok Equal) → order_sound half_open a b ≡ onward a b (k + 1)
     passed f = both_left ∙ go (span_order (place_of half_open a k ∷ []) (place_of half_open b k ∷ [])) (sym e ∙ f)
       where
-        go : (o : Ordering) → compared_by o ≡ Compared.Equal → or_else o (onward a b (k + 1)) ≡ onward a b (k + 1)
+        go : (o : Ordering) → compared_by o ≡ (Ok Equal) → or_else o (onward a b (k + 1)) ≡ onward a b (k + 1)
         go Ordering.lt f = cc
         go Ordering.eq f = refl
         go Ordering.gt f = cc
 
-    pub decided : (r ≡ Compared.Equal → ⊥) → r ≡ compared_by (order_sound half_open a b)
+    pub decided : (r ≡ (Ok Equal) → ⊥) → r ≡ compared_by (order_sound half_open a b)
     decided f = rw both_left (go (span_order (place_of half_open a k ∷ []) (place_of half_open b k ∷ [])) e)
       where
         go : (o : Ordering) → r ≡ compared_by o → r ≡ compared_by (or_else o (onward a b (k + 1)))

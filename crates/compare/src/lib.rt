@@ -8,8 +8,10 @@ ghost use Rattle.key.specs.Range.{half_open, span_of};
 ghost use Rattle.outcomes.specs.Stored.{stored};
 ghost use Rattle.outcomes.specs.Outcomes.{order_sound, compared_by};
 
+use std::cmp::Ordering;
+use answers::Refusal;
 use key::Value;
-use outcomes::Compared;
+use outcomes::Stored;
 
 // One place of each map: by the starts, then the ends, then the values.
 fn compare_place(
@@ -19,60 +21,54 @@ fn compare_place(
     start2: i64,
     end2: i64,
     value2: Value,
-) -> Compared
+) -> Result<Ordering, Refusal>
     ensures { result ≡ compared_by (span_order (span_of half_open start end value ∷ []) (span_of half_open start2 end2 value2 ∷ [])) }
 {
     if start < start2 {
-        return Compared::Less;
+        return Ok(Ordering::Less);
     }
     if start2 < start {
-        return Compared::Greater;
+        return Ok(Ordering::Greater);
     }
     if end < end2 {
-        return Compared::Less;
+        return Ok(Ordering::Less);
     }
     if end2 < end {
-        return Compared::Greater;
+        return Ok(Ordering::Greater);
     }
     if value < value2 {
-        return Compared::Less;
+        return Ok(Ordering::Less);
     }
     if value2 < value {
-        return Compared::Greater;
+        return Ok(Ordering::Greater);
     }
-    Compared::Equal
+    Ok(Ordering::Equal)
 }
 
 // The first place at which the maps differ decides. Where there is none, a prefix comes first.
 pub fn compare(
-    count: usize,
-    starts: &[i64],
-    ends: &[i64],
-    values: &[Value],
-    count2: usize,
-    starts2: &[i64],
-    ends2: &[i64],
-    values2: &[Value],
-) -> Compared
-    requires count_in_bounds { (count ≤ length starts.now) × (length ends.now ≡ length starts.now) × (length values.now ≡ length starts.now) }
-    requires count2_in_bounds { (count2 ≤ length starts2.now) × (length ends2.now ≡ length starts2.now) × (length values2.now ≡ length starts2.now) }
-    ensures { result ≡ compared_by (order_sound half_open (stored count starts.now ends.now values.now) (stored count2 starts2.now ends2.now values2.now)) }
+    m: &Stored,
+    other: &Stored,
+) -> Result<Ordering, Refusal>
+    requires count_in_bounds { (count ≤ length m.now.starts) × (length m.now.ends ≡ length m.now.starts) × (length m.now.values ≡ length m.now.starts) }
+    requires count2_in_bounds { (count2 ≤ length other.now.starts) × (length other.now.ends ≡ length other.now.starts) × (length other.now.values ≡ length other.now.starts) }
+    ensures { result ≡ compared_by (order_sound half_open m.now other.now) }
 {
     let mut k = 0;
-    while k < count {
-        if count2 <= k {
-            return Compared::Greater;
+    while k < m.count {
+        if other.count <= k {
+            return Ok(Ordering::Greater);
         }
         let c = compare_place(
-            starts[k], ends[k], values[k], starts2[k], ends2[k], values2[k],
+            m.starts[k], m.ends[k], m.values[k], other.starts[k], other.ends[k], other.values[k],
         );
-        let Compared::Equal = c else {
+        let Ok(Ordering::Equal) = c else {
             return c;
         };
         k += 1;
     }
-    if k < count2 {
-        return Compared::Less;
+    if k < other.count {
+        return Ok(Ordering::Less);
     }
-    Compared::Equal
+    Ok(Ordering::Equal)
 }

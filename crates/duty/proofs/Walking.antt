@@ -21,7 +21,8 @@ use Rattle.key.specs.Rank.{rank}
 use Rattle.key.specs.Range.{half_open}
 use Rattle.key.specs.declared.Bounds.{Bounds}
 use Rattle.key.proofs.Lawful.{half_open_lawful}
-use Rattle.outcomes.specs.Stored.{Stored, spans, ranges, Sound}
+use Rattle.outcomes.specs.Stored.{spans, ranges, Sound}
+use Rattle.outcomes.specs.declared.Stored.{Stored}
 use Rattle.outcomes.proofs.Formed.{shape, good, length_spans, get_or_spans, length_ranges, get_or_ranges}
 use Rattle.outcomes.proofs.Storing.{all_same}
 use Rattle.store.specs.InnerCheck.{Steps}

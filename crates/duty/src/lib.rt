@@ -12,6 +12,7 @@ ghost use Rattle.duty.specs.InnerWalk.{u32_limit, table_length, gathering, tally
 ghost use Rattle.duty.specs.InnerCounting.{Statuses, Amiss, Met, EachApart, Inside, part};
 ghost use Rattle.duty.specs.InnerCounting.{no_seconds, credited, Both, Joined, TableRoom, Added};
 
+use outcomes::Stored;
 use answers::BAD_STATUS;
 use key::{Bounds, RangeKind, Value};
 use store::search::{first_past, reaching};
@@ -230,39 +231,33 @@ fn completed(t: Tally, seconds: u32) -> Totals
 // The four totals of the window.
 // Each range from the place `from` on ends past the window's start, so those that begin before its end meet it.
 fn walk(
-    count: usize,
-    starts: &[i64],
-    ends: &[i64],
-    values: &[Value],
+    m: &Stored,
     from: usize,
     window: Bounds,
 ) -> Walked
-    requires { Sound half_open (stored count starts.now ends.now values.now) × Reached half_open count ends.now window.start from
+    requires { Sound half_open m.now × Reached half_open count m.now.ends window.start from
         × (rank window.start < rank window.end) × (rank window.end - rank window.start < u32_limit) }
-    ensures { result ≡ walk_finds (rank window.start) (rank window.end) (ranges half_open (stored count starts.now ends.now values.now)) }
+    ensures { result ≡ walk_finds (rank window.start) (rank window.end) (ranges half_open m.now) }
 {
-    let to = first_past(RangeKind::HalfOpen, starts, from, count, window.end);
-    if !statuses(values, from, to) {
+    let to = first_past(RangeKind::HalfOpen, &m.starts, from, m.count, window.end);
+    if !statuses(&m.values, from, to) {
         return Walked::Strange;
     }
-    let t = table_of(starts, ends, values, from, to, window);
+    let t = table_of(&m.starts, &m.ends, &m.values, from, to, window);
     Walked::Counted(gathered(t))
 }
 
 // THE SECONDS of each duty in the window, and those that are unrecorded: 10 if a status outside 1 to 4 is there.
 pub fn between(
-    count: usize,
-    starts: &[i64],
-    ends: &[i64],
-    values: &[Value],
+    m: &Stored,
     window: Bounds,
 ) -> Tallied
-    requires { Sound half_open (stored count starts.now ends.now values.now)
+    requires { Sound half_open m.now
         × (rank window.start < rank window.end) × (rank window.end - rank window.start < u32_limit) }
-    ensures { result ≡ tally_sound (stored count starts.now ends.now values.now) window.start window.end }
+    ensures { result ≡ tally_sound m.now window.start window.end }
 {
-    let from = reaching(RangeKind::HalfOpen, ends, count, window.start);
-    let w = walk(count, starts, ends, values, from, window);
+    let from = reaching(RangeKind::HalfOpen, &m.ends, m.count, window.start);
+    let w = walk(m, from, window);
     match w {
         Walked::Counted(t) => Tallied::Seconds(completed(t, seconds(window.start, window.end))),
         Walked::Strange => Tallied::Refused(BAD_STATUS),

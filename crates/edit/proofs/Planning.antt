@@ -24,7 +24,8 @@ use Rattle.key.proofs.Lawful.{Lawful}
 use Rattle.splice.specs.InnerReplace.{new_starts, new_ends, new_values}
 use Rattle.splice.specs.declared.Entry.{Entry}
 use Rattle.splice.specs.declared.Replacement.{Replacement}
-use Rattle.outcomes.specs.Stored.{Stored, spans, ranges, AllFit, Sound}
+use Rattle.outcomes.specs.Stored.{spans, ranges, AllFit, Sound}
+use Rattle.outcomes.specs.declared.Stored.{Stored}
 use Rattle.outcomes.proofs.Formed.{good}
 use Rattle.edit.specs.declared.Change.{Change}
 use Rattle.edit.specs.declared.Met.{Met}

@@ -11,7 +11,8 @@ use Rattle.splice.specs.InnerSplice.{spliced}
 use Rattle.splice.specs.InnerReplace.{new_starts, new_ends, new_values, new_count, Apt, Columns}
 use Rattle.splice.specs.declared.Entry.{Entry}
 use Rattle.splice.specs.declared.Replacement.{Replacement}
-use Rattle.outcomes.specs.Stored.{Stored, stored, spans, ranges, Spare, AllFit}
+use Rattle.outcomes.specs.Stored.{stored, spans, ranges, Spare, AllFit}
+use Rattle.outcomes.specs.declared.Stored.{Stored}
 use Rattle.outcomes.specs.Outcomes.{Edited, leaving}
 use Rattle.edit.specs.declared.Change.{Change}
 use Rattle.edit.specs.declared.Met.{Met}

@@ -14,9 +14,9 @@ ghost use Rattle.outcomes.specs.Outcomes.{leaving, edit_sound};
 ghost use Rattle.outcomes.specs.InnerOutcome.{Leaves};
 ghost use Rattle.edit.specs.InnerPlan.{HasKey, Meets, Overlaid, Planned, asked};
 
-use answers::EMPTY_RANGE;
+use answers::{EMPTY_RANGE, Refusal};
 use key::{RangeKind, Value, full};
-use outcomes::{Outcome, PLACES, outcome_of};
+use outcomes::{Stored, outcome_of};
 use plan::Part;
 use splice::Replacement;
 use store::search::reaching;
@@ -45,21 +45,18 @@ pub struct Met {
 // starts later than the greatest start that does.
 fn touched(
     kind: RangeKind,
-    count: usize,
-    starts: &[i64],
-    ends: &[i64],
-    values: &[Value],
+    m: &Stored,
     change: Change,
 ) -> Met
-    requires { Sound (kind_of kind) (stored count starts.now ends.now values.now) × HasKey (kind_of kind) change }
-    ensures { Meets (kind_of kind) (stored count starts.now ends.now values.now) change result }
+    requires { Sound (kind_of kind) m.now × HasKey (kind_of kind) change }
+    ensures { Meets (kind_of kind) m.now change result }
 {
     let start = change.start;
     let end = change.end;
     let below = crate::sides::least_end(kind, start);
     let above = crate::sides::greatest_start(kind, end);
-    let from = reaching(RangeKind::Inclusive, ends, count, below);
-    let to = first_past(RangeKind::Inclusive, starts, from, count, above);
+    let from = reaching(RangeKind::Inclusive, &m.ends, m.count, below);
+    let to = first_past(RangeKind::Inclusive, &m.starts, from, m.count, above);
     Met {
         from: from,
         to: to,
@@ -119,22 +116,19 @@ fn plan_over(
 // The plan of a change.
 fn plan_of(
     kind: RangeKind,
-    count: usize,
-    starts: &[i64],
-    ends: &[i64],
-    values: &[Value],
+    m: &Stored,
     change: Change,
 ) -> Replacement
-    requires { Sound (kind_of kind) (stored count starts.now ends.now values.now) × HasKey (kind_of kind) change }
-    ensures { Planned (kind_of kind) (stored count starts.now ends.now values.now) change result }
+    requires { Sound (kind_of kind) m.now × HasKey (kind_of kind) change }
+    ensures { Planned (kind_of kind) m.now change result }
 {
     let start = change.start;
     let end = change.end;
-    let met = touched(kind, count, starts, ends, values, change);
+    let met = touched(kind, m, change);
     let from = met.from;
     let to = met.to;
     if from < to {
-        return plan_over(starts, ends, values, met, change);
+        return plan_over(&m.starts, &m.ends, &m.values, met, change);
     }
     let value = change.value;
     let nothing = Part {
@@ -155,15 +149,12 @@ fn plan_of(
 // Gives the value to each instant of the range and to no other; where none comes, uncovers exactly these.
 fn edit(
     kind: RangeKind,
-    count: &mut usize,
-    starts: &mut [i64],
-    ends: &mut [i64],
-    values: &mut [Value],
+    m: &mut Stored,
     change: Change,
 ) -> u8
-    requires { Sound (kind_of kind) (stored count.old starts.old ends.old values.old) }
-    ensures { leaving result (stored count.new starts.new ends.new values.new)
-        ≡ edit_sound (kind_of kind) (length starts.old) (stored count.old starts.old ends.old values.old)
+    requires { Sound (kind_of kind) m.old }
+    ensures { leaving result m.new
+        ≡ edit_sound (kind_of kind) (length m.old.starts) m.old
         change.start change.end (asked change) }
 {
     let start = change.start;
@@ -171,24 +162,21 @@ fn edit(
     if !full(kind, start, end) {
         return EMPTY_RANGE;
     }
-    let plan = plan_of(kind, *count, starts, ends, values, change);
-    crate::plan::carry_out(count, starts, ends, values, plan)
+    let plan = plan_of(kind, m, change);
+    crate::plan::carry_out(m, plan)
 }
 
 // Gives the value to each instant of the range and to no other.
 pub fn insert(
     kind: RangeKind,
-    count: &mut usize,
-    starts: &mut [i64; PLACES],
-    ends: &mut [i64; PLACES],
-    values: &mut [Value; PLACES],
+    m: &mut Stored,
     start: i64,
     end: i64,
     value: Value,
-) -> Outcome
-    requires { Sound (kind_of kind) (stored count.old starts.old ends.old values.old) }
-    ensures { Leaves result (stored count.new starts.new ends.new values.new)
-        (edit_sound (kind_of kind) places (stored count.old starts.old ends.old values.old) start end (some value)) }
+) -> Result<(), Refusal>
+    requires { Sound (kind_of kind) m.old }
+    ensures { Leaves result m.new
+        (edit_sound (kind_of kind) places m.old start end (some value)) }
 {
     let change = Change {
         start: start,
@@ -196,22 +184,19 @@ pub fn insert(
         comes: true,
         value: value,
     };
-    outcome_of(edit(kind, count, starts, ends, values, change))
+    outcome_of(edit(kind, m, change))
 }
 
 // Uncovers exactly the instants of the range.
 pub fn remove(
     kind: RangeKind,
-    count: &mut usize,
-    starts: &mut [i64; PLACES],
-    ends: &mut [i64; PLACES],
-    values: &mut [Value; PLACES],
+    m: &mut Stored,
     start: i64,
     end: i64,
-) -> Outcome
-    requires { Sound (kind_of kind) (stored count.old starts.old ends.old values.old) }
-    ensures { Leaves result (stored count.new starts.new ends.new values.new)
-        (edit_sound (kind_of kind) places (stored count.old starts.old ends.old values.old) start end none) }
+) -> Result<(), Refusal>
+    requires { Sound (kind_of kind) m.old }
+    ensures { Leaves result m.new
+        (edit_sound (kind_of kind) places m.old start end none) }
 {
     let nothing = Change {
         start: start,
@@ -219,5 +204,5 @@ pub fn remove(
         comes: false,
         value: 0,
     };
-    outcome_of(edit(kind, count, starts, ends, values, nothing))
+    outcome_of(edit(kind, m, nothing))
 }

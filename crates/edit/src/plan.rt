@@ -5,6 +5,7 @@ ghost use Rattle.outcomes.specs.Outcomes.{leaving};
 ghost use Rattle.splice.specs.InnerReplace.{Apt};
 ghost use Rattle.edit.specs.InnerPlan.{Blank, Brings, coming, in_front, carried, ColumnsOf};
 
+use outcomes::Stored;
 use crate::Met;
 use answers::{DONE, TOO_MANY};
 use key::Value;
@@ -69,25 +70,22 @@ pub fn bring(met: Met, left: Part, new: Part, right: Part) -> Replacement
 
 // Carries a plan out, unless the map would need more places than it has: answer 2.
 pub fn carry_out(
-    count: &mut usize,
-    starts: &mut [i64],
-    ends: &mut [i64],
-    values: &mut [Value],
+    m: &mut Stored,
     p: Replacement,
 ) -> u8
-    requires { ColumnsOf (stored count.old starts.old ends.old values.old) × Apt count.old p }
-    ensures { leaving result (stored count.new starts.new ends.new values.new)
-        ≡ carried (stored count.old starts.old ends.old values.old) p }
+    requires { ColumnsOf m.old × Apt m.old.count p }
+    ensures { leaving result m.new
+        ≡ carried m.old p }
 {
-    let held = *count;
+    let held = m.count;
     let from = p.from;
     let to = p.to;
     let n = p.n;
     let next = from + n + (held - to);
-    if starts.len() < next {
+    if m.starts.len() < next {
         return TOO_MANY;
     }
-    splice::splice(held, starts, ends, values, p);
-    *count = next;
+    splice::splice(held, &m.starts, &m.ends, &m.values, p);
+    m.count = next;
     DONE
 }

@@ -11,10 +11,10 @@ use borrow.Author.Tests.{ne_eqb}
 use lib.Dec.{eqb}
 use lib.ListN.{length, take, drop, drop_of_length-le}
 use Rattle.key.specs.Range.{half_open}
-use Rattle.outcomes.specs.Stored.{Stored}
+use Rattle.outcomes.specs.declared.Stored.{Stored}
 use Rattle.outcomes.specs.Outcomes.{Change, edit}
 use Rattle.outcomes.specs.InnerOutcome.{outcome_of, Leaves}
-use Rattle.outcomes.specs.declared.Outcome.{Outcome}
+use Rattle.outcomes.specs.Answered.{Outcome}
 use Rattle.edit_lines.specs.Parts.{parts_at, lines_of}
 use Rattle.edit_lines.specs.Making.{line_of, change_of, Making, making, line_done, makes}
 use Rattle.edit_lines.specs.InnerStep.{index_of, made_by}

@@ -8,7 +8,7 @@ use lib.Dec.{eqb}
 use lib.IntN.{pos, negsuc}
 use Rattle.key.specs.Range.{half_open}
 use Rattle.key.proofs.Answers.{one_answer}
-use Rattle.outcomes.specs.Stored.{Stored}
+use Rattle.outcomes.specs.declared.Stored.{Stored}
 use Rattle.outcomes.specs.Outcomes.{Edited, Change, edit, clear, edits}
 use Rattle.byte_form.specs.Form.{same_bytes}
 use Rattle.decimal.specs.Reading.{no_leading_zero, next_of, read_on, read_number, as_natural, as_negative, read_signed}

@@ -11,8 +11,8 @@ ghost use Rattle.edit_lines.specs.InnerStep.{made_by};
 ghost use Rattle.edit_lines.specs.Parts.{lines_of};
 ghost use Rattle.edit_lines.specs.Making.{line_of, change_of, making, line_done, makes, made_of};
 
-use key::{RangeKind, Value};
-use outcomes::{Outcome, PLACES};
+use key::RangeKind;
+use outcomes::{Outcome, Stored};
 use scan::find;
 
 // What a line is.
@@ -38,8 +38,8 @@ fn told(n: usize, went: Outcome) -> Made
     ensures { result ≡ made_by n went }
 {
     match went {
-        Outcome::Done => Made::Done,
-        Outcome::Refused(answer) => Made::Refused(n, answer),
+        Ok(()) => Made::Done,
+        Err(answer) => Made::Refused(n, answer),
     }
 }
 
@@ -47,24 +47,21 @@ fn told(n: usize, went: Outcome) -> Made
 fn line_done(
     line: &[u8],
     n: usize,
-    count: &mut usize,
-    starts: &mut [i64; PLACES],
-    ends: &mut [i64; PLACES],
-    values: &mut [Value; PLACES],
+    m: &mut Stored,
 ) -> Made
-    ensures { making result (stored count.new starts.new ends.new values.new)
-        ≡ line_done n (stored count.old starts.old ends.old values.old)
+    ensures { making result m.new
+        ≡ line_done n m.old
         (change_of (line_of line.now)) (making Made.Done) }
 {
     let is = words::line_of(line);
     match is {
         Line::Insert(s, e, v) => told(
             n,
-            map_ops::change::insert(RangeKind::HalfOpen, count, starts, ends, values, s, e, v),
+            map_ops::change::insert(RangeKind::HalfOpen, m, s, e, v),
         ),
         Line::Remove(s, e) => told(
             n,
-            map_ops::change::remove(RangeKind::HalfOpen, count, starts, ends, values, s, e),
+            map_ops::change::remove(RangeKind::HalfOpen, m, s, e),
         ),
         Line::Neither => Made::NotAnEdit(n),
     }
@@ -81,20 +78,17 @@ fn behind(end: usize, length: usize) -> usize
 // The lines of a text, done on a map.
 fn lines_done(
     text: &[u8],
-    count: &mut usize,
-    starts: &mut [i64; PLACES],
-    ends: &mut [i64; PLACES],
-    values: &mut [Value; PLACES],
+    m: &mut Stored,
 ) -> Made
-    ensures { making result (stored count.new starts.new ends.new values.new)
-        ≡ makes 0 (stored count.old starts.old ends.old values.old) (lines_of text.now) }
+    ensures { making result m.new
+        ≡ makes 0 m.old (lines_of text.now) }
 {
     let mut from = 0;
     let mut n = 0;
     while from < text.len() {
         let end = find(text, from, text.len(), NEWLINE);
         n += 1;
-        let done = line_done(&text[from..end], n, count, starts, ends, values);
+        let done = line_done(&text[from..end], n, m);
         let Made::Done = done else {
             return done;
         };
@@ -106,13 +100,10 @@ fn lines_done(
 // What a text makes from nothing. It overwrites its map, so it does not check it.
 pub fn make(
     text: &[u8],
-    count: &mut usize,
-    starts: &mut [i64; PLACES],
-    ends: &mut [i64; PLACES],
-    values: &mut [Value; PLACES],
+    m: &mut Stored,
 ) -> Made
-    ensures { making result (stored count.new starts.new ends.new values.new) ≡ made_of text.now }
+    ensures { making result m.new ≡ made_of text.now }
 {
-    map_ops::change::clear(count, starts, ends, values);
-    lines_done(text, count, starts, ends, values)
+    map_ops::change::clear(m);
+    lines_done(text, m)
 }

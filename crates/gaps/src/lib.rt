@@ -14,9 +14,9 @@ ghost use Rattle.outcomes.specs.Outcomes.{gaps_sound};
 ghost use Rattle.range_list.specs.InnerLists.{wrote, ListRoom, Puts};
 ghost use Rattle.gaps.specs.InnerWalk.{gap, gaps_found, Places};
 
-use answers::{EMPTY_RANGE, TOO_SHORT};
-use key::{Bounds, RangeKind, Value, after, end_before, full};
-use outcomes::Counted;
+use answers::Refusal;
+use key::{Bounds, RangeKind, after, end_before, full};
+use outcomes::Stored;
 use range_list::{put, shorter};
 use store::search::reaching;
 
@@ -147,29 +147,26 @@ fn write(
 // GAPS. The walk begins at the first range that the outer range's start has not passed. The values are lent as a part of the map, and none is read.
 pub fn gaps(
     kind: RangeKind,
-    count: usize,
-    starts: &[i64],
-    ends: &[i64],
-    values: &[Value],
+    m: &Stored,
     start: i64,
     end: i64,
     out_starts: &mut [i64],
     out_ends: &mut [i64],
-) -> Counted
-    requires { Sound (kind_of kind) (stored count starts.now ends.now values.now) }
+) -> Result<usize, Refusal>
+    requires { Sound (kind_of kind) m.now }
     ensures { wrote result out_starts.new out_ends.new
-        ≡ gaps_sound (kind_of kind) (stored count starts.now ends.now values.now) start end
+        ≡ gaps_sound (kind_of kind) m.now start end
         out_starts.old out_ends.old }
 {
     if !full(kind, start, end) {
-        return Counted::Refused(EMPTY_RANGE);
+        return Err(Refusal::EmptyRange);
     }
-    let from = reaching(kind, ends, count, start);
+    let from = reaching(kind, &m.ends, m.count, start);
     let room = shorter(out_starts.len(), out_ends.len());
     let outer = Bounds { start, end };
-    if !fits(kind, starts, ends, count, from, outer, room) {
-        return Counted::Refused(TOO_SHORT);
+    if !fits(kind, &m.starts, &m.ends, m.count, from, outer, room) {
+        return Err(Refusal::TooShort);
     }
-    let n = write(kind, starts, ends, count, from, outer, out_starts, out_ends);
-    Counted::Count(n)
+    let n = write(kind, &m.starts, &m.ends, m.count, from, outer, out_starts, out_ends);
+    Ok(n)
 }

@@ -8,7 +8,8 @@ use lib.IntN.{ℤ}
 use Rattle.key.specs.Rank.{rank}
 use Rattle.key.specs.Range.{half_open}
 use Rattle.key.proofs.Laws.{rank_pos}
-use Rattle.outcomes.specs.Stored.{Stored, Sound}
+use Rattle.outcomes.specs.Stored.{Sound}
+use Rattle.outcomes.specs.declared.Stored.{Stored}
 use Rattle.duty.specs.declared.Totals.{Totals}
 use Rattle.calendar.specs.declared.Date.{Date}
 use Rattle.calendar.specs.Calendar.{date}

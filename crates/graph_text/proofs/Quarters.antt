@@ -15,7 +15,8 @@ use Rattle.span.proofs.Tests.{neither}
 use Rattle.key.specs.Rank.{above_least, bit_rank, rank, keys}
 use Rattle.key.specs.Range.{half_open}
 use Rattle.key.proofs.Laws.{to_z_fit, rank_place, rank_below}
-use Rattle.outcomes.specs.Stored.{Stored, ranges}
+use Rattle.outcomes.specs.Stored.{ranges}
+use Rattle.outcomes.specs.declared.Stored.{Stored}
 use Rattle.duty.specs.Duty.{is_status, strange, tally_sound}
 use Rattle.duty.specs.declared.Totals.{Totals}
 use Rattle.duty.specs.declared.Tallied.TheVariants as Tallied

@@ -1,7 +1,8 @@
 -- What is known of bytes that were read, of which no contract can say which they are, and of the map that is loaded from them.
 use Rattle.std.specs.Prelude.{ℕ, ◌≤◌, List, length}
 use Rattle.key.specs.Range.{half_open}
-use Rattle.outcomes.specs.Stored.{places, Stored, Sound}
+use Rattle.outcomes.specs.Stored.{places, Sound}
+use Rattle.outcomes.specs.declared.Stored.{Stored}
 use Rattle.hourledger.specs.declared.input.Input.{Input}
 
 -- what was read has room in the lent bytes

@@ -7,7 +7,7 @@ use crate::output::{fail, print, refuse};
 use crate::words::{LONGEST, word};
 use answers::EMPTY_RANGE;
 use key::Value;
-use outcomes::{Counted, PLACES};
+use outcomes::{PLACES, Stored};
 use range_text::{RESULTS, RESULTS_ROOM, result_text};
 use std::fs::File;
 use std::io;
@@ -32,16 +32,13 @@ fn open(rt: &HostRuntime, path: &[u8]) -> io::Result<File> {
 fn take(
     rt: &HostRuntime,
     path: &[u8],
-    count: &mut usize,
-    starts: &mut [i64; PLACES],
-    ends: &mut [i64; PLACES],
-    values: &mut [Value; PLACES],
+    m: &mut Stored,
 ) -> Taken {
     match open(rt, path) {
         Ok(mut file) => {
             let mut bytes = [0u8; ROOM];
             let n = read_form(&mut file, &mut bytes);
-            let answer = load(&bytes[..n], count, starts, ends, values);
+            let answer = load(&bytes[..n], m);
             if answer != 0 {
                 return Taken::Refused(answer);
             }
@@ -58,14 +55,11 @@ fn take(
 fn is_taken(
     rt: &HostRuntime,
     place: usize,
-    count: &mut usize,
-    starts: &mut [i64; PLACES],
-    ends: &mut [i64; PLACES],
-    values: &mut [Value; PLACES],
+    m: &mut Stored,
 ) -> bool {
     let mut path = [0u8; LONGEST];
     let n = word(rt, place, &mut path);
-    let taken = take(rt, &path[..n], count, starts, ends, values);
+    let taken = take(rt, &path[..n], m);
     match taken {
         Taken::Map => true,
         Taken::Refused(answer) => {
@@ -116,8 +110,8 @@ fn of_query<'a, 'b>(
         &mut ends,
     );
     match counted {
-        Counted::Count(n) => show(rt, n, &starts, &ends),
-        Counted::Refused(answer) => refuse(rt, answer),
+        Ok(n) => show(rt, n, &starts, &ends),
+        Err(answer) => refuse(rt, answer),
     }
 }
 

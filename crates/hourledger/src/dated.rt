@@ -10,7 +10,7 @@ use duty::Totals;
 use graph_text::{GRAPH_ROOM, graph_text};
 use key::Value;
 use log_day::Day;
-use outcomes::PLACES;
+use outcomes::{PLACES, Stored};
 use report::Reported;
 use report_text::{REPORT_ROOM, report_text};
 use svg_text::{SVG_ROOM, svg_text};
@@ -23,55 +23,46 @@ fn show_report(rt: &HostRuntime, start: i64, end: i64, t: Totals) {
 
 fn show_graph(
     rt: &HostRuntime,
-    count: usize,
-    starts: &[i64; PLACES],
-    ends: &[i64; PLACES],
-    values: &[Value; PLACES],
+    m: &Stored,
     start: i64,
     end: i64,
     t: Totals,
 )
-    requires { Drawable (stored count starts.now ends.now values.now) start end }
+    requires { Drawable m.now start end }
 {
     let mut out = [0u8; GRAPH_ROOM];
-    let n = graph_text(count, starts, ends, values, start, end, t, &mut out);
+    let n = graph_text(m, start, end, t, &mut out);
     print(rt, &out, n);
 }
 
 fn show_picture(
     rt: &HostRuntime,
-    count: usize,
-    starts: &[i64; PLACES],
-    ends: &[i64; PLACES],
-    values: &[Value; PLACES],
+    m: &Stored,
     start: i64,
     end: i64,
     t: Totals,
 )
-    requires { Drawable (stored count starts.now ends.now values.now) start end }
+    requires { Drawable m.now start end }
 {
     let mut out = [0u8; SVG_ROOM];
-    let n = svg_text(count, starts, ends, values, start, end, t, &mut out);
+    let n = svg_text(m, start, end, t, &mut out);
     print(rt, &out, n);
 }
 
 fn show(
     rt: &HostRuntime,
     view: View,
-    count: usize,
-    starts: &[i64; PLACES],
-    ends: &[i64; PLACES],
-    values: &[Value; PLACES],
+    m: &Stored,
     start: i64,
     end: i64,
     t: Totals,
 )
-    requires { Drawable (stored count starts.now ends.now values.now) start end }
+    requires { Drawable m.now start end }
 {
     match view {
         View::Report => show_report(rt, start, end, t),
-        View::Graph => show_graph(rt, count, starts, ends, values, start, end, t),
-        View::Picture => show_picture(rt, count, starts, ends, values, start, end, t),
+        View::Graph => show_graph(rt, m, start, end, t),
+        View::Picture => show_picture(rt, m, start, end, t),
     }
 }
 

@@ -8,8 +8,7 @@ ghost use Rattle.hourledger.specs.InnerInput.{Loaded};
 
 use crate::input::{Input, read_all};
 use byte_form::rm01::LONGEST;
-use key::Value;
-use outcomes::PLACES;
+use outcomes::Stored;
 use std::io::Read;
 
 // The longest form, and a byte more.
@@ -30,14 +29,11 @@ pub fn read_form<R: Read>(reader: &mut R, bytes: &mut [u8; ROOM]) -> usize
 // Loads a form: 0 and its map, or 6.
 pub fn load(
     form: &[u8],
-    count: &mut usize,
-    starts: &mut [i64; PLACES],
-    ends: &mut [i64; PLACES],
-    values: &mut [Value; PLACES],
+    m: &mut Stored,
 ) -> u8
-    ensures values_value { leaving result (stored count.new starts.new ends.new values.new)
-        ≡ read rm01 (stored count.old starts.old ends.old values.old) form.now }
-    ensures loaded { result ≡ 0 → Loaded (stored count.new starts.new ends.new values.new) }
+    ensures values_value { leaving result m.new
+        ≡ read rm01 m.old form.now }
+    ensures loaded { result ≡ 0 → Loaded m.new }
 {
-    byte_io::read::read(count, starts, ends, values, form)
+    byte_io::read::read(m, form)
 }

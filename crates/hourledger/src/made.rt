@@ -7,7 +7,7 @@ use byte_form::rm01::LONGEST;
 use edit_lines::Made;
 use edit_lines::said::{TOLD_ROOM, told_text};
 use key::Value;
-use outcomes::{Counted, PLACES};
+use outcomes::PLACES;
 
 // The most bytes that are taken, and a byte more.
 const ROOM: usize = 1048577;
@@ -27,7 +27,7 @@ fn write_form<'a>(
 ) {
     let mut out = [0u8; LONGEST];
     let written = byte_io::write::write(count, starts, ends, values, &mut out);
-    if let Counted::Count(n) = written {
+    if let Ok(n) = written {
         print(rt, &out, n);
     }
 }

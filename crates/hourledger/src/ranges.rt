@@ -4,21 +4,17 @@ ghost use Rattle.outcomes.specs.Stored.{places};
 
 use crate::form::{ROOM, load, read_form};
 use crate::output::{print, refuse};
-use key::Value;
-use outcomes::PLACES;
+use outcomes::{PLACES, Stored};
 use range_text::{RANGES_ROOM, ranges_text};
 
 fn show(
     rt: &HostRuntime,
-    count: usize,
-    starts: &[i64; PLACES],
-    ends: &[i64; PLACES],
-    values: &[Value; PLACES],
+    m: &Stored,
 )
     requires { count ≤ places }
 {
     let mut out = [0u8; RANGES_ROOM];
-    let n = ranges_text(count, starts, ends, values, &mut out);
+    let n = ranges_text(m, &mut out);
     print(rt, &out, n);
 }
 

@@ -1,6 +1,6 @@
 -- What a `RangeInclusiveMap` stores is all of it: two that store the same are equal.
 use mathlib.Core.Path.{◌≡◌, ap}
-use Rattle.outcomes.specs.Stored.{Stored}
+use Rattle.outcomes.specs.declared.Stored.{Stored}
 use Rattle.inclusive_map.specs.declared.RangeInclusiveMap.{RangeInclusiveMap}
 use Rattle.inclusive_map.specs.Map.{held}
 

@@ -14,7 +14,7 @@ ghost use Rattle.inclusive_map.specs.Promises.{RangeInclusiveMapGetKeyValueUnche
 ghost use Rattle.inclusive_map.specs.Promises.{RangeInclusiveMapInsertUnchecked, RangeInclusiveMapRemoveUnchecked};
 
 use key::{RangeKind, Value};
-use outcomes::{Applied, Count, Order, PLACES, Range, Stretch, Told};
+use outcomes::{Applied, Count, Order, PLACES, Range, Stored, Stretch, Told};
 
 // The kind of this map's ranges.
 const KIND: RangeKind = RangeKind::Inclusive;
@@ -23,10 +23,7 @@ const KIND: RangeKind = RangeKind::Inclusive;
 #[repr(C)]
 #[derive(Drop)]
 pub struct RangeInclusiveMap {
-    pub count: usize,
-    pub starts: [i64; PLACES],
-    pub ends: [i64; PLACES],
-    pub values: [Value; PLACES],
+    pub stored: Stored,
 }
 
 // A new map, which holds nothing.
@@ -34,10 +31,12 @@ pub fn range_inclusive_map_new() -> RangeInclusiveMap
     ensures { RangeInclusiveMapNew result }
 {
     RangeInclusiveMap {
-        count: 0,
-        starts: [0; PLACES],
-        ends: [0; PLACES],
-        values: [0; PLACES],
+        stored: Stored {
+            count: 0,
+            starts: [0; PLACES],
+            ends: [0; PLACES],
+            values: [0; PLACES],
+        },
     }
 }
 
@@ -45,63 +44,63 @@ pub fn range_inclusive_map_new() -> RangeInclusiveMap
 pub fn range_inclusive_map_is_empty(m: &RangeInclusiveMap) -> Told
     ensures { RangeInclusiveMapIsEmpty m.now result }
 {
-    map_abi::is_empty(KIND, &m.count, &m.starts, &m.ends, &m.values)
+    map_abi::is_empty(KIND, &m.stored)
 }
 
 // How many ranges are held.
 pub fn range_inclusive_map_len(m: &RangeInclusiveMap) -> Count
     ensures { RangeInclusiveMapLen m.now result }
 {
-    map_abi::len(KIND, &m.count, &m.starts, &m.ends, &m.values)
+    map_abi::len(KIND, &m.stored)
 }
 
 // The range and the value at a place.
 pub fn range_inclusive_map_range_at(m: &RangeInclusiveMap, place: usize) -> Range
     ensures { RangeInclusiveMapRangeAt m.now place result }
 {
-    map_abi::range_at(KIND, &m.count, &m.starts, &m.ends, &m.values, place)
+    map_abi::range_at(KIND, &m.stored, place)
 }
 
 // The first range and its value.
 pub fn range_inclusive_map_first_range_value(m: &RangeInclusiveMap) -> Range
     ensures { RangeInclusiveMapFirstRangeValue m.now result }
 {
-    map_abi::first_range_value(KIND, &m.count, &m.starts, &m.ends, &m.values)
+    map_abi::first_range_value(KIND, &m.stored)
 }
 
 // The last range and its value.
 pub fn range_inclusive_map_last_range_value(m: &RangeInclusiveMap) -> Range
     ensures { RangeInclusiveMapLastRangeValue m.now result }
 {
-    map_abi::last_range_value(KIND, &m.count, &m.starts, &m.ends, &m.values)
+    map_abi::last_range_value(KIND, &m.stored)
 }
 
 // The range that holds the key, and its value.
 pub fn range_inclusive_map_get_key_value(m: &RangeInclusiveMap, key: i64) -> Range
     ensures { RangeInclusiveMapGetKeyValue m.now key result }
 {
-    map_abi::get_key_value(KIND, &m.count, &m.starts, &m.ends, &m.values, key)
+    map_abi::get_key_value(KIND, &m.stored, key)
 }
 
 // Whether some range holds the key.
 pub fn range_inclusive_map_contains_key(m: &RangeInclusiveMap, key: i64) -> Told
     ensures { RangeInclusiveMapContainsKey m.now key result }
 {
-    map_abi::contains_key(KIND, &m.count, &m.starts, &m.ends, &m.values, key)
+    map_abi::contains_key(KIND, &m.stored, key)
 }
 
 // Whether some range has a key of the query.
 pub fn range_inclusive_map_overlaps(m: &RangeInclusiveMap, start: i64, end: i64) -> Told
     ensures { RangeInclusiveMapOverlaps m.now start end result }
 {
-    map_abi::overlaps(KIND, &m.count, &m.starts, &m.ends, &m.values, start, end)
+    map_abi::overlaps(KIND, &m.stored, start, end)
 }
 
 // Which consecutive stored part meets the query.
 pub fn range_inclusive_map_overlapping(m: &RangeInclusiveMap, start: i64, end: i64) -> Stretch
     ensures { RangeInclusiveMapOverlapping m.now start end result }
 {
-    map_abi::overlapping(KIND, &m.count, &m.starts, &m.ends, &m.values, start, end)
+    map_abi::overlapping(KIND, &m.stored, start, end)
 }
 
 // The maximal uncovered ranges inside start..=end, into the first places of two lent lists.
@@ -115,7 +114,7 @@ pub fn range_inclusive_map_gaps(
     ensures { RangeInclusiveMapGaps m.now start end out_starts.old out_starts.new out_ends.old out_ends.new result }
 {
     map_abi::gaps(
-        KIND, &m.count, &m.starts, &m.ends, &m.values, start, end, out_starts, out_ends,
+        KIND, &m.stored, start, end, out_starts, out_ends,
     )
 }
 
@@ -124,7 +123,7 @@ pub fn range_inclusive_map_eq(a: &RangeInclusiveMap, b: &RangeInclusiveMap) -> T
     ensures { RangeInclusiveMapEq a.now b.now result }
 {
     map_abi::eq(
-        KIND, &a.count, &a.starts, &a.ends, &a.values, &b.count, &b.starts, &b.ends, &b.values,
+        KIND, &a.stored, &b.stored,
     )
 }
 
@@ -133,7 +132,7 @@ pub fn range_inclusive_map_cmp(a: &RangeInclusiveMap, b: &RangeInclusiveMap) -> 
     ensures { RangeInclusiveMapCmp a.now b.now result }
 {
     map_abi::cmp(
-        KIND, &a.count, &a.starts, &a.ends, &a.values, &b.count, &b.starts, &b.ends, &b.values,
+        KIND, &a.stored, &b.stored,
     )
 }
 
@@ -148,10 +147,7 @@ pub fn range_inclusive_map_insert(
 {
     map_abi::insert(
         KIND,
-        &mut m.count,
-        &mut m.starts,
-        &mut m.ends,
-        &mut m.values,
+        &mut m.stored,
         start,
         end,
         value,
@@ -164,10 +160,7 @@ pub fn range_inclusive_map_remove(m: &mut RangeInclusiveMap, start: i64, end: i6
 {
     map_abi::remove(
         KIND,
-        &mut m.count,
-        &mut m.starts,
-        &mut m.ends,
-        &mut m.values,
+        &mut m.stored,
         start,
         end,
     )
@@ -177,7 +170,7 @@ pub fn range_inclusive_map_remove(m: &mut RangeInclusiveMap, start: i64, end: i6
 pub fn range_inclusive_map_clear(m: &mut RangeInclusiveMap)
     ensures { RangeInclusiveMapClear m.old m.new }
 {
-    map_ops::change::clear(&mut m.count, &mut m.starts, &mut m.ends, &mut m.values)
+    map_ops::change::clear(&mut m.stored)
 }
 
 // Inserts the entries of three lent lists in order, up to the first refusal.
@@ -191,10 +184,7 @@ pub fn range_inclusive_map_extend(
 {
     map_ops::change::bulk::extend(
         KIND,
-        &mut m.count,
-        &mut m.starts,
-        &mut m.ends,
-        &mut m.values,
+        &mut m.stored,
         starts,
         ends,
         values,
@@ -205,7 +195,7 @@ pub fn range_inclusive_map_extend(
 pub fn range_inclusive_map_well_formed(m: &RangeInclusiveMap) -> bool
     ensures { RangeInclusiveMapWellFormed m.now result }
 {
-    map_abi::well_formed(KIND, &m.count, &m.starts, &m.ends, &m.values)
+    map_abi::well_formed(KIND, &m.stored)
 }
 
 // Lookup through the unchecked door: the map must be well formed.
@@ -213,7 +203,7 @@ pub fn range_inclusive_map_get_key_value_unchecked(m: &RangeInclusiveMap, key: i
     requires { Sound inclusive (held m.now) }
     ensures { RangeInclusiveMapGetKeyValueUnchecked m.now key result }
 {
-    map_abi::get_key_value_unchecked(KIND, &m.count, &m.starts, &m.ends, &m.values, key)
+    map_abi::get_key_value_unchecked(KIND, &m.stored, key)
 }
 
 // Gaps through the unchecked door: the map must be well formed.
@@ -228,7 +218,7 @@ pub fn range_inclusive_map_gaps_unchecked(
     ensures { RangeInclusiveMapGapsUnchecked m.now start end out_starts.old out_starts.new out_ends.old out_ends.new result }
 {
     map_abi::gaps_unchecked(
-        KIND, &m.count, &m.starts, &m.ends, &m.values, start, end, out_starts, out_ends,
+        KIND, &m.stored, start, end, out_starts, out_ends,
     )
 }
 
@@ -244,10 +234,7 @@ pub fn range_inclusive_map_insert_unchecked(
 {
     map_abi::insert_unchecked(
         KIND,
-        &mut m.count,
-        &mut m.starts,
-        &mut m.ends,
-        &mut m.values,
+        &mut m.stored,
         start,
         end,
         value,
@@ -261,10 +248,7 @@ pub fn range_inclusive_map_remove_unchecked(m: &mut RangeInclusiveMap, start: i6
 {
     map_abi::remove_unchecked(
         KIND,
-        &mut m.count,
-        &mut m.starts,
-        &mut m.ends,
-        &mut m.values,
+        &mut m.stored,
         start,
         end,
     )

@@ -1,6 +1,6 @@
 -- What a `RangeInclusiveSet` stores is all of it: two that store the same are equal.
 use mathlib.Core.Path.{◌≡◌, ap}
-use Rattle.outcomes.specs.Stored.{Stored}
+use Rattle.outcomes.specs.declared.Stored.{Stored}
 use Rattle.inclusive_set.specs.declared.RangeInclusiveSet.{RangeInclusiveSet}
 use Rattle.inclusive_set.specs.Set.{held}
 

@@ -11,17 +11,13 @@ use Rattle.outcomes.specs.Stored.{places}
 use Rattle.outcomes.specs.Sets.{if_set, if_sets, pairs, formed_set, SoundSet, intersection, union, total_of}
 use Rattle.inclusive_set.specs.declared.RangeInclusiveSet.{RangeInclusiveSet}
 use Rattle.outcomes.specs.declared.Applied.{Applied}
-use Rattle.outcomes.specs.declared.Asked.TheVariants as Asked
-use Rattle.outcomes.specs.declared.Compared.TheVariants as Compared
 use Rattle.outcomes.specs.declared.Count.{Count}
-use Rattle.outcomes.specs.declared.Counted.TheVariants as Counted
-use Rattle.outcomes.specs.declared.Found.TheVariants as Found
 use Rattle.outcomes.specs.declared.Order.{Order}
-use Rattle.outcomes.specs.declared.Part.TheVariants as Part
 use Rattle.outcomes.specs.declared.Range.{Range}
 use Rattle.outcomes.specs.declared.Stretch.{Stretch}
 use Rattle.outcomes.specs.declared.Told.{Told}
 use Rattle.outcomes.specs.declared.Total.{Total}
+use Rattle.std.specs.Prelude.{Err}
 
 -- `range_inclusive_set_new`: a new set, which covers nothing.
 abbrev pub RangeInclusiveSetNew : RangeInclusiveSet → Type 0
@@ -29,39 +25,39 @@ RangeInclusiveSetNew r = held r ≡ clear inclusive
 
 -- `range_inclusive_set_is_empty`: whether nothing is held.
 abbrev pub RangeInclusiveSetIsEmpty : RangeInclusiveSet → Told → Type 0
-RangeInclusiveSetIsEmpty m r = r ≡ asked_in_c (if_set (held m) (is_empty inclusive (held m)) Asked.Refused)
+RangeInclusiveSetIsEmpty m r = r ≡ asked_in_c (if_set (held m) (is_empty inclusive (held m)) Err)
 
 -- `range_inclusive_set_len`: how many ranges are held.
 abbrev pub RangeInclusiveSetLen : RangeInclusiveSet → Count → Type 0
-RangeInclusiveSetLen m r = r ≡ counted_in_c (if_set (held m) (count_of inclusive (held m)) Counted.Refused)
+RangeInclusiveSetLen m r = r ≡ counted_in_c (if_set (held m) (count_of inclusive (held m)) Err)
 
 -- `range_inclusive_set_range_at`: the range at a place.
 abbrev pub RangeInclusiveSetRangeAt : RangeInclusiveSet → ℕ → Range → Type 0
-RangeInclusiveSetRangeAt m place r = r ≡ found_in_c (if_set (held m) (range_at inclusive (held m) place) Found.Refused)
+RangeInclusiveSetRangeAt m place r = r ≡ found_in_c (if_set (held m) (range_at inclusive (held m) place) Err)
 
 -- `range_inclusive_set_first`: the first range.
 abbrev pub RangeInclusiveSetFirst : RangeInclusiveSet → Range → Type 0
-RangeInclusiveSetFirst m r = r ≡ found_in_c (if_set (held m) (first_of inclusive (held m)) Found.Refused)
+RangeInclusiveSetFirst m r = r ≡ found_in_c (if_set (held m) (first_of inclusive (held m)) Err)
 
 -- `range_inclusive_set_last`: the last range.
 abbrev pub RangeInclusiveSetLast : RangeInclusiveSet → Range → Type 0
-RangeInclusiveSetLast m r = r ≡ found_in_c (if_set (held m) (last_of inclusive (held m)) Found.Refused)
+RangeInclusiveSetLast m r = r ≡ found_in_c (if_set (held m) (last_of inclusive (held m)) Err)
 
 -- `range_inclusive_set_get`: the range that holds the key.
 abbrev pub RangeInclusiveSetGet : RangeInclusiveSet → ℤ → Range → Type 0
-RangeInclusiveSetGet m key r = r ≡ found_in_c (if_set (held m) (lookup inclusive (held m) key) Found.Refused)
+RangeInclusiveSetGet m key r = r ≡ found_in_c (if_set (held m) (lookup inclusive (held m) key) Err)
 
 -- `range_inclusive_set_contains`: whether some range holds the key.
 abbrev pub RangeInclusiveSetContains : RangeInclusiveSet → ℤ → Told → Type 0
-RangeInclusiveSetContains m key r = r ≡ asked_in_c (if_set (held m) (contains inclusive (held m) key) Asked.Refused)
+RangeInclusiveSetContains m key r = r ≡ asked_in_c (if_set (held m) (contains inclusive (held m) key) Err)
 
 -- `range_inclusive_set_overlaps`: whether some range has a key of the query.
 abbrev pub RangeInclusiveSetOverlaps : RangeInclusiveSet → ℤ → ℤ → Told → Type 0
-RangeInclusiveSetOverlaps m start end r = r ≡ asked_in_c (if_set (held m) (overlaps inclusive (held m) start end) Asked.Refused)
+RangeInclusiveSetOverlaps m start end r = r ≡ asked_in_c (if_set (held m) (overlaps inclusive (held m) start end) Err)
 
 -- `range_inclusive_set_overlapping`: which consecutive stored part meets the query.
 abbrev pub RangeInclusiveSetOverlapping : RangeInclusiveSet → ℤ → ℤ → Stretch → Type 0
-RangeInclusiveSetOverlapping m start end r = r ≡ part_in_c (if_set (held m) (overlapping inclusive (held m) start end) Part.Refused)
+RangeInclusiveSetOverlapping m start end r = r ≡ part_in_c (if_set (held m) (overlapping inclusive (held m) start end) Err)
 
 -- `range_inclusive_set_gaps`: the maximal uncovered ranges inside start..=end, into the first places of two lent lists.
 abbrev pub RangeInclusiveSetGaps : RangeInclusiveSet → ℤ → ℤ → List ℤ → List ℤ → List ℤ → List ℤ → Count → Type 0
@@ -70,11 +66,11 @@ RangeInclusiveSetGaps m start end outStarts outStarts' outEnds outEnds' r =
 
 -- `range_inclusive_set_eq`: whether two sets hold the same ranges.
 abbrev pub RangeInclusiveSetEq : RangeInclusiveSet → RangeInclusiveSet → Told → Type 0
-RangeInclusiveSetEq a b r = r ≡ asked_in_c (if_sets (held a) (held b) (equal inclusive (held a) (held b)) Asked.Refused)
+RangeInclusiveSetEq a b r = r ≡ asked_in_c (if_sets (held a) (held b) (equal inclusive (held a) (held b)) Err)
 
 -- `range_inclusive_set_cmp`: which of two sets comes first: -1, 0 or 1.
 abbrev pub RangeInclusiveSetCmp : RangeInclusiveSet → RangeInclusiveSet → Order → Type 0
-RangeInclusiveSetCmp a b r = r ≡ compared_in_c (if_sets (held a) (held b) (order inclusive (held a) (held b)) Compared.Refused)
+RangeInclusiveSetCmp a b r = r ≡ compared_in_c (if_sets (held a) (held b) (order inclusive (held a) (held b)) Err)
 
 -- `range_inclusive_set_insert`: covers each instant of start..=end, and no other.
 abbrev pub RangeInclusiveSetInsert : RangeInclusiveSet → RangeInclusiveSet → ℤ → ℤ → ℕ → Type 0

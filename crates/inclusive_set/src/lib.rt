@@ -9,9 +9,9 @@ ghost use Rattle.inclusive_set.specs.Promises.{RangeInclusiveSetCmp, RangeInclus
 ghost use Rattle.inclusive_set.specs.Promises.{RangeInclusiveSetClear, RangeInclusiveSetWellFormed, RangeInclusiveSetIntersection};
 ghost use Rattle.inclusive_set.specs.Promises.{RangeInclusiveSetUnion, RangeInclusiveSetTotal};
 
-use key::{RangeKind, Value};
+use key::RangeKind;
 use operations::Operation;
-use outcomes::{Applied, Count, Order, PLACES, Range, Stretch, Told, Total};
+use outcomes::{Applied, Count, Order, PLACES, Range, Stored, Stretch, Told, Total};
 
 // The kind of this set's ranges.
 const KIND: RangeKind = RangeKind::Inclusive;
@@ -20,10 +20,7 @@ const KIND: RangeKind = RangeKind::Inclusive;
 #[repr(C)]
 #[derive(Drop)]
 pub struct RangeInclusiveSet {
-    pub count: usize,
-    pub starts: [i64; PLACES],
-    pub ends: [i64; PLACES],
-    pub values: [Value; PLACES],
+    pub stored: Stored,
 }
 
 // A new set, which covers nothing.
@@ -31,10 +28,12 @@ pub fn range_inclusive_set_new() -> RangeInclusiveSet
     ensures { RangeInclusiveSetNew result }
 {
     RangeInclusiveSet {
-        count: 0,
-        starts: [0; PLACES],
-        ends: [0; PLACES],
-        values: [0; PLACES],
+        stored: Stored {
+            count: 0,
+            starts: [0; PLACES],
+            ends: [0; PLACES],
+            values: [0; PLACES],
+        },
     }
 }
 
@@ -42,63 +41,63 @@ pub fn range_inclusive_set_new() -> RangeInclusiveSet
 pub fn range_inclusive_set_is_empty(m: &RangeInclusiveSet) -> Told
     ensures { RangeInclusiveSetIsEmpty m.now result }
 {
-    set_abi::is_empty(KIND, &m.count, &m.starts, &m.ends, &m.values)
+    set_abi::is_empty(KIND, &m.stored)
 }
 
 // How many ranges are held.
 pub fn range_inclusive_set_len(m: &RangeInclusiveSet) -> Count
     ensures { RangeInclusiveSetLen m.now result }
 {
-    set_abi::len(KIND, &m.count, &m.starts, &m.ends, &m.values)
+    set_abi::len(KIND, &m.stored)
 }
 
 // The range at a place.
 pub fn range_inclusive_set_range_at(m: &RangeInclusiveSet, place: usize) -> Range
     ensures { RangeInclusiveSetRangeAt m.now place result }
 {
-    set_abi::range_at(KIND, &m.count, &m.starts, &m.ends, &m.values, place)
+    set_abi::range_at(KIND, &m.stored, place)
 }
 
 // The first range.
 pub fn range_inclusive_set_first(m: &RangeInclusiveSet) -> Range
     ensures { RangeInclusiveSetFirst m.now result }
 {
-    set_abi::first(KIND, &m.count, &m.starts, &m.ends, &m.values)
+    set_abi::first(KIND, &m.stored)
 }
 
 // The last range.
 pub fn range_inclusive_set_last(m: &RangeInclusiveSet) -> Range
     ensures { RangeInclusiveSetLast m.now result }
 {
-    set_abi::last(KIND, &m.count, &m.starts, &m.ends, &m.values)
+    set_abi::last(KIND, &m.stored)
 }
 
 // The range that holds the key.
 pub fn range_inclusive_set_get(m: &RangeInclusiveSet, key: i64) -> Range
     ensures { RangeInclusiveSetGet m.now key result }
 {
-    set_abi::get(KIND, &m.count, &m.starts, &m.ends, &m.values, key)
+    set_abi::get(KIND, &m.stored, key)
 }
 
 // Whether some range holds the key.
 pub fn range_inclusive_set_contains(m: &RangeInclusiveSet, key: i64) -> Told
     ensures { RangeInclusiveSetContains m.now key result }
 {
-    set_abi::contains(KIND, &m.count, &m.starts, &m.ends, &m.values, key)
+    set_abi::contains(KIND, &m.stored, key)
 }
 
 // Whether some range has a key of the query.
 pub fn range_inclusive_set_overlaps(m: &RangeInclusiveSet, start: i64, end: i64) -> Told
     ensures { RangeInclusiveSetOverlaps m.now start end result }
 {
-    set_abi::overlaps(KIND, &m.count, &m.starts, &m.ends, &m.values, start, end)
+    set_abi::overlaps(KIND, &m.stored, start, end)
 }
 
 // Which consecutive stored part meets the query.
 pub fn range_inclusive_set_overlapping(m: &RangeInclusiveSet, start: i64, end: i64) -> Stretch
     ensures { RangeInclusiveSetOverlapping m.now start end result }
 {
-    set_abi::overlapping(KIND, &m.count, &m.starts, &m.ends, &m.values, start, end)
+    set_abi::overlapping(KIND, &m.stored, start, end)
 }
 
 // The maximal uncovered ranges inside start..=end, into the first places of two lent lists.
@@ -112,7 +111,7 @@ pub fn range_inclusive_set_gaps(
     ensures { RangeInclusiveSetGaps m.now start end out_starts.old out_starts.new out_ends.old out_ends.new result }
 {
     set_abi::gaps(
-        KIND, &m.count, &m.starts, &m.ends, &m.values, start, end, out_starts, out_ends,
+        KIND, &m.stored, start, end, out_starts, out_ends,
     )
 }
 
@@ -121,7 +120,7 @@ pub fn range_inclusive_set_eq(a: &RangeInclusiveSet, b: &RangeInclusiveSet) -> T
     ensures { RangeInclusiveSetEq a.now b.now result }
 {
     set_abi::eq(
-        KIND, &a.count, &a.starts, &a.ends, &a.values, &b.count, &b.starts, &b.ends, &b.values,
+        KIND, &a.stored, &b.stored,
     )
 }
 
@@ -130,7 +129,7 @@ pub fn range_inclusive_set_cmp(a: &RangeInclusiveSet, b: &RangeInclusiveSet) -> 
     ensures { RangeInclusiveSetCmp a.now b.now result }
 {
     set_abi::cmp(
-        KIND, &a.count, &a.starts, &a.ends, &a.values, &b.count, &b.starts, &b.ends, &b.values,
+        KIND, &a.stored, &b.stored,
     )
 }
 
@@ -140,10 +139,7 @@ pub fn range_inclusive_set_insert(m: &mut RangeInclusiveSet, start: i64, end: i6
 {
     set_abi::insert(
         KIND,
-        &mut m.count,
-        &mut m.starts,
-        &mut m.ends,
-        &mut m.values,
+        &mut m.stored,
         start,
         end,
     )
@@ -155,10 +151,7 @@ pub fn range_inclusive_set_remove(m: &mut RangeInclusiveSet, start: i64, end: i6
 {
     set_abi::remove(
         KIND,
-        &mut m.count,
-        &mut m.starts,
-        &mut m.ends,
-        &mut m.values,
+        &mut m.stored,
         start,
         end,
     )
@@ -174,10 +167,7 @@ pub fn range_inclusive_set_extend(
 {
     set_ops::bulk::extend(
         KIND,
-        &mut m.count,
-        &mut m.starts,
-        &mut m.ends,
-        &mut m.values,
+        &mut m.stored,
         starts,
         ends,
     )
@@ -187,14 +177,14 @@ pub fn range_inclusive_set_extend(
 pub fn range_inclusive_set_clear(m: &mut RangeInclusiveSet)
     ensures { RangeInclusiveSetClear m.old m.new }
 {
-    map_ops::change::clear(&mut m.count, &mut m.starts, &mut m.ends, &mut m.values)
+    map_ops::change::clear(&mut m.stored)
 }
 
 // Whether a map is well formed.
 pub fn range_inclusive_set_well_formed(m: &RangeInclusiveSet) -> bool
     ensures { RangeInclusiveSetWellFormed m.now result }
 {
-    set_abi::well_formed(KIND, &m.count, &m.starts, &m.ends, &m.values)
+    set_abi::well_formed(KIND, &m.stored)
 }
 
 // The common points of two sets as maximal ranges, into the first places of two lent lists.
@@ -209,14 +199,8 @@ pub fn range_inclusive_set_intersection(
     set_abi::combine(
         KIND,
         Operation::Intersection,
-        &a.count,
-        &a.starts,
-        &a.ends,
-        &a.values,
-        &b.count,
-        &b.starts,
-        &b.ends,
-        &b.values,
+        &a.stored,
+        &b.stored,
         out_starts,
         out_ends,
     )
@@ -234,14 +218,8 @@ pub fn range_inclusive_set_union(
     set_abi::combine(
         KIND,
         Operation::Union,
-        &a.count,
-        &a.starts,
-        &a.ends,
-        &a.values,
-        &b.count,
-        &b.starts,
-        &b.ends,
-        &b.values,
+        &a.stored,
+        &b.stored,
         out_starts,
         out_ends,
     )
@@ -251,5 +229,5 @@ pub fn range_inclusive_set_union(
 pub fn range_inclusive_set_total(m: &RangeInclusiveSet) -> Total
     ensures { RangeInclusiveSetTotal m.now result }
 {
-    set_abi::total(KIND, &m.count, &m.starts, &m.ends, &m.values)
+    set_abi::total(KIND, &m.stored)
 }

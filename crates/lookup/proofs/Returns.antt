@@ -13,24 +13,25 @@ use Rattle.span.specs.Span.{Span, span}
 use Rattle.span.specs.Operations.{spans_overlap, any, holds}
 use Rattle.key.specs.Rank.{rank}
 use Rattle.key.specs.Range.{Kind, span_of}
-use Rattle.outcomes.specs.Stored.{Stored, ranges, Sound}
+use Rattle.outcomes.specs.Stored.{ranges, Sound}
+use Rattle.outcomes.specs.declared.Stored.{Stored}
 use Rattle.outcomes.specs.Outcomes.{first_place, how_many, part_of, range_at_sound, lookup_sound, contains_sound, overlaps_sound, overlapping_sound}
-use Rattle.outcomes.specs.declared.Asked.TheVariants as Asked
-use Rattle.outcomes.specs.declared.Found.TheVariants as Found
-use Rattle.outcomes.specs.declared.Part.TheVariants as Part
 use Rattle.outcomes.proofs.Formed.{shape, good, length_ranges, get_or_ranges}
 use Rattle.store.specs.InnerCheck.{span_at}
 use Rattle.store.specs.InnerSearch.{Reached, FirstPast}
 use Rattle.store.proofs.Checked.{formed_steps}
 use Rattle.lookup.proofs.Places.{nth, First, Exactly, exactly_first, first_as, exactly_as, is_first, the_first, any_first, how_many_lem, Rising, holds_meets, meets_at, meets_none, meets_part}
+use Rattle.std.specs.Prelude.{Ok, Err, Some, None}
+use Rattle.answers.specs.declared.Refusal.TheVariants.{EmptyRange}
+use Rattle.outcomes.specs.Answered.{entry, part}
 
 -- a place of a map
 module _ (m : Stored) (i : ℕ) where
-  pub placed_at : i < m.count → Found.Range (get_or m.starts i (pos 0)) (get_or m.ends i (pos 0)) (get_or m.values i 0) ≡ range_at_sound m i
+  pub placed_at : i < m.count → Ok (Some (entry (get_or m.starts i (pos 0)) (get_or m.ends i (pos 0)) (get_or m.values i 0))) ≡ range_at_sound m i
   unfolding range_at_sound
   placed_at h = rw (lt-ltb i m.count h)
 
-  pub placed_none : m.count ≤ i → Found.Nothing ≡ range_at_sound m i
+  pub placed_none : m.count ≤ i → (Ok None) ≡ range_at_sound m i
   unfolding range_at_sound
   placed_none h = rw (le-ltb i m.count h)
 
@@ -84,11 +85,11 @@ module _ {kind : Kind} {m : Stored} (sound : Sound kind m) where
     unfolding lookup_sound
     found_at = ap (range_at_sound m) e
 
-    pub contains_yes : p < m.count → Asked.Yes ≡ contains_sound kind m k
+    pub contains_yes : p < m.count → (Ok true) ≡ contains_sound kind m k
     unfolding contains_sound
     contains_yes h = rw (any_at (holds (rank k)) e h)
 
-    pub contains_no : m.count ≤ p → Asked.No ≡ contains_sound kind m k
+    pub contains_no : m.count ≤ p → (Ok false) ≡ contains_sound kind m k
     unfolding contains_sound
     contains_no h = rw (any_none (holds (rank k)) e h)
 
@@ -97,20 +98,20 @@ module _ {kind : Kind} {m : Stored} (sound : Sound kind m) where
     abbrev q : Span
     q = span_of kind s e 0
 
-    pub met_empty : q.hi ≤ q.lo → Asked.Refused empty_range ≡ overlaps_sound kind m s e
+    pub met_empty : q.hi ≤ q.lo → Err EmptyRange ≡ overlaps_sound kind m s e
     unfolding overlaps_sound
     met_empty h = rw (le-leb q.hi q.lo h)
 
-    pub part_empty : q.hi ≤ q.lo → Part.Refused empty_range ≡ overlapping_sound kind m s e
+    pub part_empty : q.hi ≤ q.lo → Err EmptyRange ≡ overlapping_sound kind m s e
     unfolding overlapping_sound
     part_empty h = rw (le-leb q.hi q.lo h)
 
     module _ (h : q.lo < q.hi) {p : ℕ} (r : Reached kind m.count m.ends s p) where
-      pub met_yes : p < m.count → rank (get_or m.starts p (pos 0)) < q.hi → Asked.Yes ≡ overlaps_sound kind m s e
+      pub met_yes : p < m.count → rank (get_or m.starts p (pos 0)) < q.hi → (Ok true) ≡ overlaps_sound kind m s e
       unfolding overlaps_sound
       met_yes i b = rw (lt-leb q.hi q.lo h, any_at (spans_overlap q) (first_range (meets_at rising q r.below r.at i b)) i)
 
-      pub met_no : (p < m.count → q.hi ≤ rank (get_or m.starts p (pos 0))) → Asked.No ≡ overlaps_sound kind m s e
+      pub met_no : (p < m.count → q.hi ≤ rank (get_or m.starts p (pos 0))) → (Ok false) ≡ overlaps_sound kind m s e
       unfolding overlaps_sound
       met_no b = rw (lt-leb q.hi q.lo h, any_none (spans_overlap q) (first_range (meets_none rising q r.below r.at b)) (omega arith))
 
@@ -121,11 +122,11 @@ module _ {kind : Kind} {m : Stored} (sound : Sound kind m) where
         many : n - p ≡ how_many (spans_overlap q) (ranges kind m)
         many = how_many_lem (spans_overlap q) (ranges kind m) p n (rw as_many (exactly_as (λ j i. ap (spans_overlap q) (nth_place j i)) exactly_met))
 
-        pub part_none : n ≡ p → Part.Places 0 0 ≡ overlapping_sound kind m s e
+        pub part_none : n ≡ p → Ok (part 0 0) ≡ overlapping_sound kind m s e
         unfolding overlapping_sound part_of
         part_none z = rw (lt-leb q.hi q.lo h, eq-eqb (how_many (spans_overlap q) (ranges kind m)) 0 (omega (arith, many)))
 
-        pub part_some : p < n → Part.Places p (n - p) ≡ overlapping_sound kind m s e
+        pub part_some : p < n → Ok (part p (n - p)) ≡ overlapping_sound kind m s e
         unfolding overlapping_sound part_of
         part_some i =
             rw (lt-leb q.hi q.lo h, ne_eqb (how_many (spans_overlap q) (ranges kind m)) 0 (λ z. omega (arith, many)), ← many, ← first_range (exactly_first i exactly_met))

@@ -1,6 +1,6 @@
 -- What a `RangeMap` stores is all of it: two that store the same are equal.
 use mathlib.Core.Path.{◌≡◌, ap}
-use Rattle.outcomes.specs.Stored.{Stored}
+use Rattle.outcomes.specs.declared.Stored.{Stored}
 use Rattle.map.specs.declared.RangeMap.{RangeMap}
 use Rattle.map.specs.Map.{held}
 

@@ -10,7 +10,7 @@ use outcomes::Count;
 pub fn range_map_write(m: &RangeMap, out: &mut [u8]) -> Count
     ensures { RangeMapWrite m.now out.old out.new result }
 {
-    byte_io::write::write_number(&m.count, &m.starts, &m.ends, &m.values, out)
+    byte_io::write::write_number(&m.stored, out)
 }
 
 // Reads the map whose form the bytes are. It overwrites the map, so it does not check it.
@@ -18,10 +18,7 @@ pub fn range_map_read(m: &mut RangeMap, bytes: &[u8]) -> u8
     ensures { RangeMapRead m.old m.new bytes.now result }
 {
     byte_io::read::read(
-        &mut m.count,
-        &mut m.starts,
-        &mut m.ends,
-        &mut m.values,
+        &mut m.stored,
         bytes,
     )
 }

@@ -1,7 +1,7 @@
 // Edits of a map, over all its fields, for either kind: the check of the lent map, and then the unchecked door of its kind. Any map is taken.
-use answers::NOT_FORMED;
+use answers::Refusal;
 use key::{RangeKind, Value};
-use outcomes::{Outcome, PLACES};
+use outcomes::{PLACES, Stored};
 use store::check::well_formed;
 
 pub mod bulk;
@@ -15,53 +15,44 @@ ghost use Rattle.outcomes.specs.InnerOutcome.{Leaves};
 // Gives the value to each instant of the range and to no other.
 pub fn insert(
     kind: RangeKind,
-    count: &mut usize,
-    starts: &mut [i64; PLACES],
-    ends: &mut [i64; PLACES],
-    values: &mut [Value; PLACES],
+    m: &mut Stored,
     start: i64,
     end: i64,
     value: Value,
-) -> Outcome
-    ensures { Leaves result (stored count.new starts.new ends.new values.new)
-        (insert (kind_of kind) (stored count.old starts.old ends.old values.old) start end value) }
+) -> Result<(), Refusal>
+    ensures { Leaves result m.new
+        (insert (kind_of kind) m.old start end value) }
 {
-    if !well_formed(kind, *count, starts, ends, values) {
-        return Outcome::Refused(NOT_FORMED);
+    if !well_formed(kind, m) {
+        return Err(Refusal::NotFormed);
     }
-    edit::insert(kind, count, starts, ends, values, start, end, value)
+    edit::insert(kind, m, start, end, value)
 }
 
 // Uncovers exactly the instants of the range.
 pub fn remove(
     kind: RangeKind,
-    count: &mut usize,
-    starts: &mut [i64; PLACES],
-    ends: &mut [i64; PLACES],
-    values: &mut [Value; PLACES],
+    m: &mut Stored,
     start: i64,
     end: i64,
-) -> Outcome
-    ensures { Leaves result (stored count.new starts.new ends.new values.new)
-        (remove (kind_of kind) (stored count.old starts.old ends.old values.old) start end) }
+) -> Result<(), Refusal>
+    ensures { Leaves result m.new
+        (remove (kind_of kind) m.old start end) }
 {
-    if !well_formed(kind, *count, starts, ends, values) {
-        return Outcome::Refused(NOT_FORMED);
+    if !well_formed(kind, m) {
+        return Err(Refusal::NotFormed);
     }
-    edit::remove(kind, count, starts, ends, values, start, end)
+    edit::remove(kind, m, start, end)
 }
 
 // Leaves nothing held, whatever the kind. It overwrites the map, so it does not check it.
 pub fn clear(
-    count: &mut usize,
-    starts: &mut [i64; PLACES],
-    ends: &mut [i64; PLACES],
-    values: &mut [Value; PLACES],
+    m: &mut Stored,
 )
-    ensures { (k : Kind) → stored count.new starts.new ends.new values.new ≡ clear k }
+    ensures { (k : Kind) → m.new ≡ clear k }
 {
-    *count = 0;
-    splice::clear_keys(starts, 0, PLACES);
-    splice::clear_keys(ends, 0, PLACES);
-    splice::clear_values(values, 0, PLACES);
+    m.count = 0;
+    splice::clear_keys(&m.starts, 0, PLACES);
+    splice::clear_keys(&m.ends, 0, PLACES);
+    splice::clear_values(&m.values, 0, PLACES);
 }

@@ -6,100 +6,85 @@ ghost use Rattle.outcomes.specs.Stored.{stored};
 ghost use Rattle.outcomes.specs.Outcomes.{contains, gaps, lookup, overlaps, overlapping};
 ghost use Rattle.range_list.specs.InnerLists.{wrote};
 
-use answers::NOT_FORMED;
-use key::{RangeKind, Value};
-use outcomes::{Asked, Counted, Found, PLACES, Part};
+use answers::Refusal;
+use key::{Entry, RangeKind};
+use outcomes::{Part, Stored};
 use store::check::well_formed;
 
 // The range that holds the key, and its value.
 pub fn get_key_value(
     kind: RangeKind,
-    count: &usize,
-    starts: &[i64; PLACES],
-    ends: &[i64; PLACES],
-    values: &[Value; PLACES],
+    m: &Stored,
     key: i64,
-) -> Found
-    ensures { result ≡ lookup (kind_of kind) (stored count.now starts.now ends.now values.now) key }
+) -> Result<Option<Entry>, Refusal>
+    ensures { result ≡ lookup (kind_of kind) m.now key }
 {
-    if !well_formed(kind, *count, starts, ends, values) {
-        return Found::Refused(NOT_FORMED);
+    if !well_formed(kind, m) {
+        return Err(Refusal::NotFormed);
     }
-    lookup::get_key_value(kind, *count, starts, ends, values, key)
+    lookup::get_key_value(kind, m, key)
 }
 
 // Whether some range holds the key.
 pub fn contains_key(
     kind: RangeKind,
-    count: &usize,
-    starts: &[i64; PLACES],
-    ends: &[i64; PLACES],
-    values: &[Value; PLACES],
+    m: &Stored,
     key: i64,
-) -> Asked
-    ensures { result ≡ contains (kind_of kind) (stored count.now starts.now ends.now values.now) key }
+) -> Result<bool, Refusal>
+    ensures { result ≡ contains (kind_of kind) m.now key }
 {
-    if !well_formed(kind, *count, starts, ends, values) {
-        return Asked::Refused(NOT_FORMED);
+    if !well_formed(kind, m) {
+        return Err(Refusal::NotFormed);
     }
-    lookup::contains_key(kind, *count, starts, ends, values, key)
+    lookup::contains_key(kind, m, key)
 }
 
 // Whether some range has a key of the query.
 pub fn overlaps(
     kind: RangeKind,
-    count: &usize,
-    starts: &[i64; PLACES],
-    ends: &[i64; PLACES],
-    values: &[Value; PLACES],
+    m: &Stored,
     start: i64,
     end: i64,
-) -> Asked
-    ensures { result ≡ overlaps (kind_of kind) (stored count.now starts.now ends.now values.now) start end }
+) -> Result<bool, Refusal>
+    ensures { result ≡ overlaps (kind_of kind) m.now start end }
 {
-    if !well_formed(kind, *count, starts, ends, values) {
-        return Asked::Refused(NOT_FORMED);
+    if !well_formed(kind, m) {
+        return Err(Refusal::NotFormed);
     }
-    lookup::overlaps(kind, *count, starts, ends, values, start, end)
+    lookup::overlaps(kind, m, start, end)
 }
 
 // Which consecutive stored part meets the query.
 pub fn overlapping(
     kind: RangeKind,
-    count: &usize,
-    starts: &[i64; PLACES],
-    ends: &[i64; PLACES],
-    values: &[Value; PLACES],
+    m: &Stored,
     start: i64,
     end: i64,
-) -> Part
-    ensures { result ≡ overlapping (kind_of kind) (stored count.now starts.now ends.now values.now) start end }
+) -> Result<Part, Refusal>
+    ensures { result ≡ overlapping (kind_of kind) m.now start end }
 {
-    if !well_formed(kind, *count, starts, ends, values) {
-        return Part::Refused(NOT_FORMED);
+    if !well_formed(kind, m) {
+        return Err(Refusal::NotFormed);
     }
-    lookup::overlapping(kind, *count, starts, ends, values, start, end)
+    lookup::overlapping(kind, m, start, end)
 }
 
 // The maximal uncovered ranges inside the outer range, into the first places of two lent lists.
 pub fn gaps(
     kind: RangeKind,
-    count: &usize,
-    starts: &[i64; PLACES],
-    ends: &[i64; PLACES],
-    values: &[Value; PLACES],
+    m: &Stored,
     start: i64,
     end: i64,
     out_starts: &mut [i64],
     out_ends: &mut [i64],
-) -> Counted
+) -> Result<usize, Refusal>
     ensures { wrote result out_starts.new out_ends.new
-        ≡ gaps (kind_of kind) (stored count.now starts.now ends.now values.now) start end out_starts.old out_ends.old }
+        ≡ gaps (kind_of kind) m.now start end out_starts.old out_ends.old }
 {
-    if !well_formed(kind, *count, starts, ends, values) {
-        return Counted::Refused(NOT_FORMED);
+    if !well_formed(kind, m) {
+        return Err(Refusal::NotFormed);
     }
     gaps::gaps(
-        kind, *count, starts, ends, values, start, end, out_starts, out_ends,
+        kind, m, start, end, out_starts, out_ends,
     )
 }

@@ -4,9 +4,10 @@ ghost use Rattle.key.specs.Range.{kind_of};
 ghost use Rattle.outcomes.specs.Stored.{stored};
 ghost use Rattle.outcomes.specs.Outcomes.{count_of, equal, first_of, is_empty, last_of, order, range_at};
 
-use answers::NOT_FORMED;
-use key::{RangeKind, Value};
-use outcomes::{Asked, Compared, Counted, Found, PLACES};
+use std::cmp::Ordering;
+use answers::Refusal;
+use key::{Entry, RangeKind};
+use outcomes::Stored;
 use store::check::well_formed;
 
 // The last of some places, and 0 of none.
@@ -22,127 +23,100 @@ fn last_place(count: usize) -> usize
 // Whether nothing is held.
 pub fn is_empty(
     kind: RangeKind,
-    count: &usize,
-    starts: &[i64; PLACES],
-    ends: &[i64; PLACES],
-    values: &[Value; PLACES],
-) -> Asked
-    ensures { result ≡ is_empty (kind_of kind) (stored count.now starts.now ends.now values.now) }
+    m: &Stored,
+) -> Result<bool, Refusal>
+    ensures { result ≡ is_empty (kind_of kind) m.now }
 {
-    if !well_formed(kind, *count, starts, ends, values) {
-        return Asked::Refused(NOT_FORMED);
+    if !well_formed(kind, m) {
+        return Err(Refusal::NotFormed);
     }
-    if *count == 0 {
-        return Asked::Yes;
+    if m.count == 0 {
+        return Ok(true);
     }
-    Asked::No
+    Ok(false)
 }
 
 // How many ranges are held.
 pub fn len(
     kind: RangeKind,
-    count: &usize,
-    starts: &[i64; PLACES],
-    ends: &[i64; PLACES],
-    values: &[Value; PLACES],
-) -> Counted
-    ensures { result ≡ count_of (kind_of kind) (stored count.now starts.now ends.now values.now) }
+    m: &Stored,
+) -> Result<usize, Refusal>
+    ensures { result ≡ count_of (kind_of kind) m.now }
 {
-    if !well_formed(kind, *count, starts, ends, values) {
-        return Counted::Refused(NOT_FORMED);
+    if !well_formed(kind, m) {
+        return Err(Refusal::NotFormed);
     }
-    Counted::Count(*count)
+    Ok(m.count)
 }
 
 // The range and the value at a place.
 pub fn range_at(
     kind: RangeKind,
-    count: &usize,
-    starts: &[i64; PLACES],
-    ends: &[i64; PLACES],
-    values: &[Value; PLACES],
+    m: &Stored,
     place: usize,
-) -> Found
-    ensures { result ≡ range_at (kind_of kind) (stored count.now starts.now ends.now values.now) place }
+) -> Result<Option<Entry>, Refusal>
+    ensures { result ≡ range_at (kind_of kind) m.now place }
 {
-    if !well_formed(kind, *count, starts, ends, values) {
-        return Found::Refused(NOT_FORMED);
+    if !well_formed(kind, m) {
+        return Err(Refusal::NotFormed);
     }
-    lookup::range_at(*count, starts, ends, values, place)
+    lookup::range_at(m, place)
 }
 
 // The first range and its value.
 pub fn first_range_value(
     kind: RangeKind,
-    count: &usize,
-    starts: &[i64; PLACES],
-    ends: &[i64; PLACES],
-    values: &[Value; PLACES],
-) -> Found
-    ensures { result ≡ first_of (kind_of kind) (stored count.now starts.now ends.now values.now) }
+    m: &Stored,
+) -> Result<Option<Entry>, Refusal>
+    ensures { result ≡ first_of (kind_of kind) m.now }
 {
-    if !well_formed(kind, *count, starts, ends, values) {
-        return Found::Refused(NOT_FORMED);
+    if !well_formed(kind, m) {
+        return Err(Refusal::NotFormed);
     }
-    lookup::range_at(*count, starts, ends, values, 0)
+    lookup::range_at(m, 0)
 }
 
 // The last range and its value.
 pub fn last_range_value(
     kind: RangeKind,
-    count: &usize,
-    starts: &[i64; PLACES],
-    ends: &[i64; PLACES],
-    values: &[Value; PLACES],
-) -> Found
-    ensures { result ≡ last_of (kind_of kind) (stored count.now starts.now ends.now values.now) }
+    m: &Stored,
+) -> Result<Option<Entry>, Refusal>
+    ensures { result ≡ last_of (kind_of kind) m.now }
 {
-    if !well_formed(kind, *count, starts, ends, values) {
-        return Found::Refused(NOT_FORMED);
+    if !well_formed(kind, m) {
+        return Err(Refusal::NotFormed);
     }
-    lookup::range_at(*count, starts, ends, values, last_place(*count))
+    lookup::range_at(m, last_place(m.count))
 }
 
 // Which of two maps comes first.
 pub fn cmp(
     kind: RangeKind,
-    count: &usize,
-    starts: &[i64; PLACES],
-    ends: &[i64; PLACES],
-    values: &[Value; PLACES],
-    count2: &usize,
-    starts2: &[i64; PLACES],
-    ends2: &[i64; PLACES],
-    values2: &[Value; PLACES],
-) -> Compared
-    ensures { result ≡ order (kind_of kind) (stored count.now starts.now ends.now values.now) (stored count2.now starts2.now ends2.now values2.now) }
+    m: &Stored,
+    other: &Stored,
+) -> Result<Ordering, Refusal>
+    ensures { result ≡ order (kind_of kind) m.now other.now }
 {
-    if !well_formed(kind, *count, starts, ends, values) {
-        return Compared::Refused(NOT_FORMED);
+    if !well_formed(kind, m) {
+        return Err(Refusal::NotFormed);
     }
-    if !well_formed(kind, *count2, starts2, ends2, values2) {
-        return Compared::Refused(NOT_FORMED);
+    if !well_formed(kind, other) {
+        return Err(Refusal::NotFormed);
     }
     compare::compare(
-        *count, starts, ends, values, *count2, starts2, ends2, values2,
+        m, other,
     )
 }
 
 // Whether two maps hold the same ranges with the same values.
 pub fn eq(
     kind: RangeKind,
-    count: &usize,
-    starts: &[i64; PLACES],
-    ends: &[i64; PLACES],
-    values: &[Value; PLACES],
-    count2: &usize,
-    starts2: &[i64; PLACES],
-    ends2: &[i64; PLACES],
-    values2: &[Value; PLACES],
-) -> Asked
-    ensures { result ≡ equal (kind_of kind) (stored count.now starts.now ends.now values.now) (stored count2.now starts2.now ends2.now values2.now) }
+    m: &Stored,
+    other: &Stored,
+) -> Result<bool, Refusal>
+    ensures { result ≡ equal (kind_of kind) m.now other.now }
 {
     outcomes::equal_of(cmp(
-        kind, count, starts, ends, values, count2, starts2, ends2, values2,
+        kind, m, other,
     ))
 }

@@ -6,35 +6,28 @@ ghost use Rattle.map.specs.Map.{held};
 ghost use Rattle.query.specs.Answers.{query_ranges_sound};
 ghost use Rattle.map_query.specs.Promises.{RangeMapQueryUnchecked};
 
-use key::Value;
 use map::RangeMap;
-use outcomes::{Count, PLACES, count_of};
+use outcomes::{Count, Stored};
 
 // The answer in numbers, over the fields of both maps.
 fn in_numbers(
-    count_a: &usize,
-    starts_a: &[i64; PLACES],
-    ends_a: &[i64; PLACES],
-    values_a: &[Value; PLACES],
-    count_b: &usize,
-    starts_b: &[i64; PLACES],
-    ends_b: &[i64; PLACES],
-    values_b: &[Value; PLACES],
+    a: &Stored,
+    b: &Stored,
     start: i64,
     end: i64,
     bytes: &[u8],
     out_starts: &mut [i64],
     out_ends: &mut [i64],
 ) -> Count
-    requires { Sound half_open (stored count_a.now starts_a.now ends_a.now values_a.now)
-        × Sound half_open (stored count_b.now starts_b.now ends_b.now values_b.now) }
+    requires { Sound half_open a.now
+        × Sound half_open b.now }
     ensures { Listed result out_starts.new out_ends.new
-        (query_ranges_sound (stored count_a.now starts_a.now ends_a.now values_a.now)
-        (stored count_b.now starts_b.now ends_b.now values_b.now) start end bytes.now
+        (query_ranges_sound a.now
+        b.now start end bytes.now
         out_starts.old out_ends.old) }
 {
-    count_of(query::ranges::query_unchecked(
-        *count_a, starts_a, ends_a, values_a, *count_b, starts_b, ends_b, values_b, start, end,
+    Count::from(query::ranges::query_unchecked(
+        a, b, start, end,
         bytes, out_starts, out_ends,
     ))
 }
@@ -54,7 +47,7 @@ pub fn range_map_query_unchecked(
         out_ends.new result }
 {
     in_numbers(
-        &a.count, &a.starts, &a.ends, &a.values, &b.count, &b.starts, &b.ends, &b.values, start,
+        &a.stored, &b.stored, start,
         end, bytes, out_starts, out_ends,
     )
 }

@@ -19,6 +19,6 @@ pub fn range_map_day_report_unchecked(
     ensures { RangeMapDayReportUnchecked m.now zone year month day result }
 {
     report::day_report_unchecked(
-        &m.count, &m.starts, &m.ends, &m.values, zone, year, month, day,
+        &m.stored, zone, year, month, day,
     )
 }

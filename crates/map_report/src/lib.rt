@@ -14,6 +14,6 @@ pub fn range_map_day_report(m: &RangeMap, zone: u8, year: u16, month: u8, day: u
     ensures { RangeMapDayReport m.now zone year month day result }
 {
     report::day_report(
-        &m.count, &m.starts, &m.ends, &m.values, zone, year, month, day,
+        &m.stored, zone, year, month, day,
     )
 }

@@ -16,58 +16,64 @@ use Rattle.span.specs.Span.{Span, given}
 use Rattle.span.specs.Operations.{uncovered, spans_overlap, any, holds, common, united, span_total}
 use Rattle.key.specs.Rank.{rank, keys, key_at}
 use Rattle.key.specs.Range.{Kind, half_open, span_of, empty}
-use Rattle.outcomes.specs.Stored.{places, Stored, ranges, storing, well_formed}
+use Rattle.outcomes.specs.Stored.{places, ranges, storing, well_formed}
+use Rattle.outcomes.specs.declared.Stored.{Stored}
 use Rattle.outcomes.specs.Numbers.{asked_in_c, counted_in_c, part_in_c, compared_in_c, totalled_in_c}
 use Rattle.outcomes.specs.Numbers as Numbers
 use Rattle.outcomes.specs.Outcomes.{not_written}
-use Rattle.outcomes.specs.Outcomes.{yes_no, compared_by, is_equal, first_place, how_many, part_of, Entry, in_first_places, Written, Edited, leaving, extended}
+use Rattle.outcomes.specs.Outcomes.{yes_no, compared_by, is_equal, first_place, how_many, part_of, in_first_places, Written, Edited, leaving, extended}
+use Rattle.key.specs.declared.Entry.{Entry}
 use Rattle.outcomes.specs.Outcomes.{range_at_sound, lookup_sound, overlaps_sound, overlapping_sound, into_lists, gaps_sound, order_sound, edit_sound, formed}
 use Rattle.outcomes.specs.Outcomes.{range_at, lookup, overlaps, overlapping, gaps, order, equal, edit, bulk_insert}
 use Rattle.outcomes.specs.Sets.{plain, total_is, intersection_sound, union_sound, total_sound, formed_set, intersection, union, total_of}
-use Rattle.outcomes.specs.declared.Asked.{Asked}
-use Rattle.outcomes.specs.declared.Counted.{Counted}
-use Rattle.outcomes.specs.declared.Found.{Found}
-use Rattle.outcomes.specs.declared.Part.{Part}
-use Rattle.outcomes.specs.declared.Compared.{Compared}
-use Rattle.outcomes.specs.declared.Totalled.{Totalled}
+use Rattle.outcomes.specs.Answered.{Asked}
+use Rattle.outcomes.specs.Answered.{Counted}
+use Rattle.outcomes.specs.Answered.{Found}
+use Rattle.outcomes.specs.Answered.{Placed}
+use Rattle.outcomes.specs.Answered.{Compared}
+use Rattle.outcomes.specs.Answered.{Totalled}
 use Rattle.byte_form.specs.Layout.{rm01}
 use Rattle.byte_form.specs.Form.{form_of, Output, output, map_in, is_form, read}
 use Rattle.byte_form.specs.Form as Form
+use Rattle.std.specs.Prelude.{Ok, Err, Some, None}
+use Rattle.answers.specs.declared.Refusal.TheVariants.{TooShort, NotFormed}
+use Rattle.std.specs.declared.cmp.Ordering.TheVariants.{Less, Equal, Greater}
+use Rattle.outcomes.specs.Answered.{entry, part}
 
 -- EVERY OTHER FIELD IS 0 on any number but 0: yes or no
 pub told_zero : (a : Asked) → ((asked_in_c a).answer ≡ 0 → ⊥) → (asked_in_c a).yes ≡ false
-told_zero Asked.Yes n = absurd (n refl)
-told_zero Asked.No n = refl
-told_zero (Asked.Refused r) n = refl
+told_zero (Ok true) n = absurd (n refl)
+told_zero (Ok false) n = refl
+told_zero (Err r) n = refl
 
 -- a count
 pub count_zero : (a : Counted) → ((counted_in_c a).answer ≡ 0 → ⊥) → (counted_in_c a).count ≡ 0
-count_zero (Counted.Count c) n = absurd (n refl)
-count_zero (Counted.Refused r) n = refl
+count_zero (Ok c) n = absurd (n refl)
+count_zero (Err r) n = refl
 
 -- a range and its value
 pub range_zero : (a : Found) → ((Numbers.found_in_c a).answer ≡ 0 → ⊥)
     → ((Numbers.found_in_c a).start ≡ pos 0) × ((Numbers.found_in_c a).end ≡ pos 0) × ((Numbers.found_in_c a).value ≡ 0)
-range_zero (Found.Range s e v) n = absurd (n refl)
-range_zero Found.Nothing n = (refl, refl, refl)
-range_zero (Found.Refused r) n = (refl, refl, refl)
+range_zero (Ok (Some (entry s e v))) n = absurd (n refl)
+range_zero (Ok None) n = (refl, refl, refl)
+range_zero (Err r) n = (refl, refl, refl)
 
 -- a part of the places
-pub stretch_zero : (a : Part) → ((part_in_c a).answer ≡ 0 → ⊥) → ((part_in_c a).place ≡ 0) × ((part_in_c a).count ≡ 0)
-stretch_zero (Part.Places i c) n = absurd (n refl)
-stretch_zero (Part.Refused r) n = (refl, refl)
+pub stretch_zero : (a : Placed) → ((part_in_c a).answer ≡ 0 → ⊥) → ((part_in_c a).place ≡ 0) × ((part_in_c a).count ≡ 0)
+stretch_zero (Ok (part i c)) n = absurd (n refl)
+stretch_zero (Err r) n = (refl, refl)
 
 -- an order
 pub order_zero : (a : Compared) → ((compared_in_c a).answer ≡ 0 → ⊥) → (compared_in_c a).order ≡ pos 0
-order_zero Compared.Less n = absurd (n refl)
-order_zero Compared.Equal n = absurd (n refl)
-order_zero Compared.Greater n = absurd (n refl)
-order_zero (Compared.Refused r) n = refl
+order_zero (Ok Less) n = absurd (n refl)
+order_zero (Ok Equal) n = absurd (n refl)
+order_zero (Ok Greater) n = absurd (n refl)
+order_zero (Err r) n = refl
 
 -- a total
 pub total_zero : (a : Totalled) → ((totalled_in_c a).answer ≡ 0 → ⊥) → (totalled_in_c a).total ≡ 0
-total_zero (Totalled.Total t) n = absurd (n refl)
-total_zero (Totalled.Refused r) n = refl
+total_zero (Ok t) n = absurd (n refl)
+total_zero (Err r) n = refl
 
 -- ALL LENT MEMORY IS AS IT WAS on any number but 0: a map that is edited
 module _ (kind : Kind) (m : Stored) (s e : ℤ) (new : Option ℕ) where
@@ -127,7 +133,7 @@ writing_kept kind xs starts ends = go (ltb (min (length starts) (length ends)) (
     his = map (λ (x : Span). kind.ending x.hi) xs
 
     go : (t : Bool) → ltb (min (length starts) (length ends)) (length xs) ≡ t
-        → Kept (cond t (not_written too_short starts ends) (record { answer = Counted.Count (length xs); starts = in_first_places los starts; ends = in_first_places his ends })) starts ends
+        → Kept (cond t (not_written TooShort starts ends) (record { answer = Ok (length xs); starts = in_first_places los starts; ends = in_first_places his ends })) starts ends
     go true e = unwritten_kept 3 starts ends
     go false e =
         let h = ltb-false (min (length starts) (length ends)) (length xs) e in
@@ -177,8 +183,8 @@ write_kept m out = go (formed half_open m) (ltb (length out) (length bs)) refl
     bs = form_of rm01 m
 
     go : (f t : Bool) → ltb (length out) (length bs) ≡ t
-        → BytesKept (cond f (cond t (output (Counted.Refused too_short) out) (output (Counted.Count (length bs)) (bs ++ drop (length bs) out)))
-        (output (Counted.Refused not_formed) out)) out
+        → BytesKept (cond f (cond t (output (Err TooShort) out) (output (Ok (length bs)) (bs ++ drop (length bs) out)))
+        (output (Err NotFormed) out)) out
     go false t e = record { refused = λ n. refl; past = λ k l. refl; long = refl }
     go true true e = record { refused = λ n. refl; past = λ k l. refl; long = refl }
     go true false e = record {
@@ -268,7 +274,7 @@ part_done : (p : Span → Bool) (xs : List Span) → (part_in_c (part_of p xs)).
 unfolding part_of
 part_done p xs = go (eqb (how_many p xs) 0)
   where
-    go : (t : Bool) → (part_in_c (cond t (Part.Places 0 0) (Part.Places (first_place p xs) (how_many p xs)))).answer ≡ 0
+    go : (t : Bool) → (part_in_c (cond t (Ok (part 0 0)) (Ok (part (first_place p xs) (how_many p xs))))).answer ≡ 0
     go true = refl
     go false = refl
 
@@ -281,7 +287,7 @@ abbrev pub found_number : Found → ℕ
 found_number a = (Numbers.found_in_c a).answer
 
 -- of a part of the places
-abbrev pub part_number : Part → ℕ
+abbrev pub part_number : Placed → ℕ
 part_number a = (part_in_c a).answer
 
 -- of a comparison

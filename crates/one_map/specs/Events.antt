@@ -6,12 +6,16 @@ use Rattle.answers.specs.Answers.{done}
 use Rattle.span.specs.Span.{inside, last}
 use Rattle.key.specs.Rank.{rank}
 use Rattle.key.specs.Range.{Kind, half_open}
-use Rattle.outcomes.specs.Stored.{places, Stored, AllFit, Sound}
-use Rattle.outcomes.specs.Outcomes.{Entry, entry_change, Edited, leaving, Change, lookup, clear, insert, remove, bulk_insert, span_edits}
-use Rattle.outcomes.specs.declared.Found.{Found}
+use Rattle.outcomes.specs.Stored.{places, AllFit, Sound}
+use Rattle.outcomes.specs.declared.Stored.{Stored}
+use Rattle.outcomes.specs.Outcomes.{entry_change, Edited, leaving, Change, lookup, clear, insert, remove, bulk_insert, span_edits}
+use Rattle.key.specs.declared.Entry.{Entry}
+use Rattle.outcomes.specs.Answered.{Found}
 use Rattle.byte_form.specs.Layout.{rm01}
 use Rattle.byte_form.specs.Bytes.{Bytes}
 use Rattle.byte_form.specs.Form.{entries_of, map_in, read}
+use Rattle.std.specs.Prelude.{Ok, Err, Some, None}
+use Rattle.outcomes.specs.Answered.{entry}
 
 -- a well-formed map with all its places, its keys i64
 pub record Proper (kind : Kind) (m : Stored) : Type 0 where
@@ -29,9 +33,9 @@ pub record InMemory (m : Stored) : Type 0 where
 
 -- what the answer of a lookup tells of its key: the value that is held there, or none
 abbrev pub value_of : Found → Option ℕ
-value_of (Found.Range s e v) = some v
-value_of Found.Nothing = none
-value_of (Found.Refused n) = none
+value_of (Ok (Some (entry s e v))) = some v
+value_of (Ok None) = none
+value_of (Err n) = none
 
 -- the value that a map holds at a key, as its lookup answers
 abbrev pub value_at : Kind → Stored → ℤ → Option ℕ

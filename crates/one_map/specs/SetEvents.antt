@@ -3,11 +3,11 @@ use Rattle.std.specs.Prelude.{ℕ, List, [], ◌∷◌, ℤ}
 use Rattle.std.proofs.Math.Option.{Option}
 use Rattle.answers.specs.Answers.{done}
 use Rattle.key.specs.Range.{Kind}
-use Rattle.outcomes.specs.Stored.{Stored}
+use Rattle.outcomes.specs.declared.Stored.{Stored}
 use Rattle.outcomes.specs.Outcomes.{Edited, leaving, extended, lookup, clear, insert, remove, bulk_insert}
 use Rattle.outcomes.specs.Sets.{if_set, pairs}
-use Rattle.outcomes.specs.declared.Found.TheVariants as Found
 use Rattle.one_map.specs.Events.{Event, insert_event, remove_event, bulk_event, clear_event, value_of}
+use Rattle.std.specs.Prelude.{Err}
 
 -- AN EVENT OF A SET: insert of a range, remove of a range, bulk insert of two lent lists of starts and ends, and clear. No set is read from bytes
 pub data SetEvent : Type 0 where
@@ -38,4 +38,4 @@ of_map kind set_clear_event = clear_event
 
 -- what a set's lookup tells of a key: 0 where it is covered, or none
 abbrev pub set_value_at : Kind → Stored → ℤ → Option ℕ
-set_value_at kind m k = value_of (if_set m (lookup kind m k) Found.Refused)
+set_value_at kind m k = value_of (if_set m (lookup kind m k) Err)

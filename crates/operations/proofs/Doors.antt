@@ -8,7 +8,7 @@ use lib.IntN.{ℤ}
 use Rattle.answers.specs.Answers.{not_formed}
 use Rattle.key.specs.Range.{Kind, kind_of}
 use Rattle.key.specs.declared.RangeKind.{RangeKind}
-use Rattle.outcomes.specs.Stored.{Stored}
+use Rattle.outcomes.specs.declared.Stored.{Stored}
 use Rattle.outcomes.specs.Outcomes.{not_written, Written, into_lists}
 use Rattle.outcomes.specs.Sets.{SoundSet, formed_set, intersection_sound, union_sound, intersection, union}
 use Rattle.two_sets.specs.InnerSides.{Side}
@@ -17,6 +17,7 @@ use Rattle.intersection.proofs.Steps as intersection
 use Rattle.union.proofs.Steps as union
 use Rattle.operations.specs.InnerOperation.{found_by, combined, combined_any}
 use Rattle.operations.specs.declared.Operation.{Operation}
+use Rattle.answers.specs.declared.Refusal.TheVariants.{NotFormed}
 
 -- at most as many ranges as the sets have together
 pub most : (operation : Operation) (kind : RangeKind) {sa ea sb eb : List ℤ} {na nb : ℕ} → Side (kind_of kind) sa ea na → Side (kind_of kind) sb eb nb
@@ -34,7 +35,7 @@ answered Operation.Union kind s t os oe e = rw (← rows_are (kind_of kind) s, �
 
 -- THE DOOR OF ANY SETS: one of the two is no set; and both are
 module _ (kind : Kind) (a b : Stored) (os oe : List ℤ) where
-  pub no_sets : (operation : Operation) → (formed_set kind a && formed_set kind b) ≡ false → not_written not_formed os oe ≡ combined_any operation kind a b os oe
+  pub no_sets : (operation : Operation) → (formed_set kind a && formed_set kind b) ≡ false → not_written NotFormed os oe ≡ combined_any operation kind a b os oe
   unfolding intersection union
   no_sets Operation.Intersection h = rw h
   no_sets Operation.Union h = rw h

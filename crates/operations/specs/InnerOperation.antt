@@ -3,7 +3,7 @@ use Rattle.std.specs.Prelude.{ℕ, List, ℤ}
 use Rattle.span.specs.Span.{Span}
 use Rattle.key.specs.Range.{Kind}
 use Rattle.key.specs.declared.RangeKind.{RangeKind}
-use Rattle.outcomes.specs.Stored.{Stored}
+use Rattle.outcomes.specs.declared.Stored.{Stored}
 use Rattle.outcomes.specs.Outcomes.{Written}
 use Rattle.outcomes.specs.Sets.{intersection_sound, union_sound, intersection, union}
 use Rattle.intersection.specs.InnerFound.{shared}

@@ -12,9 +12,9 @@ ghost use Rattle.two_sets.specs.InnerSides.{Side};
 ghost use Rattle.two_sets.specs.InnerLists.{Ended};
 ghost use Rattle.operations.specs.InnerOperation.{found_by, combined, combined_any};
 
-use answers::{NOT_FORMED, TOO_SHORT};
-use key::{RangeKind, Value};
-use outcomes::{Counted, PLACES};
+use answers::Refusal;
+use key::RangeKind;
+use outcomes::Stored;
 use range_list::shorter;
 use two_sets::{are_sets, roomy};
 
@@ -115,63 +115,50 @@ fn fits(
 pub fn combine_unchecked(
     kind: RangeKind,
     operation: Operation,
-    count_a: usize,
-    starts_a: &[i64],
-    ends_a: &[i64],
-    values_a: &[Value],
-    count_b: usize,
-    starts_b: &[i64],
-    ends_b: &[i64],
-    values_b: &[Value],
+    a: &Stored,
+    b: &Stored,
     out_starts: &mut [i64],
     out_ends: &mut [i64],
-) -> Counted
-    requires { SoundSet (kind_of kind) (stored count_a starts_a.now ends_a.now values_a.now)
-        × SoundSet (kind_of kind) (stored count_b starts_b.now ends_b.now values_b.now) }
+) -> Result<usize, Refusal>
+    requires { SoundSet (kind_of kind) a.now
+        × SoundSet (kind_of kind) b.now }
     ensures { wrote result out_starts.new out_ends.new ≡ combined operation (kind_of kind)
-        (stored count_a starts_a.now ends_a.now values_a.now)
-        (stored count_b starts_b.now ends_b.now values_b.now)
+        a.now
+        b.now
         out_starts.old out_ends.old }
 {
     let room = shorter(out_starts.len(), out_ends.len());
     if !fits(
-        kind, operation, starts_a, ends_a, count_a, starts_b, ends_b, count_b, room,
+        kind, operation, &a.starts, &a.ends, a.count, &b.starts, &b.ends, b.count, room,
     ) {
-        return Counted::Refused(TOO_SHORT);
+        return Err(Refusal::TooShort);
     }
     let n = write(
-        kind, operation, starts_a, ends_a, count_a, starts_b, ends_b, count_b, out_starts, out_ends,
+        kind, operation, &a.starts, &a.ends, a.count, &b.starts, &b.ends, b.count, out_starts, out_ends,
     );
-    Counted::Count(n)
+    Ok(n)
 }
 
 // Any two sets are taken.
 pub fn combine(
     kind: RangeKind,
     operation: Operation,
-    count_a: &usize,
-    starts_a: &[i64; PLACES],
-    ends_a: &[i64; PLACES],
-    values_a: &[Value; PLACES],
-    count_b: &usize,
-    starts_b: &[i64; PLACES],
-    ends_b: &[i64; PLACES],
-    values_b: &[Value; PLACES],
+    a: &Stored,
+    b: &Stored,
     out_starts: &mut [i64],
     out_ends: &mut [i64],
-) -> Counted
+) -> Result<usize, Refusal>
     ensures { wrote result out_starts.new out_ends.new ≡ combined_any operation (kind_of kind)
-        (stored count_a.now starts_a.now ends_a.now values_a.now)
-        (stored count_b.now starts_b.now ends_b.now values_b.now)
+        a.now
+        b.now
         out_starts.old out_ends.old }
 {
     if !are_sets(
-        kind, *count_a, starts_a, ends_a, values_a, *count_b, starts_b, ends_b, values_b,
+        kind, a, b,
     ) {
-        return Counted::Refused(NOT_FORMED);
+        return Err(Refusal::NotFormed);
     }
     combine_unchecked(
-        kind, operation, *count_a, starts_a, ends_a, values_a, *count_b, starts_b, ends_b,
-        values_b, out_starts, out_ends,
+        kind, operation, a, b, out_starts, out_ends,
     )
 }

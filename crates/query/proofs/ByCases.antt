@@ -12,15 +12,18 @@ use Rattle.span.specs.Span.{Tidy}
 use Rattle.span.proofs.Tests as tests
 use Rattle.key.specs.Rank.{rank}
 use Rattle.key.specs.Range.{half_open}
-use Rattle.outcomes.specs.Stored.{places, Stored, ranges}
+use Rattle.outcomes.specs.Stored.{places, ranges}
+use Rattle.outcomes.specs.declared.Stored.{Stored}
 use Rattle.outcomes.specs.Outcomes.{not_written, Written, into_lists, formed, yes_no}
-use Rattle.outcomes.specs.declared.Asked.{Asked}
+use Rattle.outcomes.specs.Answered.{Asked}
 use Rattle.outcomes.proofs.Formed as formed
 use Rattle.query_text.specs.Grammar.{Query, Is}
 use Rattle.query_text.specs.Reader.{Read, got, bad, query_of}
 use Rattle.query_text.proofs.Grammar.{read_is}
 use Rattle.query.specs.Result.{is_true}
 use Rattle.query.specs.Answers.{by_query, result_of, query_ranges_sound, query_at_sound, query_ranges, query_at}
+use Rattle.std.specs.Prelude.{Err}
+use Rattle.answers.specs.declared.Refusal.TheVariants.{BadQuery}
 
 -- nothing is refused but for want of room: the maps are well formed, the window is not empty, and the bytes are the query q
 pub record Asks (a b : Stored) (s e : ℤ) (bytes : List ℕ) (q : Query) : Type 0 where
@@ -40,7 +43,7 @@ pub record Refuses (n : ℕ) : Type 0 where
 
 -- WHAT IS ANSWERED, of the ranges and of one instant: both are refused alike, or the bytes are a query and both tell its result
 pub data Answered (a b : Stored) (s e : ℤ) (bytes : List ℕ) (os oe : List ℤ) (k : ℤ) : Written → Asked → Type 0 where
-  refusal : (n : ℕ) → Refuses n → Answered a b s e bytes os oe k (not_written n os oe) (Asked.Refused n)
+  refusal : (n : ℕ) → Refuses n → Answered a b s e bytes os oe k (not_written n os oe) (Err n)
   shown : (q : Query) → Asks a b s e bytes q → Answered a b s e bytes os oe k (into_lists half_open (result_of a b s e q) os oe) (yes_no (is_in a b s e q k))
 
 -- two answers by one test
@@ -52,8 +55,8 @@ module _ (a b : Stored) (s e : ℤ) (bytes : List ℕ) (os oe : List ℤ) (k : �
   -- of what is read
   by_reading : (x : Read) → query_of bytes ≡ x → ((q : Query) → Is bytes q → Asks a b s e bytes q)
       → Answered a b s e bytes os oe k
-      (by_query x (λ q. into_lists half_open (result_of a b s e q) os oe) (not_written bad_query os oe))
-      (by_query x (λ q. yes_no (is_in a b s e q k)) (Asked.Refused bad_query))
+      (by_query x (λ q. into_lists half_open (result_of a b s e q) os oe) (not_written BadQuery os oe))
+      (by_query x (λ q. yes_no (is_in a b s e q k)) (Err BadQuery))
   by_reading bad e f = refusal 7 (omega arith)
   by_reading (got q rest) e f = shown q (f q (read_is bytes q rest e))
 

@@ -11,7 +11,8 @@ use lib.ListN.{length}
 use Rattle.span.specs.Span.{Span, at, inside}
 use Rattle.span.proofs.Laws.{reworded}
 use Rattle.key.specs.Range.{half_open}
-use Rattle.outcomes.specs.Stored.{Stored, ranges, Sound}
+use Rattle.outcomes.specs.Stored.{ranges, Sound}
+use Rattle.outcomes.specs.declared.Stored.{Stored}
 use Rattle.outcomes.proofs.Formed.{good}
 use Rattle.query_text.specs.Grammar.{Query}
 use Rattle.query_text.specs.InnerClasses.{class_of}

@@ -12,11 +12,11 @@ use Rattle.span.proofs.Tests.{lt_cases}
 use Rattle.key.specs.Rank.{rank}
 use Rattle.key.specs.Range.{half_open}
 use Rattle.key.proofs.Answers.{one_answer}
-use Rattle.outcomes.specs.Stored.{Stored}
+use Rattle.outcomes.specs.declared.Stored.{Stored}
 use Rattle.outcomes.specs.Numbers.{asked_in_c, counted_in_c}
 use Rattle.outcomes.specs.Outcomes.{Written, Listed, into_lists, yes_no}
-use Rattle.outcomes.specs.declared.Asked.{Asked}
-use Rattle.outcomes.specs.declared.Counted.{Counted}
+use Rattle.outcomes.specs.Answered.{Asked}
+use Rattle.outcomes.specs.Answered.{Counted}
 use Rattle.outcomes.specs.declared.Count.{Count}
 use Rattle.outcomes.specs.declared.Told.{Told}
 use Rattle.outcomes.proofs.Sets.{covers}
@@ -28,6 +28,7 @@ use Rattle.query.specs.Answers.{result_of, query_ranges, query_at}
 use Rattle.query.proofs.ByCases.{Answered, refusal, shown, querying_answers, is_in}
 use Rattle.query.proofs.Agree.{written_ranges, IsResult, writing_refused, answered_means, answered_agree}
 use Rattle.query.proofs.WrittenLaws.{TellsResult, tells_result, same_written, same_at}
+use Rattle.std.specs.Prelude.{Ok, Err}
 
 -- yes or no is told with the number 0
 told_yes : (t : Bool) → asked_in_c (yes_no t) ≡ record { answer = 0; yes = t }
@@ -35,12 +36,12 @@ told_yes true = refl
 told_yes false = refl
 
 -- a number 0 that is no refusal's is a count
-counted : (c : Counted) {r : Count} → r ≡ counted_in_c c → r.answer ≡ 0 → (c ≡ Counted.Refused 0 → ⊥) → c ≡ Counted.Count r.count
-counted (Counted.Count n) e z f = ap (λ (r : Count). Counted.Count r.count) (sym e)
-counted (Counted.Refused n) {r} e z f =
+counted : (c : Counted) {r : Count} → r ≡ counted_in_c c → r.answer ≡ 0 → (c ≡ Err 0 → ⊥) → c ≡ Ok r.count
+counted (Ok n) e z f = ap (λ (r : Count). Ok r.count) (sym e)
+counted (Err n) {r} e z f =
     let h : r.answer ≡ n = ap (λ (r : Count). r.answer) e in
     let zero : n ≡ 0 = omega arith in
-    absurd (f (ap (λ (i : ℕ). Counted.Refused i) zero))
+    absurd (f (ap (λ (i : ℕ). Err i) zero))
 
 -- the number of a list that is written or too long
 writing_number : (xs : List Span) (os oe : List ℤ)
@@ -59,7 +60,7 @@ pub record ToldOf (a b : Stored) (s e : ℤ) (bytes : List ℕ) (k : ℤ) (yes :
 module _ {a b : Stored} {s e : ℤ} {bytes : List ℕ} {os oe : List ℤ} {k : ℤ} where
   -- the number 0 says that the list is written
   answered_done : {w : Written} {x : Asked} {r : Count} → Answered a b s e bytes os oe k w x
-      → r ≡ counted_in_c w.answer → r.answer ≡ 0 → w.answer ≡ Counted.Count r.count
+      → r ≡ counted_in_c w.answer → r.answer ≡ 0 → w.answer ≡ Ok r.count
   answered_done {r = r} (refusal n f) h z = let m : r.answer ≡ n = ap (λ (r : Count). r.answer) h in absurd (f.not_done (omega arith))
   answered_done (shown q asks) h z = counted (into_lists half_open (result_of a b s e q) os oe).answer h z
       (λ c. let d = writing_refused (result_of a b s e q) os oe 0 c in omega arith)

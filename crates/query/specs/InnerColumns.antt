@@ -2,7 +2,8 @@
 use Rattle.std.specs.Prelude.{ℕ, List, ℤ}
 use Rattle.span.specs.Span.{Span}
 use Rattle.key.specs.Range.{half_open}
-use Rattle.outcomes.specs.Stored.{Stored, stored, ranges}
+use Rattle.outcomes.specs.Stored.{stored, ranges}
+use Rattle.outcomes.specs.declared.Stored.{Stored}
 
 -- what the count and the columns store
 abbrev pub columns : ℕ → List ℤ → List ℤ → List ℕ → Stored

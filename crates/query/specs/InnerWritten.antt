@@ -5,7 +5,8 @@ use Rattle.span.specs.Span.{Span, Means}
 use Rattle.key.specs.Rank.{rank, key_at}
 use Rattle.key.specs.Range.{half_open}
 use Rattle.key.specs.InnerDecides.{Decides}
-use Rattle.outcomes.specs.Stored.{Stored, ranges}
+use Rattle.outcomes.specs.Stored.{ranges}
+use Rattle.outcomes.specs.declared.Stored.{Stored}
 use Rattle.outcomes.specs.Outcomes.{Written, into_lists}
 use Rattle.range_list.specs.InnerLists.{ListRoom, Puts}
 use Rattle.query_text.specs.declared.truth.Truth.{Truth}

@@ -5,28 +5,22 @@ ghost use Rattle.outcomes.specs.Stored.{Sound};
 ghost use Rattle.outcomes.specs.Outcomes.{formed};
 ghost use Rattle.query.specs.InnerColumns.{columns};
 
-use key::{RangeKind, Value};
-use outcomes::PLACES;
+use key::RangeKind;
+use outcomes::Stored;
 use store::check::well_formed;
 
 // Whether two lent maps are well formed: the first is checked, then the second.
 pub fn are_formed(
-    count_a: usize,
-    starts_a: &[i64; PLACES],
-    ends_a: &[i64; PLACES],
-    values_a: &[Value; PLACES],
-    count_b: usize,
-    starts_b: &[i64; PLACES],
-    ends_b: &[i64; PLACES],
-    values_b: &[Value; PLACES],
+    a: &Stored,
+    b: &Stored,
 ) -> bool
-    ensures value { result ≡ (formed half_open (columns count_a starts_a.now ends_a.now values_a.now)
-        && formed half_open (columns count_b starts_b.now ends_b.now values_b.now)) }
-    ensures sound { result ≡ true → Sound half_open (columns count_a starts_a.now ends_a.now values_a.now)
-        × Sound half_open (columns count_b starts_b.now ends_b.now values_b.now) }
+    ensures value { result ≡ (formed half_open (columns count_a a.now.starts a.now.ends a.now.values)
+        && formed half_open (columns count_b b.now.starts b.now.ends b.now.values)) }
+    ensures sound { result ≡ true → Sound half_open (columns count_a a.now.starts a.now.ends a.now.values)
+        × Sound half_open (columns count_b b.now.starts b.now.ends b.now.values) }
 {
-    if !well_formed(RangeKind::HalfOpen, count_a, starts_a, ends_a, values_a) {
+    if !well_formed(RangeKind::HalfOpen, a) {
         return false;
     }
-    well_formed(RangeKind::HalfOpen, count_b, starts_b, ends_b, values_b)
+    well_formed(RangeKind::HalfOpen, b)
 }

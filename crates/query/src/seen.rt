@@ -6,6 +6,7 @@ ghost use Rattle.outcomes.specs.Stored.{Sound};
 ghost use Rattle.query.specs.InnerColumns.{columns, spans_of};
 ghost use Rattle.query.specs.InnerSeen.{Trails, Standing, Sees};
 
+use outcomes::Stored;
 use key::Value;
 
 // The class of a value over 9, and of nothing held.
@@ -27,19 +28,16 @@ fn class_of(value: Value) -> usize
 
 // The first place whose range ends after a key. The ranges before `place` do not.
 fn caught_up(
-    count: usize,
-    starts: &[i64],
-    ends: &[i64],
-    values: &[Value],
+    m: &Stored,
     place: usize,
     key: i64,
 ) -> usize
-    requires { Sound half_open (columns count starts.now ends.now values.now) × Trails (spans_of count starts.now ends.now values.now) place (rank key) }
-    ensures { Standing (spans_of count starts.now ends.now values.now) result (rank key) }
+    requires { Sound half_open (columns count m.now.starts m.now.ends m.now.values) × Trails (spans_of count m.now.starts m.now.ends m.now.values) place (rank key) }
+    ensures { Standing (spans_of count m.now.starts m.now.ends m.now.values) result (rank key) }
 {
     let mut here = place;
-    while here < count {
-        if key < ends[here] {
+    while here < m.count {
+        if key < m.ends[here] {
             return here;
         }
         here += 1;
@@ -49,26 +47,23 @@ fn caught_up(
 
 // What a map holds from a key on, as far as that goes on before `end`. `place` is the first place whose range ends after the key.
 fn seen_at(
-    count: usize,
-    starts: &[i64],
-    ends: &[i64],
-    values: &[Value],
+    m: &Stored,
     place: usize,
     key: i64,
     end: i64,
 ) -> Seen
-    requires { Sound half_open (columns count starts.now ends.now values.now)
-        × Standing (spans_of count starts.now ends.now values.now) place (rank key) × (rank key < rank end) }
-    ensures { Sees (spans_of count starts.now ends.now values.now) (rank key) (rank end) (rank result.until) result.class result.place }
+    requires { Sound half_open (columns count m.now.starts m.now.ends m.now.values)
+        × Standing (spans_of count m.now.starts m.now.ends m.now.values) place (rank key) × (rank key < rank end) }
+    ensures { Sees (spans_of count m.now.starts m.now.ends m.now.values) (rank key) (rank end) (rank result.until) result.class result.place }
 {
-    if place >= count {
+    if place >= m.count {
         return Seen {
             class: OTHER,
             until: end,
             place,
         };
     }
-    let start = starts[place];
+    let start = m.starts[place];
     if key < start {
         return Seen {
             class: OTHER,
@@ -77,26 +72,23 @@ fn seen_at(
         };
     }
     Seen {
-        class: class_of(values[place]),
-        until: key::min(ends[place], end),
+        class: class_of(m.values[place]),
+        until: key::min(m.ends[place], end),
         place,
     }
 }
 
 // The same from a place that trails the key.
 pub fn look(
-    count: usize,
-    starts: &[i64],
-    ends: &[i64],
-    values: &[Value],
+    m: &Stored,
     place: usize,
     key: i64,
     end: i64,
 ) -> Seen
-    requires { Sound half_open (columns count starts.now ends.now values.now)
-        × Trails (spans_of count starts.now ends.now values.now) place (rank key) × (rank key < rank end) }
-    ensures { Sees (spans_of count starts.now ends.now values.now) (rank key) (rank end) (rank result.until) result.class result.place }
+    requires { Sound half_open (columns count m.now.starts m.now.ends m.now.values)
+        × Trails (spans_of count m.now.starts m.now.ends m.now.values) place (rank key) × (rank key < rank end) }
+    ensures { Sees (spans_of count m.now.starts m.now.ends m.now.values) (rank key) (rank end) (rank result.until) result.class result.place }
 {
-    let here = caught_up(count, starts, ends, values, place, key);
-    seen_at(count, starts, ends, values, here, key, end)
+    let here = caught_up(m, place, key);
+    seen_at(m, here, key, end)
 }

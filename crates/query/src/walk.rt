@@ -6,8 +6,8 @@ ghost use Rattle.outcomes.specs.Stored.{Sound};
 ghost use Rattle.query.specs.InnerColumns.{columns, spans_of};
 ghost use Rattle.query.specs.InnerWalk.{NoBits, Silent, Stands, Begins, Cells, Edges};
 
+use outcomes::Stored;
 use crate::seen::look;
-use key::Value;
 use query_text::truth::Truth;
 
 // Where a walk is: a key, and in each map a place that trails it, so that a walk need not look at both.
@@ -59,27 +59,21 @@ fn is_silent(t: Truth, class: usize) -> bool
 
 // The cell at a walk.
 pub fn cell_at(
-    count_a: usize,
-    starts_a: &[i64],
-    ends_a: &[i64],
-    values_a: &[Value],
-    count_b: usize,
-    starts_b: &[i64],
-    ends_b: &[i64],
-    values_b: &[Value],
+    a: &Stored,
+    b: &Stored,
     t: Truth,
     w: Walk,
     end: i64,
 ) -> Cell
-    requires { Sound half_open (columns count_a starts_a.now ends_a.now values_a.now)
-        × Sound half_open (columns count_b starts_b.now ends_b.now values_b.now)
-        × Stands (spans_of count_a starts_a.now ends_a.now values_a.now)
-        (spans_of count_b starts_b.now ends_b.now values_b.now) w × (rank w.key < rank end) }
-    ensures { Cells t (spans_of count_a starts_a.now ends_a.now values_a.now)
-        (spans_of count_b starts_b.now ends_b.now values_b.now) (rank w.key) (rank end) result }
+    requires { Sound half_open (columns count_a a.now.starts a.now.ends a.now.values)
+        × Sound half_open (columns count_b b.now.starts b.now.ends b.now.values)
+        × Stands (spans_of count_a a.now.starts a.now.ends a.now.values)
+        (spans_of count_b b.now.starts b.now.ends b.now.values) w × (rank w.key < rank end) }
+    ensures { Cells t (spans_of count_a a.now.starts a.now.ends a.now.values)
+        (spans_of count_b b.now.starts b.now.ends b.now.values) (rank w.key) (rank end) result }
 {
-    let x = look(count_a, starts_a, ends_a, values_a, w.a, w.key, end);
-    let y = look(count_b, starts_b, ends_b, values_b, w.b, w.key, end);
+    let x = look(a, w.a, w.key, end);
+    let y = look(b, w.b, w.key, end);
     let key = key::min(x.until, y.until);
     let next = Walk {
         key,
@@ -95,26 +89,20 @@ pub fn cell_at(
 // The same, but where the table is silent the cell goes on as long as the first map holds the same, without a look at the second.
 // For the writing alone: a function that is called in one place is compiled into it, and each step then stays in registers.
 pub fn quick_cell(
-    count_a: usize,
-    starts_a: &[i64],
-    ends_a: &[i64],
-    values_a: &[Value],
-    count_b: usize,
-    starts_b: &[i64],
-    ends_b: &[i64],
-    values_b: &[Value],
+    a: &Stored,
+    b: &Stored,
     t: Truth,
     w: Walk,
     end: i64,
 ) -> Cell
-    requires { Sound half_open (columns count_a starts_a.now ends_a.now values_a.now)
-        × Sound half_open (columns count_b starts_b.now ends_b.now values_b.now)
-        × Stands (spans_of count_a starts_a.now ends_a.now values_a.now)
-        (spans_of count_b starts_b.now ends_b.now values_b.now) w × (rank w.key < rank end) }
-    ensures { Cells t (spans_of count_a starts_a.now ends_a.now values_a.now)
-        (spans_of count_b starts_b.now ends_b.now values_b.now) (rank w.key) (rank end) result }
+    requires { Sound half_open (columns count_a a.now.starts a.now.ends a.now.values)
+        × Sound half_open (columns count_b b.now.starts b.now.ends b.now.values)
+        × Stands (spans_of count_a a.now.starts a.now.ends a.now.values)
+        (spans_of count_b b.now.starts b.now.ends b.now.values) w × (rank w.key < rank end) }
+    ensures { Cells t (spans_of count_a a.now.starts a.now.ends a.now.values)
+        (spans_of count_b b.now.starts b.now.ends b.now.values) (rank w.key) (rank end) result }
 {
-    let x = look(count_a, starts_a, ends_a, values_a, w.a, w.key, end);
+    let x = look(a, w.a, w.key, end);
     if is_silent(t, x.class) {
         return Cell {
             yes: false,
@@ -125,7 +113,7 @@ pub fn quick_cell(
             },
         };
     }
-    let y = look(count_b, starts_b, ends_b, values_b, w.b, w.key, end);
+    let y = look(b, w.b, w.key, end);
     let until = key::min(x.until, y.until);
     let next = Walk {
         key: until,
@@ -138,30 +126,24 @@ pub fn quick_cell(
 
 // THE EDGE: the first key from the walk on, before `end`, where the table says `so`; `end` if there is none.
 pub fn edge(
-    count_a: usize,
-    starts_a: &[i64],
-    ends_a: &[i64],
-    values_a: &[Value],
-    count_b: usize,
-    starts_b: &[i64],
-    ends_b: &[i64],
-    values_b: &[Value],
+    a: &Stored,
+    b: &Stored,
     t: Truth,
     w: Walk,
     end: i64,
     so: bool,
 ) -> Walk
-    requires { Sound half_open (columns count_a starts_a.now ends_a.now values_a.now)
-        × Sound half_open (columns count_b starts_b.now ends_b.now values_b.now)
-        × Stands (spans_of count_a starts_a.now ends_a.now values_a.now)
-        (spans_of count_b starts_b.now ends_b.now values_b.now) w × (rank w.key ≤ rank end) }
-    ensures { Edges t (spans_of count_a starts_a.now ends_a.now values_a.now)
-        (spans_of count_b starts_b.now ends_b.now values_b.now) (rank w.key) (rank end) so result }
+    requires { Sound half_open (columns count_a a.now.starts a.now.ends a.now.values)
+        × Sound half_open (columns count_b b.now.starts b.now.ends b.now.values)
+        × Stands (spans_of count_a a.now.starts a.now.ends a.now.values)
+        (spans_of count_b b.now.starts b.now.ends b.now.values) w × (rank w.key ≤ rank end) }
+    ensures { Edges t (spans_of count_a a.now.starts a.now.ends a.now.values)
+        (spans_of count_b b.now.starts b.now.ends b.now.values) (rank w.key) (rank end) so result }
 {
     let mut here = w;
     while here.key < end {
         let c = cell_at(
-            count_a, starts_a, ends_a, values_a, count_b, starts_b, ends_b, values_b, t, here, end,
+            a, b, t, here, end,
         );
         if c.yes == so {
             return here;

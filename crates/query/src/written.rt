@@ -7,45 +7,39 @@ ghost use Rattle.query.specs.InnerColumns.{columns, spans_of};
 ghost use Rattle.query.specs.InnerWalk.{Stands};
 ghost use Rattle.query.specs.InnerWritten.{Counts, Bounded, Measures, HasRoom, Shuts, Writes};
 
+use outcomes::Stored;
 use crate::walk::{Walk, edge, quick_cell};
-use key::Value;
 use query_text::truth::Truth;
 use range_list::put;
 use two_sets::{pick, roomy};
 
 // How many ranges there are from the walk on, before `end`.
 fn count(
-    count_a: usize,
-    starts_a: &[i64],
-    ends_a: &[i64],
-    values_a: &[Value],
-    count_b: usize,
-    starts_b: &[i64],
-    ends_b: &[i64],
-    values_b: &[Value],
+    a: &Stored,
+    b: &Stored,
     t: Truth,
     w: Walk,
     end: i64,
 ) -> usize
-    requires { Sound half_open (columns count_a starts_a.now ends_a.now values_a.now)
-        × Sound half_open (columns count_b starts_b.now ends_b.now values_b.now)
-        × Stands (spans_of count_a starts_a.now ends_a.now values_a.now)
-        (spans_of count_b starts_b.now ends_b.now values_b.now) w × (rank w.key ≤ rank end) }
-    ensures { Counts t (spans_of count_a starts_a.now ends_a.now values_a.now)
-        (spans_of count_b starts_b.now ends_b.now values_b.now) (rank w.key) (rank end) result }
+    requires { Sound half_open (columns count_a a.now.starts a.now.ends a.now.values)
+        × Sound half_open (columns count_b b.now.starts b.now.ends b.now.values)
+        × Stands (spans_of count_a a.now.starts a.now.ends a.now.values)
+        (spans_of count_b b.now.starts b.now.ends b.now.values) w × (rank w.key ≤ rank end) }
+    ensures { Counts t (spans_of count_a a.now.starts a.now.ends a.now.values)
+        (spans_of count_b b.now.starts b.now.ends b.now.values) (rank w.key) (rank end) result }
 {
     let mut n = 0;
     let mut s = edge(
-        count_a, starts_a, ends_a, values_a, count_b, starts_b, ends_b, values_b, t, w, end, true,
+        a, b, t, w, end, true,
     );
     while s.key < end {
         let e = edge(
-            count_a, starts_a, ends_a, values_a, count_b, starts_b, ends_b, values_b, t, s, end,
+            a, b, t, s, end,
             false,
         );
         n += 1;
         s = edge(
-            count_a, starts_a, ends_a, values_a, count_b, starts_b, ends_b, values_b, t, e, end,
+            a, b, t, e, end,
             true,
         );
     }
@@ -54,32 +48,26 @@ fn count(
 
 // Whether `room` places are enough. There is at most one range more than the maps have together, so mostly none is counted.
 pub fn fits(
-    count_a: usize,
-    starts_a: &[i64],
-    ends_a: &[i64],
-    values_a: &[Value],
-    count_b: usize,
-    starts_b: &[i64],
-    ends_b: &[i64],
-    values_b: &[Value],
+    a: &Stored,
+    b: &Stored,
     t: Truth,
     w: Walk,
     end: i64,
     room: usize,
 ) -> bool
-    requires { Sound half_open (columns count_a starts_a.now ends_a.now values_a.now)
-        × Sound half_open (columns count_b starts_b.now ends_b.now values_b.now)
-        × Stands (spans_of count_a starts_a.now ends_a.now values_a.now)
-        (spans_of count_b starts_b.now ends_b.now values_b.now) w × (rank w.key ≤ rank end)
-        × Bounded t (columns count_a starts_a.now ends_a.now values_a.now) (columns count_b starts_b.now ends_b.now values_b.now) w.key end }
-    ensures { Measures t (spans_of count_a starts_a.now ends_a.now values_a.now)
-        (spans_of count_b starts_b.now ends_b.now values_b.now) (rank w.key) (rank end) room result }
+    requires { Sound half_open (columns count_a a.now.starts a.now.ends a.now.values)
+        × Sound half_open (columns count_b b.now.starts b.now.ends b.now.values)
+        × Stands (spans_of count_a a.now.starts a.now.ends a.now.values)
+        (spans_of count_b b.now.starts b.now.ends b.now.values) w × (rank w.key ≤ rank end)
+        × Bounded t (columns count_a a.now.starts a.now.ends a.now.values) (columns count_b b.now.starts b.now.ends b.now.values) w.key end }
+    ensures { Measures t (spans_of count_a a.now.starts a.now.ends a.now.values)
+        (spans_of count_b b.now.starts b.now.ends b.now.values) (rank w.key) (rank end) room result }
 {
-    if roomy(count_a + 1, count_b, room) {
+    if roomy(a.count + 1, b.count, room) {
         return true;
     }
     let n = count(
-        count_a, starts_a, ends_a, values_a, count_b, starts_b, ends_b, values_b, t, w, end,
+        a, b, t, w, end,
     );
     if room < n {
         return false;
@@ -111,28 +99,22 @@ fn shut(
 
 // Writes those ranges, and answers how many they are. The table says yes from `start` on up to the walk: a range that is open, or none.
 pub fn write(
-    count_a: usize,
-    starts_a: &[i64],
-    ends_a: &[i64],
-    values_a: &[Value],
-    count_b: usize,
-    starts_b: &[i64],
-    ends_b: &[i64],
-    values_b: &[Value],
+    a: &Stored,
+    b: &Stored,
     t: Truth,
     w: Walk,
     end: i64,
     out_starts: &mut [i64],
     out_ends: &mut [i64],
 ) -> usize
-    requires { Sound half_open (columns count_a starts_a.now ends_a.now values_a.now)
-        × Sound half_open (columns count_b starts_b.now ends_b.now values_b.now)
-        × Stands (spans_of count_a starts_a.now ends_a.now values_a.now)
-        (spans_of count_b starts_b.now ends_b.now values_b.now) w × (rank w.key ≤ rank end)
-        × HasRoom t (spans_of count_a starts_a.now ends_a.now values_a.now)
-        (spans_of count_b starts_b.now ends_b.now values_b.now) (rank w.key) (rank end) 0 out_starts.old out_ends.old }
-    ensures { Writes t (spans_of count_a starts_a.now ends_a.now values_a.now)
-        (spans_of count_b starts_b.now ends_b.now values_b.now)
+    requires { Sound half_open (columns count_a a.now.starts a.now.ends a.now.values)
+        × Sound half_open (columns count_b b.now.starts b.now.ends b.now.values)
+        × Stands (spans_of count_a a.now.starts a.now.ends a.now.values)
+        (spans_of count_b b.now.starts b.now.ends b.now.values) w × (rank w.key ≤ rank end)
+        × HasRoom t (spans_of count_a a.now.starts a.now.ends a.now.values)
+        (spans_of count_b b.now.starts b.now.ends b.now.values) (rank w.key) (rank end) 0 out_starts.old out_ends.old }
+    ensures { Writes t (spans_of count_a a.now.starts a.now.ends a.now.values)
+        (spans_of count_b b.now.starts b.now.ends b.now.values)
         (rank w.key) (rank end) 0 out_starts.old out_ends.old result out_starts.new out_ends.new }
 {
     let mut n = 0;
@@ -140,7 +122,7 @@ pub fn write(
     let mut here = w;
     while here.key < end {
         let c = quick_cell(
-            count_a, starts_a, ends_a, values_a, count_b, starts_b, ends_b, values_b, t, here, end,
+            a, b, t, here, end,
         );
         n = shut(out_starts, out_ends, n, c.yes, start, here.key);
         start = pick(c.yes, start, c.next.key);

@@ -8,7 +8,8 @@ use Rattle.span.specs.Span.{inside, keep, before, after, joins, tidy, push, join
 use Rattle.span.specs.Operations.{cuts, uncovered, within, span_total, any}
 use Rattle.key.specs.Rank.{above_least, bit_rank, key_at}
 use Rattle.key.specs.Range.{half_open}
-use Rattle.outcomes.specs.Stored.{Stored, spans, ranges, filled, storing, zeros, noughts, unused, well_formed}
+use Rattle.outcomes.specs.Stored.{spans, ranges, filled, storing, zeros, noughts, unused, well_formed}
+use Rattle.outcomes.specs.declared.Stored.{Stored}
 use Rattle.outcomes.specs.Outcomes.{edit_sound, edit, insert, clear}
 use Rattle.hours.specs.Hours.{hours_of}
 use Rattle.duty.proofs.ByStatus.{of_duties}

@@ -3,7 +3,7 @@
 use Rattle.std.specs.Prelude.{ℕ, cond, ℤ, pos}
 use Rattle.answers.specs.Answers.{done, not_formed}
 use Rattle.key.specs.Range.{half_open}
-use Rattle.outcomes.specs.Stored.{Stored}
+use Rattle.outcomes.specs.declared.Stored.{Stored}
 use Rattle.outcomes.specs.Outcomes.{formed}
 use Rattle.hours.specs.Hours.{hours_of}
 use Rattle.duty.specs.Duty.{tally_sound}

@@ -11,9 +11,9 @@ ghost use Rattle.report.specs.Report.{with_keys, day_report_sound, day_report, r
 use answers::{DONE, NOT_FORMED};
 use duty::{Tallied, Totals};
 use hours::hours;
-use key::{Bounds, RangeKind, Value};
+use key::{Bounds, RangeKind};
 use log_day::Day;
-use outcomes::PLACES;
+use outcomes::Stored;
 use store::check::well_formed;
 
 // The day's start and end, and its seconds; or the number of a refusal.
@@ -106,23 +106,20 @@ fn with_keys(window: Bounds, t: Tallied) -> Reported
 
 // The report of a well-formed map. The caller answers for the check.
 pub fn unchecked(
-    count: usize,
-    starts: &[i64],
-    ends: &[i64],
-    values: &[Value],
+    m: &Stored,
     zone: u8,
     year: u16,
     month: u8,
     day: u8,
 ) -> Reported
-    requires { Sound half_open (stored count starts.now ends.now values.now) }
-    ensures { result ≡ day_report_sound (stored count starts.now ends.now values.now) (day_of zone year month day) }
+    requires { Sound half_open m.now }
+    ensures { result ≡ day_report_sound m.now (day_of zone year month day) }
 {
     let d = log_day::day_of(zone, year, month, day);
     match d {
         Day::Span(start, end) => {
             let window = Bounds { start, end };
-            with_keys(window, duty::between(count, starts, ends, values, window))
+            with_keys(window, duty::between(m, window))
         }
         Day::Refused(n) => Reported::Refused(n),
     }
@@ -130,52 +127,43 @@ pub fn unchecked(
 
 // The report of any map, over all its fields.
 pub fn checked(
-    count: &usize,
-    starts: &[i64; PLACES],
-    ends: &[i64; PLACES],
-    values: &[Value; PLACES],
+    m: &Stored,
     zone: u8,
     year: u16,
     month: u8,
     day: u8,
 ) -> Reported
-    ensures { result ≡ day_report (stored count.now starts.now ends.now values.now) zone year month day }
+    ensures { result ≡ day_report m.now zone year month day }
 {
-    if !well_formed(RangeKind::HalfOpen, *count, starts, ends, values) {
+    if !well_formed(RangeKind::HalfOpen, m) {
         return Reported::Refused(NOT_FORMED);
     }
-    unchecked(*count, starts, ends, values, zone, year, month, day)
+    unchecked(m, zone, year, month, day)
 }
 
 // The same as C and Rust see it.
 pub fn day_report(
-    count: &usize,
-    starts: &[i64; PLACES],
-    ends: &[i64; PLACES],
-    values: &[Value; PLACES],
+    m: &Stored,
     zone: u8,
     year: u16,
     month: u8,
     day: u8,
 ) -> DayReport
-    ensures { result ≡ reported_in_c (day_report (stored count.now starts.now ends.now values.now) zone year month day) }
+    ensures { result ≡ reported_in_c (day_report m.now zone year month day) }
 {
-    report_of(checked(count, starts, ends, values, zone, year, month, day))
+    report_of(checked(m, zone, year, month, day))
 }
 
 // The same of a well-formed map. The caller answers for the check.
 pub fn day_report_unchecked(
-    count: &usize,
-    starts: &[i64; PLACES],
-    ends: &[i64; PLACES],
-    values: &[Value; PLACES],
+    m: &Stored,
     zone: u8,
     year: u16,
     month: u8,
     day: u8,
 ) -> DayReport
-    requires { Sound half_open (stored count.now starts.now ends.now values.now) }
-    ensures { result ≡ reported_in_c (day_report_sound (stored count.now starts.now ends.now values.now) (day_of zone year month day)) }
+    requires { Sound half_open m.now }
+    ensures { result ≡ reported_in_c (day_report_sound m.now (day_of zone year month day)) }
 {
-    report_of(unchecked(*count, starts, ends, values, zone, year, month, day))
+    report_of(unchecked(m, zone, year, month, day))
 }

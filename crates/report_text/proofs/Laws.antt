@@ -4,7 +4,7 @@ use native.Mathlib.Omega.{arith}
 use mathlib.Core.Path.{◌≡◌, ap}
 use lib.IntN.{ℤ}
 use Rattle.key.specs.Rank.{rank}
-use Rattle.outcomes.specs.Stored.{Stored}
+use Rattle.outcomes.specs.declared.Stored.{Stored}
 use Rattle.duty.specs.declared.Totals.{Totals}
 use Rattle.report.specs.Report.{day_report}
 use Rattle.report.specs.declared.Reported.TheVariants as Reported

@@ -22,11 +22,11 @@ use Rattle.key.specs.Range.{Kind}
 use Rattle.key.proofs.Laws.{rank_below}
 use Rattle.relations.specs.Relations as relations
 use Rattle.relations.specs.declared.Relation.TheVariants.{Empty}
-use Rattle.outcomes.specs.Stored.{places, Stored, ranges, storing, well_formed}
+use Rattle.outcomes.specs.Stored.{places, ranges, storing, well_formed}
+use Rattle.outcomes.specs.declared.Stored.{Stored}
 use Rattle.outcomes.specs.Outcomes.{not_written, Edited, leaving, edit_sound, edit, overlaps_sound, overlaps, overlapping_sound, overlapping, gaps_sound, gaps}
-use Rattle.outcomes.specs.Outcomes.{Entry, entry_change, bulk_insert_sound, span_edits}
-use Rattle.outcomes.specs.declared.Asked.TheVariants as Asked
-use Rattle.outcomes.specs.declared.Part.TheVariants as Part
+use Rattle.outcomes.specs.Outcomes.{entry_change, bulk_insert_sound, span_edits}
+use Rattle.key.specs.declared.Entry.{Entry}
 use Rattle.rust_algorithm.specs.Btree.{filtered}
 use Rattle.rust_algorithm.specs.Map.{rust_ranges_overlap}
 use Rattle.rust_algorithm.specs.InclusiveMap.{inclusive_range_contains, inclusive_ranges_overlap}
@@ -35,6 +35,8 @@ use Rattle.rust_algorithm.specs.Equal.{LentMap, entry_spans}
 use Rattle.rust_algorithm.proofs.InclusiveEdits.{leb_ltb}
 use Rattle.rust_algorithm.proofs.Same.{Kept, Transcribed}
 use Rattle.rust_algorithm.proofs.Equal.{kept, well, ends_by, edit_equal, edited_is, left, extend_changes}
+use Rattle.std.specs.Prelude.{Err}
+use Rattle.answers.specs.declared.Refusal.TheVariants.{EmptyRange}
 
 -- OF EVERY INPUT
 -- contains and overlaps of ranges: where one is empty or reversed, the Rust says no
@@ -76,7 +78,7 @@ module _ (kind : Kind) (s e : ℤ) (empty : kind.past e ≤ rank s) where
     is_kept = kept kind rust transcribed m is_well
 
     -- overlapping and overlaps of a map: the Rust gives the ranges with start < the query's end and end > its start, whether it is empty or not
-    pub overlaps_answers : (overlaps kind m s e ≡ Asked.Refused empty_range) × (rust.overlaps (rank s) (kind.past e) (ranges kind m)
+    pub overlaps_answers : (overlaps kind m s e ≡ Err EmptyRange) × (rust.overlaps (rank s) (kind.past e) (ranges kind m)
         ≡ any (spans_overlap (span (rank s) (kind.past e) 0)) (ranges kind m))
     unfolding overlaps overlaps_sound
     overlaps_answers = (
@@ -87,7 +89,7 @@ module _ (kind : Kind) (s e : ℤ) (empty : kind.past e ≤ rank s) where
       transcribed.same.overlaps_same (rank s) (kind.past e) (ranges kind m) (transcribed.ends_from e) is_kept,
     )
 
-    pub overlapping_answers : (overlapping kind m s e ≡ Part.Refused empty_range) × (rust.overlapping (rank s) (kind.past e) (ranges kind m)
+    pub overlapping_answers : (overlapping kind m s e ≡ Err EmptyRange) × (rust.overlapping (rank s) (kind.past e) (ranges kind m)
         ≡ filtered (spans_overlap (span (rank s) (kind.past e) 0)) (ranges kind m))
     unfolding overlapping overlapping_sound
     overlapping_answers = (
@@ -99,7 +101,7 @@ module _ (kind : Kind) (s e : ℤ) (empty : kind.past e ≤ rank s) where
     )
 
     -- gaps: the Rust gives no gap
-    pub gaps_answers : (starts ends : List ℤ) → (gaps kind m s e starts ends ≡ not_written empty_range starts ends)
+    pub gaps_answers : (starts ends : List ℤ) → (gaps kind m s e starts ends ≡ not_written EmptyRange starts ends)
         × (rust.gaps (rank s) (kind.past e) (ranges kind m) ≡ some [])
     unfolding gaps gaps_sound
     gaps_answers starts ends = (

@@ -25,12 +25,13 @@ use Rattle.key.proofs.Laws.{key_at_rank, rank_greater, lesser_fits, greater_fits
 use Rattle.key.proofs.Lawful.{Lawful}
 use Rattle.relations.specs.Relations as relations
 use Rattle.relations.specs.declared.Common.{Common}
-use Rattle.outcomes.specs.Stored.{places, Stored, ranges, storing, well_formed}
+use Rattle.outcomes.specs.Stored.{places, ranges, storing, well_formed}
+use Rattle.outcomes.specs.declared.Stored.{Stored}
 use Rattle.outcomes.specs.Outcomes.{Edited, leaving, edit_sound, edit, clear, Change, edits, span_edits, first_place, range_at_sound}
 use Rattle.outcomes.specs.Outcomes.{yes_no, lookup_sound, contains_sound, overlaps_sound, overlapping_sound, gaps_sound, order_sound}
-use Rattle.outcomes.specs.Outcomes.{is_empty, count_of, range_at, lookup, contains, overlaps, overlapping, gaps, equal, order, bulk_insert_sound, Entry, entry_change}
+use Rattle.outcomes.specs.Outcomes.{is_empty, count_of, range_at, lookup, contains, overlaps, overlapping, gaps, equal, order, bulk_insert_sound, entry_change}
+use Rattle.key.specs.declared.Entry.{Entry}
 use Rattle.outcomes.specs.Sets.{plain, SoundSet, intersection_sound, union_sound, intersection, union}
-use Rattle.outcomes.specs.declared.Counted.TheVariants as Counted
 use Rattle.outcomes.proofs.Formed.{formed, shape, length_ranges, get_or_ranges, sound_held}
 use Rattle.outcomes.proofs.Storing.{upto_ranges, sound_storing, length_storing}
 use Rattle.outcomes.proofs.Edits.{edit_accepted, edit_ranges, edit_sound_lem, edit_length, ranges_cleared}
@@ -45,6 +46,7 @@ use Rattle.rust_algorithm.specs.Equal.{applied, EqualToTheRust}
 use Rattle.rust_algorithm.proofs.InclusiveHistory.{By, checked, wrapping}
 use Rattle.rust_algorithm.proofs.Places.{nth_here, nth_past, nth_zero, nth_last, nth_first, part_gives}
 use Rattle.rust_algorithm.proofs.Same.{Kept, KeptSet, Same, Transcribed, half_open_map, inclusive_map}
+use Rattle.std.specs.Prelude.{Ok}
 
 module _ (kind : Kind) (rust : Functions) (transcribed : Transcribed kind rust) where
   abbrev law : Lawful kind
@@ -325,7 +327,7 @@ module _ (kind : Kind) (rust : Functions) (transcribed : Transcribed kind rust) 
         same = rw (well m l, lt-leb (kind.past e) (rank s) real);
       }
 
-    len_equal : count_of kind m ≡ Counted.Count (length xs)
+    len_equal : count_of kind m ≡ Ok (length xs)
     unfolding count_of
     len_equal = rw (well m l, count_is)
 

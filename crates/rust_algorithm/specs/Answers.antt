@@ -11,9 +11,10 @@ use Rattle.relations.specs.declared.Relation.{Relation}
 use Rattle.relations.specs.declared.Relation.TheVariants.{Empty}
 use Rattle.relations.specs.declared.Common.{Common}
 use Rattle.relations.specs.declared.Common.TheVariants.{Between, Nothing}
-use Rattle.outcomes.specs.Stored.{places, Stored, ranges, storing}
+use Rattle.outcomes.specs.Stored.{places, ranges, storing}
+use Rattle.outcomes.specs.declared.Stored.{Stored}
 use Rattle.outcomes.specs.Outcomes.{Edited, leaving, Change}
-use Rattle.outcomes.specs.declared.Found.{Found}
+use Rattle.outcomes.specs.Answered.{Found}
 use Rattle.rust_algorithm.specs.Map.{map_edit, map_history, map_extend, map_get_key_value, map_contains_key, map_overlapping, map_overlaps, map_gaps}
 use Rattle.rust_algorithm.specs.Map.{map_eq, map_cmp}
 use Rattle.rust_algorithm.specs.InclusiveMap.{inclusive_edit, inclusive_history, inclusive_extend, inclusive_get_key_value, inclusive_contains_key}
@@ -23,6 +24,8 @@ use Rattle.rust_algorithm.specs.InclusiveMap.{inclusive_range_contains, inclusiv
 use Rattle.rust_algorithm.specs.Operations.{range_intersect, inclusive_intersect}
 use Rattle.rust_algorithm.specs.Operations.{set_union, set_intersection, set_or, set_and}
 use Rattle.rust_algorithm.specs.Operations.{inclusive_set_union, inclusive_set_intersection, inclusive_set_or, inclusive_set_and}
+use Rattle.std.specs.Prelude.{Ok, Some, None}
+use Rattle.outcomes.specs.Answered.{entry}
 
 -- what rangemap has for one kind of range
 pub record Functions : Type 0 where
@@ -103,8 +106,8 @@ common_by kind (some x) = Between (key_at x.lo) (kind.ending x.hi)
 
 -- an entry as an answer: 5 where there is none
 abbrev pub rust_found : Kind → Option Span → Found
-rust_found kind none = Found.Nothing
-rust_found kind (some x) = Found.Range (key_at x.lo) (kind.ending x.hi) x.label
+rust_found kind none = Ok None
+rust_found kind (some x) = Ok (Some (entry (key_at x.lo) (kind.ending x.hi) x.label))
 
 -- an edit: 1 where the Rust panics, 2 where it leaves more ranges than a map has places, and else the map that holds what it leaves
 abbrev pub edited_by : Kind → Stored → Option (List Span) → Edited

@@ -1,6 +1,6 @@
 -- What a `RangeSet` stores is all of it: two that store the same are equal.
 use mathlib.Core.Path.{◌≡◌, ap}
-use Rattle.outcomes.specs.Stored.{Stored}
+use Rattle.outcomes.specs.declared.Stored.{Stored}
 use Rattle.set.specs.declared.RangeSet.{RangeSet}
 use Rattle.set.specs.Set.{held}
 

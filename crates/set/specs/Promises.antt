@@ -10,18 +10,14 @@ use Rattle.outcomes.specs.Numbers.{asked_in_c, counted_in_c, found_in_c, part_in
 use Rattle.outcomes.specs.Stored.{places}
 use Rattle.outcomes.specs.Sets.{if_set, if_sets, pairs, formed_set, SoundSet, intersection, union, total_of}
 use Rattle.outcomes.specs.declared.Applied.{Applied}
-use Rattle.outcomes.specs.declared.Asked.TheVariants as Asked
-use Rattle.outcomes.specs.declared.Compared.TheVariants as Compared
 use Rattle.outcomes.specs.declared.Count.{Count}
-use Rattle.outcomes.specs.declared.Counted.TheVariants as Counted
-use Rattle.outcomes.specs.declared.Found.TheVariants as Found
 use Rattle.outcomes.specs.declared.Order.{Order}
-use Rattle.outcomes.specs.declared.Part.TheVariants as Part
 use Rattle.outcomes.specs.declared.Range.{Range}
 use Rattle.outcomes.specs.declared.Stretch.{Stretch}
 use Rattle.outcomes.specs.declared.Told.{Told}
 use Rattle.outcomes.specs.declared.Total.{Total}
 use Rattle.set.specs.declared.RangeSet.{RangeSet}
+use Rattle.std.specs.Prelude.{Err}
 
 -- `range_set_new`: a new set, which covers nothing.
 abbrev pub RangeSetNew : RangeSet → Type 0
@@ -29,39 +25,39 @@ RangeSetNew r = held r ≡ clear half_open
 
 -- `range_set_is_empty`: whether nothing is held.
 abbrev pub RangeSetIsEmpty : RangeSet → Told → Type 0
-RangeSetIsEmpty m r = r ≡ asked_in_c (if_set (held m) (is_empty half_open (held m)) Asked.Refused)
+RangeSetIsEmpty m r = r ≡ asked_in_c (if_set (held m) (is_empty half_open (held m)) Err)
 
 -- `range_set_len`: how many ranges are held.
 abbrev pub RangeSetLen : RangeSet → Count → Type 0
-RangeSetLen m r = r ≡ counted_in_c (if_set (held m) (count_of half_open (held m)) Counted.Refused)
+RangeSetLen m r = r ≡ counted_in_c (if_set (held m) (count_of half_open (held m)) Err)
 
 -- `range_set_range_at`: the range at a place.
 abbrev pub RangeSetRangeAt : RangeSet → ℕ → Range → Type 0
-RangeSetRangeAt m place r = r ≡ found_in_c (if_set (held m) (range_at half_open (held m) place) Found.Refused)
+RangeSetRangeAt m place r = r ≡ found_in_c (if_set (held m) (range_at half_open (held m) place) Err)
 
 -- `range_set_first`: the first range.
 abbrev pub RangeSetFirst : RangeSet → Range → Type 0
-RangeSetFirst m r = r ≡ found_in_c (if_set (held m) (first_of half_open (held m)) Found.Refused)
+RangeSetFirst m r = r ≡ found_in_c (if_set (held m) (first_of half_open (held m)) Err)
 
 -- `range_set_last`: the last range.
 abbrev pub RangeSetLast : RangeSet → Range → Type 0
-RangeSetLast m r = r ≡ found_in_c (if_set (held m) (last_of half_open (held m)) Found.Refused)
+RangeSetLast m r = r ≡ found_in_c (if_set (held m) (last_of half_open (held m)) Err)
 
 -- `range_set_get`: the range that holds the key.
 abbrev pub RangeSetGet : RangeSet → ℤ → Range → Type 0
-RangeSetGet m key r = r ≡ found_in_c (if_set (held m) (lookup half_open (held m) key) Found.Refused)
+RangeSetGet m key r = r ≡ found_in_c (if_set (held m) (lookup half_open (held m) key) Err)
 
 -- `range_set_contains`: whether some range holds the key.
 abbrev pub RangeSetContains : RangeSet → ℤ → Told → Type 0
-RangeSetContains m key r = r ≡ asked_in_c (if_set (held m) (contains half_open (held m) key) Asked.Refused)
+RangeSetContains m key r = r ≡ asked_in_c (if_set (held m) (contains half_open (held m) key) Err)
 
 -- `range_set_overlaps`: whether some range has a key of the query.
 abbrev pub RangeSetOverlaps : RangeSet → ℤ → ℤ → Told → Type 0
-RangeSetOverlaps m start end r = r ≡ asked_in_c (if_set (held m) (overlaps half_open (held m) start end) Asked.Refused)
+RangeSetOverlaps m start end r = r ≡ asked_in_c (if_set (held m) (overlaps half_open (held m) start end) Err)
 
 -- `range_set_overlapping`: which consecutive stored part meets the query.
 abbrev pub RangeSetOverlapping : RangeSet → ℤ → ℤ → Stretch → Type 0
-RangeSetOverlapping m start end r = r ≡ part_in_c (if_set (held m) (overlapping half_open (held m) start end) Part.Refused)
+RangeSetOverlapping m start end r = r ≡ part_in_c (if_set (held m) (overlapping half_open (held m) start end) Err)
 
 -- `range_set_gaps`: the maximal uncovered ranges inside start..end, into the first places of two lent lists.
 abbrev pub RangeSetGaps : RangeSet → ℤ → ℤ → List ℤ → List ℤ → List ℤ → List ℤ → Count → Type 0
@@ -70,11 +66,11 @@ RangeSetGaps m start end outStarts outStarts' outEnds outEnds' r =
 
 -- `range_set_eq`: whether two sets hold the same ranges.
 abbrev pub RangeSetEq : RangeSet → RangeSet → Told → Type 0
-RangeSetEq a b r = r ≡ asked_in_c (if_sets (held a) (held b) (equal half_open (held a) (held b)) Asked.Refused)
+RangeSetEq a b r = r ≡ asked_in_c (if_sets (held a) (held b) (equal half_open (held a) (held b)) Err)
 
 -- `range_set_cmp`: which of two sets comes first: -1, 0 or 1.
 abbrev pub RangeSetCmp : RangeSet → RangeSet → Order → Type 0
-RangeSetCmp a b r = r ≡ compared_in_c (if_sets (held a) (held b) (order half_open (held a) (held b)) Compared.Refused)
+RangeSetCmp a b r = r ≡ compared_in_c (if_sets (held a) (held b) (order half_open (held a) (held b)) Err)
 
 -- `range_set_insert`: covers each instant of start..end, and no other.
 abbrev pub RangeSetInsert : RangeSet → RangeSet → ℤ → ℤ → ℕ → Type 0

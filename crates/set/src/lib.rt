@@ -7,9 +7,9 @@ ghost use Rattle.set.specs.Promises.{RangeSetContains, RangeSetOverlaps, RangeSe
 ghost use Rattle.set.specs.Promises.{RangeSetRemove, RangeSetExtend, RangeSetClear, RangeSetWellFormed, RangeSetIntersection, RangeSetUnion};
 ghost use Rattle.set.specs.Promises.{RangeSetTotal};
 
-use key::{RangeKind, Value};
+use key::RangeKind;
 use operations::Operation;
-use outcomes::{Applied, Count, Order, PLACES, Range, Stretch, Told, Total};
+use outcomes::{Applied, Count, Order, PLACES, Range, Stored, Stretch, Told, Total};
 
 // The kind of this set's ranges.
 const KIND: RangeKind = RangeKind::HalfOpen;
@@ -18,10 +18,7 @@ const KIND: RangeKind = RangeKind::HalfOpen;
 #[repr(C)]
 #[derive(Drop)]
 pub struct RangeSet {
-    pub count: usize,
-    pub starts: [i64; PLACES],
-    pub ends: [i64; PLACES],
-    pub values: [Value; PLACES],
+    pub stored: Stored,
 }
 
 // A new set, which covers nothing.
@@ -29,10 +26,12 @@ pub fn range_set_new() -> RangeSet
     ensures { RangeSetNew result }
 {
     RangeSet {
-        count: 0,
-        starts: [0; PLACES],
-        ends: [0; PLACES],
-        values: [0; PLACES],
+        stored: Stored {
+            count: 0,
+            starts: [0; PLACES],
+            ends: [0; PLACES],
+            values: [0; PLACES],
+        },
     }
 }
 
@@ -40,63 +39,63 @@ pub fn range_set_new() -> RangeSet
 pub fn range_set_is_empty(m: &RangeSet) -> Told
     ensures { RangeSetIsEmpty m.now result }
 {
-    set_abi::is_empty(KIND, &m.count, &m.starts, &m.ends, &m.values)
+    set_abi::is_empty(KIND, &m.stored)
 }
 
 // How many ranges are held.
 pub fn range_set_len(m: &RangeSet) -> Count
     ensures { RangeSetLen m.now result }
 {
-    set_abi::len(KIND, &m.count, &m.starts, &m.ends, &m.values)
+    set_abi::len(KIND, &m.stored)
 }
 
 // The range at a place.
 pub fn range_set_range_at(m: &RangeSet, place: usize) -> Range
     ensures { RangeSetRangeAt m.now place result }
 {
-    set_abi::range_at(KIND, &m.count, &m.starts, &m.ends, &m.values, place)
+    set_abi::range_at(KIND, &m.stored, place)
 }
 
 // The first range.
 pub fn range_set_first(m: &RangeSet) -> Range
     ensures { RangeSetFirst m.now result }
 {
-    set_abi::first(KIND, &m.count, &m.starts, &m.ends, &m.values)
+    set_abi::first(KIND, &m.stored)
 }
 
 // The last range.
 pub fn range_set_last(m: &RangeSet) -> Range
     ensures { RangeSetLast m.now result }
 {
-    set_abi::last(KIND, &m.count, &m.starts, &m.ends, &m.values)
+    set_abi::last(KIND, &m.stored)
 }
 
 // The range that holds the key.
 pub fn range_set_get(m: &RangeSet, key: i64) -> Range
     ensures { RangeSetGet m.now key result }
 {
-    set_abi::get(KIND, &m.count, &m.starts, &m.ends, &m.values, key)
+    set_abi::get(KIND, &m.stored, key)
 }
 
 // Whether some range holds the key.
 pub fn range_set_contains(m: &RangeSet, key: i64) -> Told
     ensures { RangeSetContains m.now key result }
 {
-    set_abi::contains(KIND, &m.count, &m.starts, &m.ends, &m.values, key)
+    set_abi::contains(KIND, &m.stored, key)
 }
 
 // Whether some range has a key of the query.
 pub fn range_set_overlaps(m: &RangeSet, start: i64, end: i64) -> Told
     ensures { RangeSetOverlaps m.now start end result }
 {
-    set_abi::overlaps(KIND, &m.count, &m.starts, &m.ends, &m.values, start, end)
+    set_abi::overlaps(KIND, &m.stored, start, end)
 }
 
 // Which consecutive stored part meets the query.
 pub fn range_set_overlapping(m: &RangeSet, start: i64, end: i64) -> Stretch
     ensures { RangeSetOverlapping m.now start end result }
 {
-    set_abi::overlapping(KIND, &m.count, &m.starts, &m.ends, &m.values, start, end)
+    set_abi::overlapping(KIND, &m.stored, start, end)
 }
 
 // The maximal uncovered ranges inside start..end, into the first places of two lent lists.
@@ -110,7 +109,7 @@ pub fn range_set_gaps(
     ensures { RangeSetGaps m.now start end out_starts.old out_starts.new out_ends.old out_ends.new result }
 {
     set_abi::gaps(
-        KIND, &m.count, &m.starts, &m.ends, &m.values, start, end, out_starts, out_ends,
+        KIND, &m.stored, start, end, out_starts, out_ends,
     )
 }
 
@@ -119,7 +118,7 @@ pub fn range_set_eq(a: &RangeSet, b: &RangeSet) -> Told
     ensures { RangeSetEq a.now b.now result }
 {
     set_abi::eq(
-        KIND, &a.count, &a.starts, &a.ends, &a.values, &b.count, &b.starts, &b.ends, &b.values,
+        KIND, &a.stored, &b.stored,
     )
 }
 
@@ -128,7 +127,7 @@ pub fn range_set_cmp(a: &RangeSet, b: &RangeSet) -> Order
     ensures { RangeSetCmp a.now b.now result }
 {
     set_abi::cmp(
-        KIND, &a.count, &a.starts, &a.ends, &a.values, &b.count, &b.starts, &b.ends, &b.values,
+        KIND, &a.stored, &b.stored,
     )
 }
 
@@ -138,10 +137,7 @@ pub fn range_set_insert(m: &mut RangeSet, start: i64, end: i64) -> u8
 {
     set_abi::insert(
         KIND,
-        &mut m.count,
-        &mut m.starts,
-        &mut m.ends,
-        &mut m.values,
+        &mut m.stored,
         start,
         end,
     )
@@ -153,10 +149,7 @@ pub fn range_set_remove(m: &mut RangeSet, start: i64, end: i64) -> u8
 {
     set_abi::remove(
         KIND,
-        &mut m.count,
-        &mut m.starts,
-        &mut m.ends,
-        &mut m.values,
+        &mut m.stored,
         start,
         end,
     )
@@ -168,10 +161,7 @@ pub fn range_set_extend(m: &mut RangeSet, starts: &[i64], ends: &[i64]) -> Appli
 {
     set_ops::bulk::extend(
         KIND,
-        &mut m.count,
-        &mut m.starts,
-        &mut m.ends,
-        &mut m.values,
+        &mut m.stored,
         starts,
         ends,
     )
@@ -181,14 +171,14 @@ pub fn range_set_extend(m: &mut RangeSet, starts: &[i64], ends: &[i64]) -> Appli
 pub fn range_set_clear(m: &mut RangeSet)
     ensures { RangeSetClear m.old m.new }
 {
-    map_ops::change::clear(&mut m.count, &mut m.starts, &mut m.ends, &mut m.values)
+    map_ops::change::clear(&mut m.stored)
 }
 
 // Whether a map is well formed.
 pub fn range_set_well_formed(m: &RangeSet) -> bool
     ensures { RangeSetWellFormed m.now result }
 {
-    set_abi::well_formed(KIND, &m.count, &m.starts, &m.ends, &m.values)
+    set_abi::well_formed(KIND, &m.stored)
 }
 
 // The common points of two sets as maximal ranges, into the first places of two lent lists.
@@ -203,14 +193,8 @@ pub fn range_set_intersection(
     set_abi::combine(
         KIND,
         Operation::Intersection,
-        &a.count,
-        &a.starts,
-        &a.ends,
-        &a.values,
-        &b.count,
-        &b.starts,
-        &b.ends,
-        &b.values,
+        &a.stored,
+        &b.stored,
         out_starts,
         out_ends,
     )
@@ -228,14 +212,8 @@ pub fn range_set_union(
     set_abi::combine(
         KIND,
         Operation::Union,
-        &a.count,
-        &a.starts,
-        &a.ends,
-        &a.values,
-        &b.count,
-        &b.starts,
-        &b.ends,
-        &b.values,
+        &a.stored,
+        &b.stored,
         out_starts,
         out_ends,
     )
@@ -245,5 +223,5 @@ pub fn range_set_union(
 pub fn range_set_total(m: &RangeSet) -> Total
     ensures { RangeSetTotal m.now result }
 {
-    set_abi::total(KIND, &m.count, &m.starts, &m.ends, &m.values)
+    set_abi::total(KIND, &m.stored)
 }

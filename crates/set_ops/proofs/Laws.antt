@@ -13,7 +13,8 @@ use Rattle.span.proofs.Laws.{at_given, tidy_given, never}
 use Rattle.span.proofs.Sets.{plain_at, at_zero}
 use Rattle.key.specs.Rank.{rank}
 use Rattle.key.specs.Range.{Kind}
-use Rattle.outcomes.specs.Stored.{places, Stored, ranges, well_formed}
+use Rattle.outcomes.specs.Stored.{places, ranges, well_formed}
+use Rattle.outcomes.specs.declared.Stored.{Stored}
 use Rattle.outcomes.specs.Sets.{plain, if_set}
 use Rattle.outcomes.specs.Outcomes.{leaving, edit_sound, edit, insert, remove}
 use Rattle.outcomes.proofs.Formed.{formed}

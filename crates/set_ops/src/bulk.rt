@@ -6,8 +6,8 @@ ghost use Rattle.outcomes.specs.Outcomes.{bulk_insert, bulk_insert_sound, extend
 ghost use Rattle.outcomes.specs.Sets.{if_set, pairs};
 
 use answers::{DONE, NOT_FORMED};
-use key::{RangeKind, Value};
-use outcomes::{Applied, Outcome, PLACES};
+use key::RangeKind;
+use outcomes::{Applied, Stored};
 use range_list::shorter;
 use store::check::well_formed;
 use store::plain::plain;
@@ -15,31 +15,25 @@ use store::plain::plain;
 // The ranges of two lent lists, into a set that is well formed.
 fn extend_formed(
     kind: RangeKind,
-    count: &mut usize,
-    starts: &mut [i64; PLACES],
-    ends: &mut [i64; PLACES],
-    values: &mut [Value; PLACES],
+    m: &mut Stored,
     new_starts: &[i64],
     new_ends: &[i64],
 ) -> Applied
-    requires { Sound (kind_of kind) (stored count.old starts.old ends.old values.old) }
-    ensures { extended result (stored count.new starts.new ends.new values.new)
-        ≡ bulk_insert_sound (kind_of kind) (stored count.old starts.old ends.old values.old) 0 (pairs new_starts.now new_ends.now) }
+    requires { Sound (kind_of kind) m.old }
+    ensures { extended result m.new
+        ≡ bulk_insert_sound (kind_of kind) m.old 0 (pairs new_starts.now new_ends.now) }
 {
     let n = shorter(new_starts.len(), new_ends.len());
     let mut i = 0;
     while i < n {
         let went = edit::insert(
             kind,
-            count,
-            starts,
-            ends,
-            values,
+            m,
             new_starts[i],
             new_ends[i],
             0,
         );
-        if let Outcome::Refused(answer) = went {
+        if let Err(answer) = went {
             return Applied {
                 answer: answer,
                 applied: i,
@@ -56,29 +50,26 @@ fn extend_formed(
 // The same, into any set.
 pub fn extend(
     kind: RangeKind,
-    count: &mut usize,
-    starts: &mut [i64; PLACES],
-    ends: &mut [i64; PLACES],
-    values: &mut [Value; PLACES],
+    m: &mut Stored,
     new_starts: &[i64],
     new_ends: &[i64],
 ) -> Applied
-    ensures { extended result (stored count.new starts.new ends.new values.new)
-        ≡ if_set (stored count.old starts.old ends.old values.old)
-        (bulk_insert (kind_of kind) (stored count.old starts.old ends.old values.old) (pairs new_starts.now new_ends.now))
-        (λ n. extended (record { answer = n; applied = 0 }) (stored count.old starts.old ends.old values.old)) }
+    ensures { extended result m.new
+        ≡ if_set m.old
+        (bulk_insert (kind_of kind) m.old (pairs new_starts.now new_ends.now))
+        (λ n. extended (record { answer = n; applied = 0 }) m.old) }
 {
-    if !plain(values) {
+    if !plain(&m.values) {
         return Applied {
             answer: NOT_FORMED,
             applied: 0,
         };
     }
-    if !well_formed(kind, *count, starts, ends, values) {
+    if !well_formed(kind, m) {
         return Applied {
             answer: NOT_FORMED,
             applied: 0,
         };
     }
-    extend_formed(kind, count, starts, ends, values, new_starts, new_ends)
+    extend_formed(kind, m, new_starts, new_ends)
 }

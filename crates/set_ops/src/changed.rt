@@ -5,47 +5,41 @@ ghost use Rattle.outcomes.specs.Outcomes.{insert, leaving, remove};
 ghost use Rattle.outcomes.specs.Sets.{if_set};
 ghost use Rattle.outcomes.specs.InnerOutcome.{Leaves};
 
-use answers::NOT_FORMED;
-use key::{RangeKind, Value};
-use outcomes::{Outcome, PLACES};
+use answers::Refusal;
+use key::RangeKind;
+use outcomes::Stored;
 use store::plain::plain;
 
 // Covers each instant of the range, and no other.
 pub fn insert(
     kind: RangeKind,
-    count: &mut usize,
-    starts: &mut [i64; PLACES],
-    ends: &mut [i64; PLACES],
-    values: &mut [Value; PLACES],
+    m: &mut Stored,
     start: i64,
     end: i64,
-) -> Outcome
-    ensures { Leaves result (stored count.new starts.new ends.new values.new)
-        (if_set (stored count.old starts.old ends.old values.old) (insert (kind_of kind) (stored count.old starts.old ends.old values.old) start end 0)
-        (λ n. leaving n (stored count.old starts.old ends.old values.old))) }
+) -> Result<(), Refusal>
+    ensures { Leaves result m.new
+        (if_set m.old (insert (kind_of kind) m.old start end 0)
+        (λ n. leaving n m.old)) }
 {
-    if !plain(values) {
-        return Outcome::Refused(NOT_FORMED);
+    if !plain(&m.values) {
+        return Err(Refusal::NotFormed);
     }
-    map_ops::change::insert(kind, count, starts, ends, values, start, end, 0)
+    map_ops::change::insert(kind, m, start, end, 0)
 }
 
 // Uncovers exactly the instants of the range.
 pub fn remove(
     kind: RangeKind,
-    count: &mut usize,
-    starts: &mut [i64; PLACES],
-    ends: &mut [i64; PLACES],
-    values: &mut [Value; PLACES],
+    m: &mut Stored,
     start: i64,
     end: i64,
-) -> Outcome
-    ensures { Leaves result (stored count.new starts.new ends.new values.new)
-        (if_set (stored count.old starts.old ends.old values.old) (remove (kind_of kind) (stored count.old starts.old ends.old values.old) start end)
-        (λ n. leaving n (stored count.old starts.old ends.old values.old))) }
+) -> Result<(), Refusal>
+    ensures { Leaves result m.new
+        (if_set m.old (remove (kind_of kind) m.old start end)
+        (λ n. leaving n m.old)) }
 {
-    if !plain(values) {
-        return Outcome::Refused(NOT_FORMED);
+    if !plain(&m.values) {
+        return Err(Refusal::NotFormed);
     }
-    map_ops::change::remove(kind, count, starts, ends, values, start, end)
+    map_ops::change::remove(kind, m, start, end)
 }

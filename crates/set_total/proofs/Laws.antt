@@ -16,9 +16,9 @@ use Rattle.span.proofs.Walks.{Spaced, spaced_ordered}
 use Rattle.key.specs.Rank.{rank, keys}
 use Rattle.key.specs.Range.{Kind, half_open}
 use Rattle.key.proofs.Laws.{rank_below}
-use Rattle.outcomes.specs.Stored.{Stored, spans}
+use Rattle.outcomes.specs.Stored.{spans}
+use Rattle.outcomes.specs.declared.Stored.{Stored}
 use Rattle.outcomes.specs.Sets.{SoundSet, total_is, total_sound}
-use Rattle.outcomes.specs.declared.Totalled.TheVariants as Totalled
 use Rattle.key.specs.Range.{kind_of}
 use Rattle.key.specs.declared.RangeKind.{RangeKind}
 use Rattle.two_sets.specs.InnerKind.{wide}
@@ -28,6 +28,8 @@ use Rattle.two_sets.proofs.Kinded.{past_is}
 use Rattle.two_sets.proofs.Columns.{spaced_rows, spaced_rest, rest_more, rest_none, rest_all}
 use Rattle.two_sets.proofs.Doors.{rows_are}
 use Rattle.set_total.specs.InnerSum.{columns_total}
+use Rattle.std.specs.Prelude.{Ok, Err}
+use Rattle.answers.specs.declared.Refusal.TheVariants.{TotalOver}
 
 -- from b on up to c a list has no more keys than there are
 total_after : (b c : ℕ) (m : List Span) → Ordered b m → Upto c m → span_total m ≤ c - b
@@ -113,10 +115,10 @@ below {a} {b} h = elim (dec_lt a b) [ yes p ↦ p | no p ↦ absurd (h (omega ar
 
 -- THE ANSWERS
 module _ (kind : RangeKind) {m : Stored} (set : SoundSet (kind_of kind) m) where
-  pub answers_over : keys ≤ columns_total kind m.starts m.ends m.count → Totalled.Refused total_over ≡ total_sound (kind_of kind) m
+  pub answers_over : keys ≤ columns_total kind m.starts m.ends m.count → Err TotalOver ≡ total_sound (kind_of kind) m
   unfolding total_sound total_is
   answers_over h = let g = rw (rows_are (kind_of kind) set) at h in rw (le-ltb _ keys g)
 
-  pub answers_total : {n : ℕ} → columns_total kind m.starts m.ends m.count < keys → n ≡ columns_total kind m.starts m.ends m.count → Totalled.Total n ≡ total_sound (kind_of kind) m
+  pub answers_total : {n : ℕ} → columns_total kind m.starts m.ends m.count < keys → n ≡ columns_total kind m.starts m.ends m.count → Ok n ≡ total_sound (kind_of kind) m
   unfolding total_sound total_is
   answers_total {n} h e = let g = rw (rows_are (kind_of kind) set) at e in rw (← g, lt-ltb n keys (omega arith))

@@ -10,9 +10,9 @@ ghost use Rattle.outcomes.specs.Sets.{SoundSet, total_sound, total_of};
 ghost use Rattle.two_sets.specs.InnerSides.{Side};
 ghost use Rattle.set_total.specs.InnerSum.{columns_total};
 
-use answers::{NOT_FORMED, TOTAL_OVER};
-use key::{RangeKind, Value};
-use outcomes::{PLACES, Totalled};
+use answers::Refusal;
+use key::RangeKind;
+use outcomes::Stored;
 use store::plain::is_set;
 use two_sets::width;
 
@@ -59,33 +59,27 @@ fn sum(kind: RangeKind, starts: &[i64], ends: &[i64], count: usize) -> u64
 // THE UNCHECKED DOOR: the set must be sound. The values are lent as a part of the set, and none is read.
 pub fn total_unchecked(
     kind: RangeKind,
-    count: usize,
-    starts: &[i64],
-    ends: &[i64],
-    values: &[Value],
-) -> Totalled
-    requires { SoundSet (kind_of kind) (stored count starts.now ends.now values.now) }
-    ensures { result ≡ total_sound (kind_of kind) (stored count starts.now ends.now values.now) }
+    m: &Stored,
+) -> Result<u64, Refusal>
+    requires { SoundSet (kind_of kind) m.now }
+    ensures { result ≡ total_sound (kind_of kind) m.now }
 {
-    if full(kind, starts, ends, count) {
-        return Totalled::Refused(TOTAL_OVER);
+    if full(kind, &m.starts, &m.ends, m.count) {
+        return Err(Refusal::TotalOver);
     }
-    let n = sum(kind, starts, ends, count);
-    Totalled::Total(n)
+    let n = sum(kind, &m.starts, &m.ends, m.count);
+    Ok(n)
 }
 
 // Any set is taken.
 pub fn total(
     kind: RangeKind,
-    count: &usize,
-    starts: &[i64; PLACES],
-    ends: &[i64; PLACES],
-    values: &[Value; PLACES],
-) -> Totalled
-    ensures { result ≡ total_of (kind_of kind) (stored count.now starts.now ends.now values.now) }
+    m: &Stored,
+) -> Result<u64, Refusal>
+    ensures { result ≡ total_of (kind_of kind) m.now }
 {
-    if !is_set(kind, *count, starts, ends, values) {
-        return Totalled::Refused(NOT_FORMED);
+    if !is_set(kind, m) {
+        return Err(Refusal::NotFormed);
     }
-    total_unchecked(kind, *count, starts, ends, values)
+    total_unchecked(kind, m)
 }

@@ -12,7 +12,8 @@ use Rattle.span.specs.Span.{span, Tidy}
 use Rattle.span.proofs.Pieces.{tidy_places, places_tidy}
 use Rattle.key.specs.InnerDecides.{Decides}
 use Rattle.key.specs.Range.{Kind}
-use Rattle.outcomes.specs.Stored.{places, Stored, ranges, well_formed, AllFit, Sound}
+use Rattle.outcomes.specs.Stored.{places, ranges, well_formed, AllFit, Sound}
+use Rattle.outcomes.specs.declared.Stored.{Stored}
 use Rattle.outcomes.proofs.Formed.{Formed, Shaped, formed, well_formed_lem, length_ranges, get_or_ranges}
 use Rattle.store.specs.InnerCheck.{span_at, Step, Follows, Steps, Keys, Unused}
 

@@ -15,7 +15,8 @@ use Rattle.key.specs.Range.{Kind}
 use Rattle.key.specs.InnerDecides.{Decides}
 use Rattle.key.proofs.Answers.{neither_less, not_full}
 use Rattle.key.proofs.Lawful.{Lawful}
-use Rattle.outcomes.specs.Stored.{Stored, Sound}
+use Rattle.outcomes.specs.Stored.{Sound}
+use Rattle.outcomes.specs.declared.Stored.{Stored}
 use Rattle.outcomes.proofs.Formed.{Formed, Shaped, shape, good}
 use Rattle.store.specs.InnerSearch.{Ascends, Reached, FirstPast}
 use Rattle.store.proofs.Checked.{formed_steps}

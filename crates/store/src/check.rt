@@ -8,7 +8,7 @@ ghost use Rattle.outcomes.specs.Outcomes.{formed};
 ghost use Rattle.store.specs.InnerCheck.{Follows, Steps, Keys, Unused};
 
 use key::{RangeKind, Value};
-use outcomes::PLACES;
+use outcomes::Stored;
 
 // The greatest key at which the next range may not begin: the end of a half-open range before one of the same value, else the key before its end.
 fn bar(end: i64, value: Value, next: Value) -> i64
@@ -153,17 +153,14 @@ fn unused(starts: &[i64], ends: &[i64], values: &[Value], count: usize) -> bool
 // Whether a lent map is well formed: `true` exactly where it is, and then it is sound and has all its places.
 pub fn well_formed(
     kind: RangeKind,
-    count: usize,
-    starts: &[i64; PLACES],
-    ends: &[i64; PLACES],
-    values: &[Value; PLACES],
+    m: &Stored,
 ) -> bool
-    ensures value { result ≡ formed (kind_of kind) (stored count starts.now ends.now values.now) }
-    ensures sound { result ≡ true → Sound (kind_of kind) (stored count starts.now ends.now values.now) }
-    ensures starts_len { result ≡ true → length starts.now ≡ places }
+    ensures value { result ≡ formed (kind_of kind) m.now }
+    ensures sound { result ≡ true → Sound (kind_of kind) m.now }
+    ensures starts_len { result ≡ true → length m.now.starts ≡ places }
 {
-    if !unused(starts, ends, values, count) {
+    if !unused(&m.starts, &m.ends, &m.values, m.count) {
         return false;
     }
-    tidy(kind, starts, ends, values, count)
+    tidy(kind, &m.starts, &m.ends, &m.values, m.count)
 }

@@ -13,8 +13,8 @@ fn print_first(out: &[u8], n: usize) {
 
 fn print_written(out: &[u8], wrote: Counted) {
     match wrote {
-        Counted::Count(n) => print_first(out, n),
-        Counted::Refused(n) => print_number(n as u64),
+        Ok(n) => print_first(out, n),
+        Err(n) => print_number(n as u64),
     }
     print(b'\n');
 }

@@ -229,11 +229,11 @@ fn range_of<'a>(
 }
 
 fn len(m: Map) -> Count {
-    len_of(m.kind, &m.count, &m.starts, &m.ends, &m.values)
+    len_of(m.kind, &m.stored)
 }
 
 fn range_at(m: Map, place: usize) -> Range {
-    range_of(m.kind, &m.count, &m.starts, &m.ends, &m.values, place)
+    Range::from(m.kind, &m.stored, place)
 }
 
 // The comma before all places but the first.
@@ -604,7 +604,7 @@ fn answer<'a>(
 
 fn ask(m: Map, s: Step) {
     print_question(m.kind, s);
-    answer(m.kind, &m.count, &m.starts, &m.ends, &m.values, s);
+    answer(m.kind, &m.stored, s);
     print(b'\n');
 }
 
@@ -631,7 +631,7 @@ fn compare_by<'a, 'b>(
 
 fn compare(a: Map, b: Map) {
     compare_by(
-        a.kind, &a.count, &a.starts, &a.ends, &a.values, &b.count, &b.starts, &b.ends, &b.values,
+        a.kind, &a.stored, &b.stored,
     );
     print(b'\n');
 }

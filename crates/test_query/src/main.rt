@@ -6,7 +6,7 @@
 #![tactic(auto)]
 
 use key::RangeKind;
-use outcomes::{Count, PLACES, Told, count_of, told_of};
+use outcomes::{Count, PLACES, Told};
 use test_print::{print, print_key, print_list, print_number, print_range, print_told, read_byte};
 
 // No question has a longer query.
@@ -229,7 +229,7 @@ fn list<'a, 'b>(
         &mut out_starts,
         &mut out_ends,
     );
-    print_count(count_of(listed));
+    print_count(Count::from(listed));
     print_list(RangeKind::HalfOpen, &out_starts, &out_ends);
 }
 
@@ -238,7 +238,7 @@ fn show_list(a: Map, b: Map, start: i64, end: i64, bytes: &[u8]) {
     print_range(RangeKind::HalfOpen, start, end);
     print_colon();
     list(
-        &a.count, &a.starts, &a.ends, &a.values, &b.count, &b.starts, &b.ends, &b.values, start,
+        &a.stored, &b.stored, start,
         end, bytes,
     );
 }
@@ -258,7 +258,7 @@ fn told_at<'a, 'b>(
     bytes: &[u8],
     key: i64,
 ) -> Told {
-    told_of(query::instant::query_at(
+    Told::from(query::instant::query_at(
         count_a, starts_a, ends_a, values_a, count_b, starts_b, ends_b, values_b, start, end,
         bytes, key,
     ))
@@ -266,7 +266,7 @@ fn told_at<'a, 'b>(
 
 fn at(a: Map, b: Map, start: i64, end: i64, bytes: &[u8], key: i64) -> Told {
     told_at(
-        &a.count, &a.starts, &a.ends, &a.values, &b.count, &b.starts, &b.ends, &b.values, start,
+        &a.stored, &b.stored, start,
         end, bytes, key,
     )
 }

@@ -89,7 +89,7 @@ fn report_on<'a>(
 
 fn report_of(m: Map, zone: u8, year: u16, month: u8, day: u8) -> DayReport {
     report_on(
-        &m.count, &m.starts, &m.ends, &m.values, zone, year, month, day,
+        &m.stored, zone, year, month, day,
     )
 }
 

@@ -210,7 +210,7 @@ fn range_of<'a>(
 }
 
 fn range_of_set(kind: RangeKind, m: Set, place: usize) -> Range {
-    range_of(kind, &m.count, &m.starts, &m.ends, &m.values, place)
+    Range::from(kind, &m.stored, place)
 }
 
 // The range at a place, if there is one.
@@ -267,7 +267,7 @@ fn ask_whole<'a>(
 
 fn print_whole(kind: RangeKind, m: Set) {
     print_set(kind, m);
-    ask_whole(kind, &m.count, &m.starts, &m.ends, &m.values);
+    ask_whole(kind, &m.stored);
 }
 
 // Get and contains.
@@ -295,7 +295,7 @@ fn print_at(kind: RangeKind, m: Set, key: i64) {
     print_set(kind, m);
     print(b' ');
     print_key(key);
-    ask_at(kind, &m.count, &m.starts, &m.ends, &m.values, key);
+    ask_at(kind, &m.stored, key);
 }
 
 // Overlapping, overlaps, and the gaps into three places, which hold 0 before.
@@ -348,7 +348,7 @@ fn print_edits(kind: RangeKind, m: Set, r: Ends) {
 fn print_over(kind: RangeKind, m: Set, r: Ends) {
     print_edits(kind, m, r);
     ask_over(
-        kind, &m.count, &m.starts, &m.ends, &m.values, r.start, r.end,
+        kind, &m.stored, r.start, r.end,
     );
 }
 
@@ -464,7 +464,7 @@ fn print_sets(kind: RangeKind, a: Set, b: Set) {
 fn print_pair(kind: RangeKind, a: Set, b: Set) {
     print_sets(kind, a, b);
     ask_pair(
-        kind, &a.count, &a.starts, &a.ends, &a.values, &b.count, &b.starts, &b.ends, &b.values,
+        kind, &a.stored, &b.stored,
     );
 }
 

@@ -16,19 +16,20 @@ use Rattle.answers.specs.Answers.{done}
 use Rattle.span.specs.Span.{Span}
 use Rattle.key.specs.Range.{Kind, half_open, inclusive}
 use Rattle.key.proofs.Lawful.{Lawful, half_open_lawful, inclusive_too}
-use Rattle.outcomes.specs.Stored.{places, Stored, ranges}
-use Rattle.outcomes.specs.Outcomes.{not_written, Edited, Written, Listed, leaving, edit, edits, Entry, Extended, bulk_insert, bulk_insert_sound, entries, extended}
+use Rattle.outcomes.specs.Stored.{places, ranges}
+use Rattle.outcomes.specs.declared.Stored.{Stored}
+use Rattle.outcomes.specs.Outcomes.{not_written, Edited, Written, Listed, leaving, edit, edits, Extended, bulk_insert, bulk_insert_sound, entries, extended}
+use Rattle.key.specs.declared.Entry.{Entry}
 use Rattle.outcomes.specs.Outcomes.{is_empty, count_of, range_at, first_of, last_of, lookup, contains, overlaps, overlapping, gaps, equal, order, insert, remove}
 use Rattle.outcomes.specs.Outcomes.{edit_sound}
 use Rattle.outcomes.specs.Numbers.{asked_in_c, counted_in_c, found_in_c, part_in_c, compared_in_c}
 use Rattle.outcomes.specs.Sets.{if_set, if_sets, pairs, union, intersection}
 use Rattle.outcomes.specs.declared.Applied.{Applied}
-use Rattle.outcomes.specs.declared.Asked.{Asked}
-use Rattle.outcomes.specs.declared.Compared.TheVariants as Compared
+use Rattle.outcomes.specs.Answered.{Asked}
 use Rattle.outcomes.specs.declared.Count.{Count}
-use Rattle.outcomes.specs.declared.Counted.{Counted}
-use Rattle.outcomes.specs.declared.Found.{Found}
-use Rattle.outcomes.specs.declared.Part.{Part}
+use Rattle.outcomes.specs.Answered.{Counted}
+use Rattle.outcomes.specs.Answered.{Found}
+use Rattle.outcomes.specs.Answered.{Placed}
 use Rattle.rust_algorithm.specs.Answers.{Functions, rust_edited, rust_run}
 use Rattle.rust_algorithm.specs.Equal.{LentMap, ListGiven, EqualToTheRust, entry_spans}
 use Rattle.one_map.specs.Events.{Proper}
@@ -63,6 +64,7 @@ use Rattle.theorems.specs.Rust.{EditAsRust, ExtendAsRust, LenAsRust, IsEmptyAsRu
 use Rattle.theorems.specs.Rust.{OverlapsAsRust, OverlappingAsRust, GapsAsRust, EqAsRust, CmpAsRust, UnionAsRust, IntersectionAsRust, WrittenAsRust}
 use Rattle.theorems.proofs.Steps.{either_door, as_bulk}
 use Rattle.theorems.proofs.Histories.{range_map_proper, range_inclusive_map_proper, GoodSet, range_set_good, range_inclusive_set_good}
+use Rattle.std.specs.Prelude.{Err}
 
 -- WHAT A STRUCT ANSWERS to each question
 record StructAnswers : Type 0 where
@@ -74,7 +76,7 @@ record StructAnswers : Type 0 where
   get : ℤ → Found
   contains : ℤ → Asked
   overlaps : ℤ → ℤ → Asked
-  overlapping : ℤ → ℤ → Part
+  overlapping : ℤ → ℤ → Placed
   gaps : ℤ → ℤ → List ℤ → List ℤ → Written
 
 -- THE LAW, for any struct: its answers, as C has them, are the Rust's on the ranges of m
@@ -97,8 +99,8 @@ record MapsAsRust (kind : Kind) (rust : Functions) (m o : Stored) : Type 0 where
 
 -- and of two sets
 record SetsAsRust (kind : Kind) (rust : Functions) (m o : Stored) : Type 0 where
-  eq : EqAsRust kind rust m o (λ r. r ≡ asked_in_c (if_sets m o (equal kind m o) Asked.Refused))
-  cmp : CmpAsRust kind rust m o (λ r. r ≡ compared_in_c (if_sets m o (order kind m o) Compared.Refused))
+  eq : EqAsRust kind rust m o (λ r. r ≡ asked_in_c (if_sets m o (equal kind m o) Err))
+  cmp : CmpAsRust kind rust m o (λ r. r ≡ compared_in_c (if_sets m o (order kind m o) Err))
   union : UnionAsRust kind rust m o (λ os os' oe oe' r. Listed r os' oe' (union kind m o os oe))
   intersection : IntersectionAsRust kind rust m o (λ os os' oe oe' r. Listed r os' oe' (intersection kind m o os oe))
 
@@ -181,15 +183,15 @@ module _ {kind : Kind} {rust : Functions} (same : EqualToTheRust kind rust) {m :
 -- a set's answers
 abbrev set_answers : Kind → Stored → StructAnswers
 set_answers kind m = record {
-  len = if_set m (count_of kind m) Counted.Refused;
-  is_empty_lem = if_set m (is_empty kind m) Asked.Refused;
-  range_at = λ i. if_set m (range_at kind m i) Found.Refused;
-  first = if_set m (first_of kind m) Found.Refused;
-  last = if_set m (last_of kind m) Found.Refused;
-  get = λ k. if_set m (lookup kind m k) Found.Refused;
-  contains = λ k. if_set m (contains kind m k) Asked.Refused;
-  overlaps = λ s e. if_set m (overlaps kind m s e) Asked.Refused;
-  overlapping = λ s e. if_set m (overlapping kind m s e) Part.Refused;
+  len = if_set m (count_of kind m) Err;
+  is_empty_lem = if_set m (is_empty kind m) Err;
+  range_at = λ i. if_set m (range_at kind m i) Err;
+  first = if_set m (first_of kind m) Err;
+  last = if_set m (last_of kind m) Err;
+  get = λ k. if_set m (lookup kind m k) Err;
+  contains = λ k. if_set m (contains kind m k) Err;
+  overlaps = λ s e. if_set m (overlaps kind m s e) Err;
+  overlapping = λ s e. if_set m (overlapping kind m s e) Err;
   gaps = λ s e os oe. if_set m (gaps kind m s e os oe) (λ n. not_written n os oe);
 }
 

@@ -12,8 +12,9 @@ use lib.IntN.{ℤ}
 use Rattle.answers.specs.Answers.{done}
 use Rattle.key.specs.Range.{Kind, half_open, inclusive}
 use Rattle.key.proofs.Lawful.{Lawful, half_open_lawful, inclusive_too}
-use Rattle.outcomes.specs.Stored.{Stored}
-use Rattle.outcomes.specs.Outcomes.{Entry, entry_change, Edited, leaving, Extended, extended, entries, edit, edits, insert, bulk_insert}
+use Rattle.outcomes.specs.declared.Stored.{Stored}
+use Rattle.outcomes.specs.Outcomes.{entry_change, Edited, leaving, Extended, extended, entries, edit, edits, insert, bulk_insert}
+use Rattle.key.specs.declared.Entry.{Entry}
 use Rattle.outcomes.specs.declared.Applied.{Applied}
 use Rattle.outcomes.specs.Sets.{plain, if_set, pairs}
 use Rattle.outcomes.proofs.Edits.{none_refused}

@@ -14,7 +14,8 @@ use Rattle.span.specs.Span.{at}
 use Rattle.key.specs.Rank.{rank, key_at, keys}
 use Rattle.key.specs.Range.{half_open}
 use Rattle.key.proofs.Laws.{rank_below, key_fits, rank_key}
-use Rattle.outcomes.specs.Stored.{Stored, ranges}
+use Rattle.outcomes.specs.Stored.{ranges}
+use Rattle.outcomes.specs.declared.Stored.{Stored}
 use Rattle.outcomes.specs.Outcomes.{Edited}
 use Rattle.duty.specs.Duty.{tally_sound}
 use Rattle.duty.proofs.Sums.{same_totals, same_strange}

@@ -9,7 +9,8 @@ use Rattle.answers.specs.Answers.{done, not_formed, bad_status}
 use Rattle.key.specs.Rank.{rank}
 use Rattle.key.specs.Range.{half_open}
 use Rattle.key.proofs.Laws.{rank_pos}
-use Rattle.outcomes.specs.Stored.{Stored, ranges}
+use Rattle.outcomes.specs.Stored.{ranges}
+use Rattle.outcomes.specs.declared.Stored.{Stored}
 use Rattle.outcomes.specs.Outcomes.{formed}
 use Rattle.duty.specs.Duty.{strange, totals_of, tally_sound}
 use Rattle.duty.specs.declared.Totals.{Totals}

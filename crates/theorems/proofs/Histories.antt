@@ -12,11 +12,10 @@ use Rattle.span.specs.Span.{Real, last}
 use Rattle.key.specs.Rank.{rank}
 use Rattle.key.specs.Range.{Kind, half_open, inclusive}
 use Rattle.key.proofs.Lawful.{Lawful, half_open_lawful, inclusive_too}
-use Rattle.outcomes.specs.Stored.{Stored}
+use Rattle.outcomes.specs.declared.Stored.{Stored}
 use Rattle.outcomes.specs.Outcomes.{entries, lookup, clear, Change, span_edits}
 use Rattle.outcomes.specs.Numbers.{found_in_c}
 use Rattle.outcomes.specs.Sets.{plain}
-use Rattle.outcomes.specs.declared.Found.TheVariants as Found
 use Rattle.outcomes.specs.declared.Range.{Range}
 use Rattle.outcomes.proofs.Sets.{if_set_lem}
 use Rattle.one_map.specs.Events.{Proper, value_at, Effect, left_at}
@@ -48,6 +47,7 @@ use Rattle.theorems.specs.Structs.{RangeSetCall, RangeSetAfter, RangeInclusiveSe
 use Rattle.theorems.proofs.Steps.{Step, insert_step, remove_step, either_door, extend_step, clear_step, read_step}
 use Rattle.theorems.proofs.Steps.{SetStep, set_insert_step, set_remove_step, set_extend_step, set_clear_step}
 use Rattle.theorems.proofs.Steps.{refused_same, either_refused, set_insert_refused, set_remove_refused}
+use Rattle.std.specs.Prelude.{Err}
 
 -- WHAT CHANGES LEAVE, one after the other
 module _ (kind : Kind) where
@@ -267,7 +267,7 @@ pub range_set_last_value : (cs : List SetCall) (n : RangeSet) (k : ℤ) (r : Ran
     → Says r (last_given half_open set_call_effect cs k none)
 range_set_last_value cs n k r left look =
     let set = (range_set_histories.good cs n left).1 in
-    range_set_histories.say cs n k r left (look ∙ ap found_in_c (if_set_lem (Set.held n) Found.Refused set))
+    range_set_histories.say cs n k r left (look ∙ ap found_in_c (if_set_lem (Set.held n) Err set))
 
 -- two histories that agree at every key leave the same struct
 pub range_set_same_struct : (cs ds : List SetCall) (n o : RangeSet) → RangeSetAfter cs n → RangeSetAfter ds o
@@ -305,7 +305,7 @@ pub range_inclusive_set_last_value : (cs : List SetCall) (n : RangeInclusiveSet)
     → Says r (last_given inclusive set_call_effect cs k none)
 range_inclusive_set_last_value cs n k r left look =
     let set = (range_inclusive_set_histories.good cs n left).1 in
-    range_inclusive_set_histories.say cs n k r left (look ∙ ap found_in_c (if_set_lem (InclusiveSet.held n) Found.Refused set))
+    range_inclusive_set_histories.say cs n k r left (look ∙ ap found_in_c (if_set_lem (InclusiveSet.held n) Err set))
 
 -- two histories that agree at every key leave the same struct
 pub range_inclusive_set_same_struct : (cs ds : List SetCall) (n o : RangeInclusiveSet) → RangeInclusiveSetAfter cs n → RangeInclusiveSetAfter ds o

@@ -7,7 +7,7 @@ use lib.IntN.{ℤ}
 use Rattle.answers.specs.Answers.{empty_range, not_formed, bad_query}
 use Rattle.key.specs.Rank.{rank}
 use Rattle.key.specs.Range.{Kind, half_open, inclusive, span_of, empty}
-use Rattle.outcomes.specs.Stored.{Stored}
+use Rattle.outcomes.specs.declared.Stored.{Stored}
 use Rattle.outcomes.specs.Outcomes.{not_written, gaps_sound, formed, into_lists}
 use Rattle.outcomes.specs.declared.Count.{Count}
 use Rattle.one_map.proofs.Refusals.{Kept, unwritten_kept, writing_kept, kept_either, gaps_kept, intersection_kept, union_kept, write_kept}
@@ -29,6 +29,7 @@ use Rattle.inclusive_set.specs.Promises.{RangeInclusiveSetGaps, RangeInclusiveSe
 use Rattle.map_bytes.specs.Promises.{RangeMapWrite}
 use Rattle.map_query.specs.Promises.{RangeMapQuery, RangeMapQueryUnchecked}
 use Rattle.theorems.proofs.Refused.{ListsKept, lists_kept, OutputKept, output_kept}
+use Rattle.answers.specs.declared.Refusal.TheVariants.{BadQuery}
 
 -- the unchecked door of gaps
 gaps_sound_kept : (kind : Kind) (m : Stored) (s e : ℤ) (os oe : List ℤ) → Kept (gaps_sound kind m s e os oe) os oe
@@ -40,7 +41,7 @@ query_sound_kept : (a b : Stored) (s e : ℤ) (bytes : List ℕ) (os oe : List �
 unfolding query_ranges_sound
 query_sound_kept a b s e bytes os oe = kept_either (ltb (rank s) (rank e)) (of_read (query_of bytes)) (unwritten_kept empty_range os oe)
   where
-    of_read : (x : Read) → Kept (by_query x (λ q. into_lists half_open (result_of a b s e q) os oe) (not_written bad_query os oe)) os oe
+    of_read : (x : Read) → Kept (by_query x (λ q. into_lists half_open (result_of a b s e q) os oe) (not_written BadQuery os oe)) os oe
     of_read (got q rest) = writing_kept half_open (result_of a b s e q) os oe
     of_read bad = unwritten_kept bad_query os oe
 

@@ -11,7 +11,6 @@ use Rattle.key.specs.Rank.{rank}
 use Rattle.key.specs.Range.{half_open}
 use Rattle.outcomes.specs.Stored.{ranges}
 use Rattle.outcomes.specs.Outcomes.{not_written, formed, into_lists, yes_no}
-use Rattle.outcomes.specs.declared.Asked.TheVariants as Asked
 use Rattle.outcomes.specs.declared.Count.{Count}
 use Rattle.outcomes.specs.declared.Told.{Told}
 use Rattle.one_map.proofs.Refusals.{Refusal, refuse, first_number, unformed, both_pass, lets_pass, told_number, told_done, list_number, writing_order}
@@ -29,6 +28,8 @@ use Rattle.query_text.specs.Reader.{Read, got, bad, query_of}
 use Rattle.query.specs.Answers.{by_query, result_of, true_at, query_ranges_sound, query_at_sound, query_ranges, query_at}
 use Rattle.map_report.specs.Promises.{RangeMapDayReport}
 use Rattle.map_query.specs.Promises.{RangeMapQuery, RangeMapQueryAt}
+use Rattle.std.specs.Prelude.{Err}
+use Rattle.answers.specs.declared.Refusal.TheVariants.{BadQuery}
 
 -- what a day's keys give, and else another
 abbrev pub by_day : {A : Type 0} → Day → (ℤ → ℤ → A) → A → A
@@ -62,7 +63,7 @@ module _ (a b : RangeMap) (s e : ℤ) (bytes : List ℕ) where
       ∙ both_pass list_number (formed half_open (held a)) (formed half_open (held b)) refl
       (lets_pass list_number (ltb (rank s) (rank e)) refl (of_read (query_of bytes)))
     where
-      of_read : (x : Read) → list_number (by_query x (λ q. into_lists half_open (result_of (held a) (held b) s e q) os oe) (not_written bad_query os oe))
+      of_read : (x : Read) → list_number (by_query x (λ q. into_lists half_open (result_of (held a) (held b) s e q) os oe) (not_written BadQuery os oe))
           ≡ cond (by_query x (λ q. false) true) bad_query
           (cond (by_query x (λ q. ltb (min (length os) (length oe)) (length (result_of (held a) (held b) s e q))) false) too_short 0)
       of_read (got q rest) = writing_order half_open (result_of (held a) (held b) s e q) os oe
@@ -77,7 +78,7 @@ module _ (a b : RangeMap) (s e : ℤ) (bytes : List ℕ) where
       ∙ both_pass told_number (formed half_open (held a)) (formed half_open (held b)) refl
       (lets_pass told_number (ltb (rank s) (rank e)) refl (of_read (query_of bytes)))
     where
-      of_read : (x : Read) → told_number (by_query x (λ q. yes_no (true_at (held a) (held b) s e q k)) (Asked.Refused bad_query))
+      of_read : (x : Read) → told_number (by_query x (λ q. yes_no (true_at (held a) (held b) s e q k)) (Err BadQuery))
           ≡ cond (by_query x (λ q. false) true) bad_query 0
       of_read (got q rest) = told_done (true_at (held a) (held b) s e q k)
       of_read bad = refl

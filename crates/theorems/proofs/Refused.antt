@@ -9,17 +9,17 @@ use lib.IntN.{ℤ, pos}
 use Rattle.answers.specs.Answers.{done}
 use Rattle.outcomes.specs.Numbers.{asked_in_c, counted_in_c, found_in_c, part_in_c, compared_in_c, totalled_in_c}
 use Rattle.outcomes.specs.Outcomes.{Written, Listed}
-use Rattle.outcomes.specs.declared.Asked.{Asked}
+use Rattle.outcomes.specs.Answered.{Asked}
 use Rattle.outcomes.specs.declared.Told.{Told}
-use Rattle.outcomes.specs.declared.Counted.{Counted}
+use Rattle.outcomes.specs.Answered.{Counted}
 use Rattle.outcomes.specs.declared.Count.{Count}
-use Rattle.outcomes.specs.declared.Found.{Found}
+use Rattle.outcomes.specs.Answered.{Found}
 use Rattle.outcomes.specs.declared.Range.{Range}
-use Rattle.outcomes.specs.declared.Part.{Part}
+use Rattle.outcomes.specs.Answered.{Placed}
 use Rattle.outcomes.specs.declared.Stretch.{Stretch}
-use Rattle.outcomes.specs.declared.Compared.{Compared}
+use Rattle.outcomes.specs.Answered.{Compared}
 use Rattle.outcomes.specs.declared.Order.{Order}
-use Rattle.outcomes.specs.declared.Totalled.{Totalled}
+use Rattle.outcomes.specs.Answered.{Totalled}
 use Rattle.outcomes.specs.declared.Total.{Total}
 use Rattle.byte_form.specs.Form.{Output, Wrote}
 use Rattle.log_day.specs.Days.{day_in_c}
@@ -47,7 +47,7 @@ pub range_refused : (a : Found) (r : Range) → r ≡ found_in_c a → Refuses r
 range_refused a r q n = rw q (range_zero a (subst (λ (x : Range). Refuses x.answer) q n))
 
 -- a part of the places
-pub stretch_refused : (a : Part) (r : Stretch) → r ≡ part_in_c a → Refuses r.answer → (r.place ≡ 0) × (r.count ≡ 0)
+pub stretch_refused : (a : Placed) (r : Stretch) → r ≡ part_in_c a → Refuses r.answer → (r.place ≡ 0) × (r.count ≡ 0)
 stretch_refused a r q n = rw q (stretch_zero a (subst (λ (x : Stretch). Refuses x.answer) q n))
 
 -- an order

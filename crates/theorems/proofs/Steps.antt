@@ -15,8 +15,10 @@ use Rattle.span.proofs.Tests.{cases}
 use Rattle.key.specs.Rank.{rank}
 use Rattle.key.specs.Range.{Kind, half_open, span_of, empty}
 use Rattle.key.proofs.Lawful.{Lawful, half_open_lawful}
-use Rattle.outcomes.specs.Stored.{places, Stored, ranges, storing}
-use Rattle.outcomes.specs.Outcomes.{Entry, Edited, leaving, Extended, extended, edit_sound, edit, insert, remove, bulk_insert, clear, Change, edits}
+use Rattle.outcomes.specs.Stored.{places, ranges, storing}
+use Rattle.outcomes.specs.declared.Stored.{Stored}
+use Rattle.outcomes.specs.Outcomes.{Edited, leaving, Extended, extended, edit_sound, edit, insert, remove, bulk_insert, clear, Change, edits}
+use Rattle.key.specs.declared.Entry.{Entry}
 use Rattle.outcomes.specs.Outcomes.{entry_change, span_edits}
 use Rattle.outcomes.specs.declared.Applied.{Applied}
 use Rattle.outcomes.specs.Sets.{plain, if_set, pairs}

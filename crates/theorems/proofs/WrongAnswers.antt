@@ -21,12 +21,12 @@ use Rattle.span.proofs.Tests.{both}
 use Rattle.key.specs.Rank.{above_least, bit_rank, key_at}
 use Rattle.key.specs.Range.{Kind, half_open, inclusive}
 use Rattle.key.proofs.Lawful.{Lawful, half_open_lawful, inclusive_too}
-use Rattle.outcomes.specs.Stored.{places, Stored, Sound, spans, ranges, filled, storing, zeros, noughts, unused, well_formed}
+use Rattle.outcomes.specs.Stored.{places, Sound, spans, ranges, filled, storing, zeros, noughts, unused, well_formed}
+use Rattle.outcomes.specs.declared.Stored.{Stored}
 use Rattle.outcomes.specs.Numbers.{asked_in_c, counted_in_c}
-use Rattle.outcomes.specs.Outcomes.{Entry, entries, Written, into_lists, Edited, leaving, edit_sound, edit, insert, remove, clear}
+use Rattle.outcomes.specs.Outcomes.{entries, Written, into_lists, Edited, leaving, edit_sound, edit, insert, remove, clear}
+use Rattle.key.specs.declared.Entry.{Entry}
 use Rattle.outcomes.specs.Sets.{plain, if_set}
-use Rattle.outcomes.specs.declared.Asked.TheVariants as Asked
-use Rattle.outcomes.specs.declared.Counted.TheVariants as Counted
 use Rattle.outcomes.specs.declared.Count.{Count}
 use Rattle.outcomes.specs.declared.Told.{Told}
 use Rattle.byte_form.specs.Layout.{rm01}
@@ -59,6 +59,7 @@ use Rattle.map_query.specs.Promises.{RangeMapQuery, RangeMapQueryAt}
 use Rattle.theorems.proofs.Histories.{range_map_of, range_inclusive_map_of, range_set_of, range_inclusive_set_of}
 use Rattle.theorems.specs.Shortcuts.{NoShortcut, EntryInput, BoundsInput}
 use Rattle.theorems.specs.Inputs.{DateInput, BytesInput, QueryInput, ListsInput}
+use Rattle.std.specs.Prelude.{Ok}
 
 -- `unfolding of_maps` and `unfolding of_queries` open every definition that a case computes with
 unfoldable of_spans : Unit {0}
@@ -308,11 +309,11 @@ a1_input : QueryInput (clear half_open) (clear half_open) (pos 0) (pos 8) a1
 unfolding all_small
 a1_input = (new_memory half_open_lawful, new_memory half_open_lawful, sfits_lit tt, sfits_lit tt, small_bytes a1 refl)
 
-a1_ranges : query_ranges (clear half_open) (clear half_open) (pos 0) (pos 8) a1 [] [] ≡ record { answer = Counted.Count 0; starts = []; ends = [] }
+a1_ranges : query_ranges (clear half_open) (clear half_open) (pos 0) (pos 8) a1 [] [] ≡ record { answer = Ok 0; starts = []; ends = [] }
 unfolding of_queries
 a1_ranges = refl
 
-a1_at : query_at (clear half_open) (clear half_open) (pos 0) (pos 8) a1 (pos 0) ≡ Asked.No
+a1_at : query_at (clear half_open) (clear half_open) (pos 0) (pos 8) a1 (pos 0) ≡ (Ok false)
 unfolding of_queries
 a1_at = refl
 

@@ -8,7 +8,8 @@ use lib.Dec.{eqb}
 use lib.ListN.{length, replicate}
 use Rattle.span.proofs.Tests.{both}
 use Rattle.key.specs.Range.{Kind}
-use Rattle.outcomes.specs.Stored.{Stored, ranges, noughts}
+use Rattle.outcomes.specs.Stored.{ranges, noughts}
+use Rattle.outcomes.specs.declared.Stored.{Stored}
 use Rattle.outcomes.specs.Sets.{plain, SoundSet}
 use Rattle.outcomes.proofs.Formed.{good}
 use Rattle.range_list.specs.InnerColumns.{column_rows}

@@ -1,6 +1,7 @@
 use native.Mathlib.Omega.{arith}
 use Rattle.key.proofs.Laws.{rank_back}
-use Rattle.outcomes.specs.Stored.{Stored, stored}
+use Rattle.outcomes.specs.Stored.{stored}
+use Rattle.outcomes.specs.declared.Stored.{Stored}
 use Rattle.compare.proofs.Walk.{all_left, passed, decided, first_left, second_left, neither_left}
 use Rattle.compare.proofs.compare.Goals as goal
 

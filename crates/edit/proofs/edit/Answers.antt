@@ -8,7 +8,8 @@ use mir.Val.{SFits}
 use Rattle.key.specs.InnerDecides.{Decides}
 use Rattle.key.specs.Range.{kind_of}
 use Rattle.key.proofs.Lawful.{lawful}
-use Rattle.outcomes.specs.Stored.{Stored, stored}
+use Rattle.outcomes.specs.Stored.{stored}
+use Rattle.outcomes.specs.declared.Stored.{Stored}
 use Rattle.edit.specs.InnerPlan.{HasKey, asked}
 use Rattle.edit.proofs.Places.{columns}
 use Rattle.edit.proofs.Carried.{edit_refused, edit_carried}
@@ -17,11 +18,11 @@ use Rattle.edit.proofs.edit.Goals as goal
 pub returns-then-not-full : goal.returns-then-not-full
 returns-then-not-full c =
     let g = c.args in
-    let lent_map : Stored = stored g.count.now g.starts.now g.ends.now g.values.now in
+    let lent_map : Stored = g.m.now in
     let fs : SFits w64 c.args.change.start = search rules in
     let fe : SFits w64 c.args.change.end = search rules in
     let says : Decides c.full.result (HasKey (kind_of c.args.kind) c.args.change) = rw (to_z-of_z fs, to_z-of_z fe) at c.full.ensures in
-    edit_refused (kind_of g.kind) (length g.starts.now) lent_map g.change.start g.change.end (asked g.change)
+    edit_refused (kind_of g.kind) (length g.m.now.starts) lent_map g.change.start g.change.end (asked g.change)
     (omega (arith, says.wrong c.if-not-full.true))
 
 pub plan_of-plan-requires : goal.plan_of-plan-requires
@@ -35,13 +36,13 @@ plan_of-plan-requires c =
 pub carry_out-requires : goal.carry_out-requires
 carry_out-requires c =
     let g = c.args in
-    let lent_map : Stored = stored g.count.now g.starts.now g.ends.now g.values.now in
+    let lent_map : Stored = g.m.now in
     (columns (kind_of c.args.kind) (lawful c.args.kind) lent_map c.requires, c.plan_of-plan.ensures.apt)
 
 pub returns : goal.returns
 returns c =
     let g = c.args in
-    let lent_map : Stored = stored g.count.now g.starts.now g.ends.now g.values.now in
+    let lent_map : Stored = g.m.now in
     let fs : SFits w64 c.args.change.start = search rules in
     let fe : SFits w64 c.args.change.end = search rules in
     let says : Decides c.full.result (HasKey (kind_of c.args.kind) c.args.change) = rw (to_z-of_z fs, to_z-of_z fe) at c.full.ensures in

@@ -12,8 +12,8 @@ use Rattle.edit.proofs.insert.Goals as goal
 
 pub returns : goal.returns
 returns c =
-    let m = stored c.args.count.now c.args.starts.now c.args.ends.now c.args.values.now in
-    let n : length c.args.starts.now ≡ places = omega arith in
+    let m = c.args.m.now in
+    let n : length c.args.m.now.starts ≡ places = omega arith in
     leaves c.outcome_of.ensures
     (rw (to_z-of_z c.ranges.start, to_z-of_z c.ranges.end) at c.edit.ensures
     ∙ ap (λ (k : ℕ). edit_sound (kind_of c.args.kind) k m c.args.start c.args.end (some c.args.value)) n)

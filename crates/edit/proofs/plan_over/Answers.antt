@@ -46,8 +46,8 @@ bounds-values-to c = omega (arith, c.requires)
 pub returns : goal.returns
 returns c =
     let g = c.args in
-    let f-first : SFits w64 (get_or c.args.starts.now c.args.met.from (pos 0)) = search rules in
-    let f-last : SFits w64 (get_or c.args.ends.now (c.args.met.to - 1) (pos 0)) = search rules in
+    let f-first : SFits w64 (get_or c.args.m.now.starts c.args.met.from (pos 0)) = search rules in
+    let f-last : SFits w64 (get_or c.args.m.now.ends (c.args.met.to - 1) (pos 0)) = search rules in
     let f-start : SFits w64 c.args.change.start = search rules in
     let f-end : SFits w64 c.args.change.end = search rules in
     let f-below : SFits w64 c.args.met.below = search rules in

@@ -6,7 +6,7 @@ ghost use Rattle.outcomes.specs.Outcomes.{entries, bulk_insert_sound, extended, 
 
 use answers::{DONE, NOT_FORMED};
 use key::{RangeKind, Value};
-use outcomes::{Applied, Outcome, PLACES};
+use outcomes::{Applied, Stored};
 use store::check::well_formed;
 
 // The lesser of two lengths.
@@ -22,32 +22,26 @@ fn shorter(a: usize, b: usize) -> usize
 // The entries of three lent lists, into a map that is well formed.
 fn extend_formed(
     kind: RangeKind,
-    count: &mut usize,
-    starts: &mut [i64; PLACES],
-    ends: &mut [i64; PLACES],
-    values: &mut [Value; PLACES],
+    m: &mut Stored,
     new_starts: &[i64],
     new_ends: &[i64],
     new_values: &[Value],
 ) -> Applied
-    requires { Sound (kind_of kind) (stored count.old starts.old ends.old values.old) }
-    ensures { extended result (stored count.new starts.new ends.new values.new)
-        ≡ bulk_insert_sound (kind_of kind) (stored count.old starts.old ends.old values.old) 0 (entries new_starts.now new_ends.now new_values.now) }
+    requires { Sound (kind_of kind) m.old }
+    ensures { extended result m.new
+        ≡ bulk_insert_sound (kind_of kind) m.old 0 (entries new_starts.now new_ends.now new_values.now) }
 {
     let n = shorter(shorter(new_starts.len(), new_ends.len()), new_values.len());
     let mut i = 0;
     while i < n {
         let went = edit::insert(
             kind,
-            count,
-            starts,
-            ends,
-            values,
+            m,
             new_starts[i],
             new_ends[i],
             new_values[i],
         );
-        if let Outcome::Refused(answer) = went {
+        if let Err(answer) = went {
             return Applied {
                 answer: answer,
                 applied: i,
@@ -64,24 +58,21 @@ fn extend_formed(
 // The same, into any map.
 pub fn extend(
     kind: RangeKind,
-    count: &mut usize,
-    starts: &mut [i64; PLACES],
-    ends: &mut [i64; PLACES],
-    values: &mut [Value; PLACES],
+    m: &mut Stored,
     new_starts: &[i64],
     new_ends: &[i64],
     new_values: &[Value],
 ) -> Applied
-    ensures { extended result (stored count.new starts.new ends.new values.new)
-        ≡ bulk_insert (kind_of kind) (stored count.old starts.old ends.old values.old) (entries new_starts.now new_ends.now new_values.now) }
+    ensures { extended result m.new
+        ≡ bulk_insert (kind_of kind) m.old (entries new_starts.now new_ends.now new_values.now) }
 {
-    if !well_formed(kind, *count, starts, ends, values) {
+    if !well_formed(kind, m) {
         return Applied {
             answer: NOT_FORMED,
             applied: 0,
         };
     }
     extend_formed(
-        kind, count, starts, ends, values, new_starts, new_ends, new_values,
+        kind, m, new_starts, new_ends, new_values,
     )
 }

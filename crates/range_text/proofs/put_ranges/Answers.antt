@@ -15,7 +15,7 @@ pub shape_of-out : goal.shape_of-out
 shape_of-out c = within_length c.loop-i.invariant.1
 
 pub returns : goal.returns
-returns c = let n : c.loop-i.i ≡ c.args.count = omega arith in rw n at c.loop-i.invariant.1
+returns c = let n : c.loop-i.i ≡ c.args.m.now.count = omega arith in rw n at c.loop-i.invariant.1
 
 pub loop-i-preserved : goal.loop-i-preserved
 loop-i-preserved c =

@@ -20,7 +20,7 @@ apart-requires c =
 pub overflow_add-total : goal.overflow_add-total
 overflow_add-total c =
     let adds : let s = c in let l = c.loop-k in
-    span_total (rest (kind_of s.args.kind) s.args.starts.now s.args.ends.now s.args.count l.k) ≡ (c.apart.result + c.width.result) + span_total (rest (kind_of s.args.kind) s.args.starts.now s.args.ends.now s.args.count (l.k + 1)) =
+    span_total (rest (kind_of s.args.kind) s.args.m.now.starts s.args.m.now.ends s.args.m.now.count l.k) ≡ (c.apart.result + c.width.result) + span_total (rest (kind_of s.args.kind) s.args.m.now.starts s.args.m.now.ends s.args.m.now.count (l.k + 1)) =
     let s = c in
     let l = c.loop-k in
     let e = simp rank_back at c.apart.ensures in
@@ -30,7 +30,7 @@ overflow_add-total c =
 pub overflow_add-total-in-loop-k : goal.overflow_add-total-in-loop-k
 overflow_add-total-in-loop-k c =
     let adds : let s = c in let l = c.loop-k in
-    span_total (rest (kind_of s.args.kind) s.args.starts.now s.args.ends.now s.args.count l.k) ≡ (c.apart.result + c.width.result) + span_total (rest (kind_of s.args.kind) s.args.starts.now s.args.ends.now s.args.count (l.k + 1)) =
+    span_total (rest (kind_of s.args.kind) s.args.m.now.starts s.args.m.now.ends s.args.m.now.count l.k) ≡ (c.apart.result + c.width.result) + span_total (rest (kind_of s.args.kind) s.args.m.now.starts s.args.m.now.ends s.args.m.now.count (l.k + 1)) =
     let s = c in
     let l = c.loop-k in
     let e = simp rank_back at c.apart.ensures in
@@ -40,7 +40,7 @@ overflow_add-total-in-loop-k c =
 pub loop-k-preserved : goal.loop-k-preserved
 loop-k-preserved c =
     let adds : let s = c in let l = c.loop-k in
-    span_total (rest (kind_of s.args.kind) s.args.starts.now s.args.ends.now s.args.count l.k) ≡ (c.apart.result + c.width.result) + span_total (rest (kind_of s.args.kind) s.args.starts.now s.args.ends.now s.args.count (l.k + 1)) =
+    span_total (rest (kind_of s.args.kind) s.args.m.now.starts s.args.m.now.ends s.args.m.now.count l.k) ≡ (c.apart.result + c.width.result) + span_total (rest (kind_of s.args.kind) s.args.m.now.starts s.args.m.now.ends s.args.m.now.count (l.k + 1)) =
     let s = c in
     let l = c.loop-k in
     let e = simp rank_back at c.apart.ensures in

@@ -4,7 +4,7 @@ use mathlib.Core.Path.{◌≡◌, refl, ◌∙◌}
 use mir.Syntax.{w64}
 use mir.Facts.{to_z-of_z}
 use borrow.Author.Rules.{sfits_of}
-use Rattle.outcomes.specs.Outcomes.{Entry}
+use Rattle.key.specs.declared.Entry.{Entry}
 use Rattle.byte_form.specs.Layout.{rm01}
 use Rattle.byte_form.specs.Form.{ranges_in}
 use Rattle.byte_io.proofs.Reading.{fill_more}
@@ -17,7 +17,7 @@ loop-i-init c = (omega arith, record { starts = refl; ends = refl; values = refl
 pub returns : goal.returns
 returns c =
     let l = c.loop-i in
-    let n : l.i ≡ c.args.count = omega arith in
+    let n : l.i ≡ c.args.m.now.count = omega arith in
     rw n at l.invariant.1
 
 pub loop-i-preserved : goal.loop-i-preserved

@@ -1,12 +1,13 @@
 use native.Mathlib.Omega.{arith}
-use Rattle.outcomes.specs.Stored.{Stored, stored}
+use Rattle.outcomes.specs.Stored.{stored}
+use Rattle.outcomes.specs.declared.Stored.{Stored}
 use Rattle.edit.proofs.Carried.{no_room, carried_out}
 use Rattle.edit.proofs.plan.carry_out.Goals as goal
 
 pub returns-then-starts-next : goal.returns-then-starts-next
 returns-then-starts-next c =
     let g = c.args in
-    let lent_map : Stored = stored g.count.now g.starts.now g.ends.now g.values.now in
+    let lent_map : Stored = g.m.now in
     no_room lent_map c.args.p c.if-starts-next.true
 
 pub splice-requires : goal.splice-requires
@@ -15,6 +16,6 @@ splice-requires c =
 
 pub returns : goal.returns
 returns c =
-    let lent_map : Stored = stored c.args.count.now c.args.starts.now c.args.ends.now c.args.values.now in
+    let lent_map : Stored = c.args.m.now in
     let w = c.splice.ensures in
     carried_out lent_map c.args.p c.if-starts-next.false w.starts_value w.ends_value w.values_value

@@ -13,7 +13,8 @@ use mir.Val.{SFits}
 use Rattle.key.specs.Range.{kind_of}
 use Rattle.key.proofs.Lawful.{lawful}
 use Rattle.outcomes.specs.Stored.{stored}
-use Rattle.outcomes.specs.Outcomes.{Entry, bulk_insert_sound}
+use Rattle.outcomes.specs.Outcomes.{bulk_insert_sound}
+use Rattle.key.specs.declared.Entry.{Entry}
 use Rattle.outcomes.specs.Sets.{pairs}
 use Rattle.set_ops.proofs.Pairs.{length_pairs, get_or_pairs, pair_at}
 use Rattle.outcomes.proofs.Went.{numbered, not_done}

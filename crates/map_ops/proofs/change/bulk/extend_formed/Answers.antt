@@ -13,7 +13,8 @@ use mir.Val.{SFits}
 use Rattle.key.specs.Range.{kind_of}
 use Rattle.key.proofs.Lawful.{lawful}
 use Rattle.outcomes.specs.Stored.{stored}
-use Rattle.outcomes.specs.Outcomes.{Entry, entries, bulk_insert_sound}
+use Rattle.outcomes.specs.Outcomes.{entries, bulk_insert_sound}
+use Rattle.key.specs.declared.Entry.{Entry}
 use Rattle.outcomes.proofs.Went.{numbered, not_done}
 use Rattle.outcomes.proofs.Bulk.{length_entries, get_or_entries, entry_at, entry_refused, entry_done, entry_sound}
 use Rattle.map_ops.proofs.change.bulk.extend_formed.Goals as goal
