@@ -111,9 +111,9 @@ fn clear_rest(
     ensures { Cleared count starts.old ends.old values.old
         starts.new ends.new values.new }
 {
-    splice::clear_keys(starts, count, PLACES);
-    splice::clear_keys(ends, count, PLACES);
-    splice::clear_values(values, count, PLACES);
+    splice::clear(starts, count, PLACES, 0);
+    splice::clear(ends, count, PLACES, 0);
+    splice::clear(values, count, PLACES, 0);
 }
 
 // The map whose form the bytes are.

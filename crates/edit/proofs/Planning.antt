@@ -22,7 +22,7 @@ use Rattle.key.specs.InnerDecides.{Decides}
 use Rattle.key.proofs.Answers.{never, holds, fails, not_full}
 use Rattle.key.proofs.Lawful.{Lawful}
 use Rattle.splice.specs.InnerReplace.{new_starts, new_ends, new_values}
-use Rattle.splice.specs.declared.Entry.{Entry}
+use Rattle.key.specs.declared.Entry.{Entry}
 use Rattle.splice.specs.declared.Replacement.{Replacement}
 use Rattle.outcomes.specs.Stored.{spans, ranges, AllFit, Sound}
 use Rattle.outcomes.specs.declared.Stored.{Stored}

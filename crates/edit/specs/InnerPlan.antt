@@ -9,7 +9,7 @@ use Rattle.key.specs.Rank.{rank, keys}
 use Rattle.key.specs.Range.{Kind}
 use Rattle.splice.specs.InnerSplice.{spliced}
 use Rattle.splice.specs.InnerReplace.{new_starts, new_ends, new_values, new_count, Apt, Columns}
-use Rattle.splice.specs.declared.Entry.{Entry}
+use Rattle.key.specs.declared.Entry.{Entry}
 use Rattle.splice.specs.declared.Replacement.{Replacement}
 use Rattle.outcomes.specs.Stored.{stored, spans, ranges, Spare, AllFit}
 use Rattle.outcomes.specs.declared.Stored.{Stored}

@@ -46,13 +46,11 @@ pub fn remove(
 }
 
 // Leaves nothing held, whatever the kind. It overwrites the map, so it does not check it.
-pub fn clear(
-    m: &mut Stored,
-)
+pub fn clear(m: &mut Stored)
     ensures { (k : Kind) → m.new ≡ clear k }
 {
     m.count = 0;
-    splice::clear_keys(&m.starts, 0, PLACES);
-    splice::clear_keys(&m.ends, 0, PLACES);
-    splice::clear_values(&m.values, 0, PLACES);
+    splice::clear(&mut m.starts, 0, PLACES, 0);
+    splice::clear(&mut m.ends, 0, PLACES, 0);
+    splice::clear(&mut m.values, 0, PLACES, 0);
 }

@@ -5,7 +5,7 @@ pub returns : goal.returns
 returns c =
     record {
       all = record { starts = omega arith; ends = omega arith; values = omega arith };
-      starts = c.clear_keys.ensures;
-      ends = c.clear_keys-2.ensures;
-      values = c.clear_values.ensures;
+      starts = c.clear.ensures;
+      ends = c.clear-2.ensures;
+      values = c.clear-3.ensures;
     }

@@ -10,7 +10,7 @@ pub returns : goal.returns
 unfolding clear storing filled
 returns c =
     let a = c.args in
-    let s = c.clear_keys.ensures ∙ all_clear a.starts.now (pos 0) {n = places} (omega arith) in
-    let e = c.clear_keys-2.ensures ∙ all_clear a.ends.now (pos 0) {n = places} (omega arith) in
-    let v = c.clear_values.ensures ∙ all_clear a.values.now 0 {n = places} (omega arith) in
+    let s = c.clear.ensures ∙ all_clear a.starts.now (pos 0) {n = places} (omega arith) in
+    let e = c.clear-2.ensures ∙ all_clear a.ends.now (pos 0) {n = places} (omega arith) in
+    let v = c.clear-3.ensures ∙ all_clear a.values.now 0 {n = places} (omega arith) in
     λ k. rw (s, e, v)
