@@ -9,7 +9,7 @@ use key::{Entry, Value};
 
 // The places from `from` up to `to` go; the first `n` of x, y and z come in their stead.
 // Three fields and no array: to a contract an array is a list of some length, so two plans with the same three entries could differ.
-#[derive(Clone, Copy, Debug, PartialEq, Eq)]
+#[derive(Clone, Copy)]
 pub struct Replacement {
     pub from: usize,
     pub to: usize,
