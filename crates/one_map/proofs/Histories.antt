@@ -161,7 +161,7 @@ module _ {kind : Kind} (law : Lawful kind) where
 
   -- or 5 where there is none
   pub no_value_told : (xs : List (Event kind)) (k : ℤ) → last_value xs (clear kind) k none ≡ none
-      → lookup kind (after_events xs (clear kind)) k ≡ (Ok None)
+      → lookup kind (after_events xs (clear kind)) k ≡ Ok None
   no_value_told xs k e = none_found (events_proper xs (clear_proper law)) k (last_value_held xs k ∙ e)
 
   -- and two histories that agree at every key leave the same stored map, unused places included

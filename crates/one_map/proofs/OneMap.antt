@@ -111,19 +111,19 @@ unchecked_same p s e new = rw (proper_formed p)
 -- EQUALITY says yes exactly where two proper maps tell the same of every key, and then they are the same map
 module _ {kind : Kind} (law : Lawful kind) {a b : Stored} (p : Proper kind a) (q : Proper kind b) where
   -- where it says yes, they are the same
-  pub equal_same : equal kind a b ≡ (Ok true) → a ≡ b
+  pub equal_same : equal kind a b ≡ Ok true → a ≡ b
   unfolding equal order_sound
   equal_same y =
       let o = span_order (ranges kind a) (ranges kind b) in
       same_ranges law p q (order_same (ranges kind a) (ranges kind b) (go o (rw (proper_formed p, proper_formed q) at y)))
     where
-      go : (o : Ordering) → yes_no (is_equal o) ≡ (Ok true) → o ≡ Ordering.eq
+      go : (o : Ordering) → yes_no (is_equal o) ≡ Ok true → o ≡ Ordering.eq
       go Ordering.lt e = absurd (let z : ◌≡◌ {A = ℕ} 0 1 = cc in omega arith)
       go Ordering.eq e = refl
       go Ordering.gt e = absurd (let z : ◌≡◌ {A = ℕ} 0 1 = cc in omega arith)
 
   -- where they tell the same, it says yes
-  pub same_equal : ((k : ℤ) → SFits w64 k → value_at kind a k ≡ value_at kind b k) → equal kind a b ≡ (Ok true)
+  pub same_equal : ((k : ℤ) → SFits w64 k → value_at kind a k ≡ value_at kind b k) → equal kind a b ≡ Ok true
   unfolding equal order_sound
   same_equal e = rw (proper_formed p, proper_formed q, same_lookups law p q e, order_refl (ranges kind b))
 
@@ -143,7 +143,7 @@ module _ {kind : Kind} (law : Lawful kind) where
   clear_holds k = value_at_lem clear_proper k ∙ ap (λ (xs : List Span). at xs (rank k)) (ranges_cleared kind law)
 
   -- THE ONE MAP THAT HOLDS NOTHING: a well-formed map whose lookup answers 5 at every key is a new map
-  pub one_clear : {b : Stored} → Proper kind b → ((k : ℤ) → SFits w64 k → lookup kind b k ≡ (Ok None)) → b ≡ clear kind
+  pub one_clear : {b : Stored} → Proper kind b → ((k : ℤ) → SFits w64 k → lookup kind b k ≡ Ok None) → b ≡ clear kind
   one_clear q told = same_lookups law q clear_proper (λ k fit. ap value_of (told k fit) ∙ sym (clear_holds k))
 
 -- READ leaves a proper map, whose written form the bytes are

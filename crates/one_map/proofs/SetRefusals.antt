@@ -6,6 +6,8 @@ use mathlib.Core.List.{List, [], ◌∷◌}
 use mathlib.Core.Option.{some, none}
 use lib.IntN.{ℤ}
 use Rattle.answers.specs.Answers.{not_formed}
+use Rattle.answers.specs.Refusals.{number}
+use Rattle.answers.specs.declared.Refusal.TheVariants.{NotFormed}
 use Rattle.span.specs.Span.{given}
 use Rattle.span.specs.Operations.{uncovered, holds}
 use Rattle.key.specs.Rank.{rank}
@@ -30,22 +32,22 @@ unchanged m false o f n = refl
 module _ (kind : Kind) (m : Stored) where
   -- INSERT: 4, 1, 2
   pub set_insert_order : (s e : ℤ)
-      → (if_set m (insert kind m s e 0) (λ n. leaving n m)).answer
+      → (if_set m (insert kind m s e 0) (λ why. leaving (number why) m)).answer
       ≡ first_number (no_set m ∷ unformed kind m ∷ keyless kind s e ∷ overfull (given (rank s) (kind.past e) (some 0) (ranges kind m)) ∷ [])
   set_insert_order s e = lets_pass edit_number (plain m) refl (edit_order kind m s e (some 0))
 
   -- refused, the set is as it was
-  pub set_insert_unchanged : (s e : ℤ) → let o = if_set m (insert kind m s e 0) (λ n. leaving n m) in (o.answer ≡ 0 → ⊥) → o.left ≡ m
+  pub set_insert_unchanged : (s e : ℤ) → let o = if_set m (insert kind m s e 0) (λ why. leaving (number why) m) in (o.answer ≡ 0 → ⊥) → o.left ≡ m
   set_insert_unchanged s e = unchanged m (plain m) _ (edit_unchanged kind m s e (some 0))
 
   -- REMOVE: 4, 1, 2
   pub set_remove_order : (s e : ℤ)
-      → (if_set m (remove kind m s e) (λ n. leaving n m)).answer
+      → (if_set m (remove kind m s e) (λ why. leaving (number why) m)).answer
       ≡ first_number (no_set m ∷ unformed kind m ∷ keyless kind s e ∷ overfull (given (rank s) (kind.past e) none (ranges kind m)) ∷ [])
   set_remove_order s e = lets_pass edit_number (plain m) refl (edit_order kind m s e none)
 
   -- refused, the set is as it was
-  pub set_remove_unchanged : (s e : ℤ) → let o = if_set m (remove kind m s e) (λ n. leaving n m) in (o.answer ≡ 0 → ⊥) → o.left ≡ m
+  pub set_remove_unchanged : (s e : ℤ) → let o = if_set m (remove kind m s e) (λ why. leaving (number why) m) in (o.answer ≡ 0 → ⊥) → o.left ≡ m
   set_remove_unchanged s e = unchanged m (plain m) _ (edit_unchanged kind m s e none)
 
   -- RANGE AT A PLACE: 4, 5
@@ -78,13 +80,13 @@ module _ (kind : Kind) (m : Stored) where
 
   -- GAPS: 4, 1, 3
   pub set_gaps_order : (s e : ℤ) (starts ends : List ℤ)
-      → list_number (if_set m (gaps kind m s e starts ends) (λ n. not_written n starts ends))
+      → list_number (if_set m (gaps kind m s e starts ends) (λ why. not_written why starts ends))
       ≡ first_number (no_set m ∷ unformed kind m ∷ keyless kind s e ∷ overlong (uncovered (rank s) (kind.past e) (ranges kind m)) starts ends ∷ [])
   set_gaps_order s e starts ends = lets_pass list_number (plain m) refl (gaps_order kind m s e starts ends)
 
   -- refused, the lists are as they were, and places past the count always are
-  pub set_gaps_kept : (s e : ℤ) (starts ends : List ℤ) → Kept (if_set m (gaps kind m s e starts ends) (λ n. not_written n starts ends)) starts ends
-  set_gaps_kept s e starts ends = kept_either (plain m) (gaps_kept kind starts ends m s e) (unwritten_kept 4 starts ends)
+  pub set_gaps_kept : (s e : ℤ) (starts ends : List ℤ) → Kept (if_set m (gaps kind m s e starts ends) (λ why. not_written why starts ends)) starts ends
+  set_gaps_kept s e starts ends = kept_either (plain m) (gaps_kept kind starts ends m s e) (unwritten_kept NotFormed starts ends)
 
 -- EQUALITY and ORDER: the first set, then the second
 module _ (kind : Kind) (a b : Stored) where

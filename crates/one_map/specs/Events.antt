@@ -1,6 +1,6 @@
 -- Histories in document 01's words: what can happen to a map, what each event leaves, and the last value that a key was given.
 -- What a map holds is said by what its lookup answers at keys.
-use Rattle.std.specs.Prelude.{ℕ, ◌<◌, ◌≡◌, Bool, true, false, cond, List, [], ◌∷◌, map, eqb, length, take, ℤ}
+use Rattle.std.specs.Prelude.{ℕ, ◌<◌, ◌≡◌, Bool, true, false, cond, List, [], ◌∷◌, map, eqb, length, take, ℤ, Ok, Err, Some, None}
 use Rattle.std.proofs.Math.Option.{Option, some, none}
 use Rattle.answers.specs.Answers.{done}
 use Rattle.span.specs.Span.{inside, last}
@@ -14,8 +14,6 @@ use Rattle.outcomes.specs.Answered.{Found}
 use Rattle.byte_form.specs.Layout.{rm01}
 use Rattle.byte_form.specs.Bytes.{Bytes}
 use Rattle.byte_form.specs.Form.{entries_of, map_in, read}
-use Rattle.std.specs.Prelude.{Ok, Err, Some, None}
-use Rattle.outcomes.specs.Answered.{entry}
 
 -- a well-formed map with all its places, its keys i64
 pub record Proper (kind : Kind) (m : Stored) : Type 0 where
@@ -33,9 +31,9 @@ pub record InMemory (m : Stored) : Type 0 where
 
 -- what the answer of a lookup tells of its key: the value that is held there, or none
 abbrev pub value_of : Found → Option ℕ
-value_of (Ok (Some (entry s e v))) = some v
+value_of (Ok (Some x)) = some x.value
 value_of (Ok None) = none
-value_of (Err n) = none
+value_of (Err why) = none
 
 -- the value that a map holds at a key, as its lookup answers
 abbrev pub value_at : Kind → Stored → ℤ → Option ℕ
