@@ -9,7 +9,6 @@ use Rattle.key.specs.Rank.{rank}
 use Rattle.key.specs.Range.{Kind, kind_of}
 use Rattle.key.proofs.Laws.{rank_back}
 use Rattle.key.proofs.Lawful.{lawful, inclusive_too}
-use Rattle.outcomes.specs.Stored.{stored}
 use Rattle.outcomes.specs.declared.Stored.{Stored}
 use Rattle.outcomes.proofs.Formed.{good}
 use Rattle.store.proofs.Seeking.{searched, reached_after}
