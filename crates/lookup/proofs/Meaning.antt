@@ -19,14 +19,15 @@ use Rattle.key.specs.Range.{Kind, span_of}
 use Rattle.outcomes.specs.Stored.{ranges, Sound}
 use Rattle.outcomes.specs.declared.Stored.{Stored}
 use Rattle.outcomes.specs.Outcomes.{first_place, yes_no, lookup_sound, contains_sound, overlaps_sound, overlapping_sound}
-use Rattle.outcomes.specs.Answered.{Found}
+use Rattle.key.specs.declared.Entry.{Entry}
+use Rattle.outcomes.specs.declared.Part.{Part}
 use Rattle.store.specs.InnerCheck.{span_at}
 use Rattle.store.specs.InnerSearch.{Reached, FirstPast}
 use Rattle.lookup.proofs.Places.{nth, Exactly, exactly_inside, missed_free, meets_none}
 use Rattle.outcomes.proofs.Formed.{good}
 use Rattle.lookup.proofs.Returns.{as_many, nth_place, the_first_range, rising, placed_at, placed_none, met_empty, met_yes, met_no, exactly_met, part_empty, part_none, part_some}
 use Rattle.std.specs.Prelude.{Ok, Some, None}
-use Rattle.outcomes.specs.Answered.{entry, part}
+use Rattle.outcomes.specs.Answered.{Found, entry, part}
 
 -- is something held
 abbrev pub is_held : Option ℕ → Bool
@@ -99,9 +100,10 @@ module _ {kind : Kind} {m : Stored} (sound : Sound kind m) where
       where
         go : (a : Found) → Meant kind m k a → a ≡ Ok (Some (entry s e v)) → Within (rank s) (kind.past e) (rank k) × (at (ranges kind m) (rank k) ≡ some v)
         go _ (held p h w u) a =
-            let b : get_or m.starts p (pos 0) ≡ s = cc in
-            let c : get_or m.ends p (pos 0) ≡ e = cc in
-            let d : get_or m.values p 0 ≡ v = cc in
+            let x : entry (get_or m.starts p (pos 0)) (get_or m.ends p (pos 0)) (get_or m.values p 0) ≡ entry s e v = cc in
+            let b = ap (λ (y : Entry). y.start) x in
+            let c = ap (λ (y : Entry). y.end) x in
+            let d = ap (λ (y : Entry). y.value) x in
             (rw (← b, ← c) w, u ∙ ap some d)
         go _ (free n) a = let z : ◌≡◌ {A = ℕ} 0 1 = cc in absurd (omega arith)
 
@@ -194,14 +196,16 @@ module _ {kind : Kind} {m : Stored} (sound : Sound kind m) where
       | yes h ↦ elim (dec_lt from to) [
         | yes l ↦
             let r = part_some sound s e h reach (walk h) l in
-            let u : from ≡ p = cc in
-            let v : to - from ≡ n = cc in
+            let x : part from (to - from) ≡ part p n = cc in
+            let u = ap (λ (y : Part). y.place) x in
+            let v = ap (λ (y : Part). y.count) x in
             record { within = omega (arith, (walk h).within); only = λ j i. exactly_inside (exactly h) j i ∙ in_same (omega arith) (omega arith) }
         | no l ↦
             let z : to ≡ from = omega (arith, in_order h) in
             let r = part_none sound s e h reach (walk h) z in
-            let u : 0 ≡ p = cc in
-            let v : 0 ≡ n = cc in
+            let x : part 0 0 ≡ part p n = cc in
+            let u = ap (λ (y : Part). y.place) x in
+            let v = ap (λ (y : Part). y.count) x in
             record { within = omega arith; only = λ j i. exactly_inside (exactly h) j i ∙ in_same (omega arith) (omega arith) }
       ]
       | no h ↦ let r = part_empty sound s e (omega arith) in let z : ◌≡◌ {A = ℕ} 0 1 = cc in absurd (omega arith)

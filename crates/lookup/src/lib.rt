@@ -3,11 +3,11 @@
 // empty (`full`, of the keys).
 #![tactic(auto)]
 
-ghost use Rattle.std.specs.Prelude.{◌≡◌, ◌≤◌, length};
+ghost use Rattle.std.specs.Prelude.{◌≡◌, ◌≤◌, cond, length, ltb, None, Some};
 ghost use Rattle.span.specs.Operations.{holds};
 ghost use Rattle.key.specs.Rank.{rank};
 ghost use Rattle.key.specs.Range.{kind_of};
-ghost use Rattle.outcomes.specs.Stored.{stored, ranges, Sound};
+ghost use Rattle.outcomes.specs.Stored.{ranges, Sound};
 ghost use Rattle.outcomes.specs.Outcomes.{range_at_sound, first_place, lookup_sound, contains_sound, overlaps_sound, overlapping_sound};
 
 use answers::Refusal;
@@ -18,104 +18,77 @@ use store::walk::first_past;
 
 // The range and the value at a place. The kind of range is no matter here.
 pub fn range_at(m: &Stored, place: usize) -> Result<Option<Entry>, Refusal>
-    requires { (count ≤ length m.now.starts) × (count ≤ length m.now.ends) × (count ≤ length m.now.values) }
+    requires { m.now.count ≤ length m.now.starts }
     ensures { result ≡ range_at_sound m.now place }
 {
     if place >= m.count {
         return Ok(None);
     }
-    Ok(Some(Entry { start: m.starts[place], end: m.ends[place], value: m.values[place] }))
+    Ok(Some(Entry {
+        start: m.starts[place],
+        end: m.ends[place],
+        value: m.values[place],
+    }))
 }
 
-// The place of the range that holds the key: `count` if none does.
-fn place_of(
-    kind: RangeKind,
-    m: &Stored,
-    key: i64,
-) -> usize
+// The place of the range that holds the key, if one does.
+fn place_of(kind: RangeKind, m: &Stored, key: i64) -> Option<usize>
     requires { Sound (kind_of kind) m.now }
-    ensures { result ≡ first_place (holds (rank key)) (ranges (kind_of kind) m.now) }
+    ensures { let p = first_place (holds (rank key)) (ranges (kind_of kind) m.now) in result ≡ cond (ltb p m.now.count) (Some p) None }
 {
     let place = reaching(kind, &m.ends, m.count, key);
-    if m.count <= place {
-        return m.count;
+    if place < m.count && m.starts[place] <= key {
+        return Some(place);
     }
-    if key < m.starts[place] {
-        return m.count;
-    }
-    place
+    None
 }
 
 // The range that holds the key, and its value.
-pub fn get_key_value(
-    kind: RangeKind,
-    m: &Stored,
-    key: i64,
-) -> Result<Option<Entry>, Refusal>
+pub fn get_key_value(kind: RangeKind, m: &Stored, key: i64) -> Result<Option<Entry>, Refusal>
     requires { Sound (kind_of kind) m.now }
     ensures { result ≡ lookup_sound (kind_of kind) m.now key }
 {
-    let place = place_of(kind, m, key);
-    range_at(m, place)
+    match place_of(kind, m, key) {
+        Some(place) => range_at(m, place),
+        None => Ok(None),
+    }
 }
 
 // Whether some range holds the key.
-pub fn contains_key(
-    kind: RangeKind,
-    m: &Stored,
-    key: i64,
-) -> Result<bool, Refusal>
+pub fn contains_key(kind: RangeKind, m: &Stored, key: i64) -> Result<bool, Refusal>
     requires { Sound (kind_of kind) m.now }
     ensures { result ≡ contains_sound (kind_of kind) m.now key }
 {
-    if place_of(kind, m, key) < m.count {
-        return Ok(true);
-    }
-    Ok(false)
+    Ok(place_of(kind, m, key).is_some())
 }
 
 // Whether some range has a key of the query. The first that is not past at `start` has one, or none has.
-pub fn overlaps(
-    kind: RangeKind,
-    m: &Stored,
-    start: i64,
-    end: i64,
-) -> Result<bool, Refusal>
+pub fn overlaps(kind: RangeKind, m: &Stored, start: i64, end: i64) -> Result<bool, Refusal>
     requires { Sound (kind_of kind) m.now }
     ensures { result ≡ overlaps_sound (kind_of kind) m.now start end }
 {
     if !full(kind, start, end) {
-        return Err(answers::EMPTY_RANGE);
+        return Err(Refusal::EmptyRange);
     }
     let place = reaching(kind, &m.ends, m.count, start);
-    if m.count <= place {
-        return Ok(false);
-    }
-    let next = m.starts[place];
-    if !full(kind, next, end) {
-        return Ok(false);
-    }
-    Ok(true)
+    Ok(place < m.count && full(kind, m.starts[place], end))
 }
 
 // Which consecutive part of the places has keys of the query: place 0 and count 0 if none has.
-pub fn overlapping(
-    kind: RangeKind,
-    m: &Stored,
-    start: i64,
-    end: i64,
-) -> Result<Part, Refusal>
+pub fn overlapping(kind: RangeKind, m: &Stored, start: i64, end: i64) -> Result<Part, Refusal>
     requires { Sound (kind_of kind) m.now }
     ensures { result ≡ overlapping_sound (kind_of kind) m.now start end }
 {
     if !full(kind, start, end) {
-        return Err(answers::EMPTY_RANGE);
+        return Err(Refusal::EmptyRange);
     }
     let first = reaching(kind, &m.ends, m.count, start);
     let next = first_past(kind, &m.starts, first, m.count, end);
     if next == first {
         return Ok(Part { place: 0, count: 0 });
     }
-    let many = next - first;
-    Ok(Part { place: first, count: many })
+    Ok(Part {
+        place: first,
+        count: next - first,
+    })
 }
