@@ -2,7 +2,7 @@
 use answers::Refusal;
 use key::{RangeKind, Value};
 use outcomes::{PLACES, Stored};
-use store::check::well_formed;
+use store::check::checked;
 
 pub mod bulk;
 
@@ -23,25 +23,16 @@ pub fn insert(
     ensures { Leaves result m.new
         (insert (kind_of kind) m.old start end value) }
 {
-    if !well_formed(kind, m) {
-        return Err(Refusal::NotFormed);
-    }
+    checked(kind, m)?;
     edit::insert(kind, m, start, end, value)
 }
 
 // Uncovers exactly the instants of the range.
-pub fn remove(
-    kind: RangeKind,
-    m: &mut Stored,
-    start: i64,
-    end: i64,
-) -> Result<(), Refusal>
+pub fn remove(kind: RangeKind, m: &mut Stored, start: i64, end: i64) -> Result<(), Refusal>
     ensures { Leaves result m.new
         (remove (kind_of kind) m.old start end) }
 {
-    if !well_formed(kind, m) {
-        return Err(Refusal::NotFormed);
-    }
+    checked(kind, m)?;
     edit::remove(kind, m, start, end)
 }
 

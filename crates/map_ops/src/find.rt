@@ -9,63 +9,37 @@ ghost use Rattle.range_list.specs.InnerLists.{wrote};
 use answers::Refusal;
 use key::{Entry, RangeKind};
 use outcomes::{Part, Stored};
-use store::check::well_formed;
+use store::check::checked;
 
 // The range that holds the key, and its value.
-pub fn get_key_value(
-    kind: RangeKind,
-    m: &Stored,
-    key: i64,
-) -> Result<Option<Entry>, Refusal>
+pub fn get_key_value(kind: RangeKind, m: &Stored, key: i64) -> Result<Option<Entry>, Refusal>
     ensures { result ≡ lookup (kind_of kind) m.now key }
 {
-    if !well_formed(kind, m) {
-        return Err(Refusal::NotFormed);
-    }
+    checked(kind, m)?;
     lookup::get_key_value(kind, m, key)
 }
 
 // Whether some range holds the key.
-pub fn contains_key(
-    kind: RangeKind,
-    m: &Stored,
-    key: i64,
-) -> Result<bool, Refusal>
+pub fn contains_key(kind: RangeKind, m: &Stored, key: i64) -> Result<bool, Refusal>
     ensures { result ≡ contains (kind_of kind) m.now key }
 {
-    if !well_formed(kind, m) {
-        return Err(Refusal::NotFormed);
-    }
+    checked(kind, m)?;
     lookup::contains_key(kind, m, key)
 }
 
 // Whether some range has a key of the query.
-pub fn overlaps(
-    kind: RangeKind,
-    m: &Stored,
-    start: i64,
-    end: i64,
-) -> Result<bool, Refusal>
+pub fn overlaps(kind: RangeKind, m: &Stored, start: i64, end: i64) -> Result<bool, Refusal>
     ensures { result ≡ overlaps (kind_of kind) m.now start end }
 {
-    if !well_formed(kind, m) {
-        return Err(Refusal::NotFormed);
-    }
+    checked(kind, m)?;
     lookup::overlaps(kind, m, start, end)
 }
 
 // Which consecutive stored part meets the query.
-pub fn overlapping(
-    kind: RangeKind,
-    m: &Stored,
-    start: i64,
-    end: i64,
-) -> Result<Part, Refusal>
+pub fn overlapping(kind: RangeKind, m: &Stored, start: i64, end: i64) -> Result<Part, Refusal>
     ensures { result ≡ overlapping (kind_of kind) m.now start end }
 {
-    if !well_formed(kind, m) {
-        return Err(Refusal::NotFormed);
-    }
+    checked(kind, m)?;
     lookup::overlapping(kind, m, start, end)
 }
 
@@ -81,10 +55,6 @@ pub fn gaps(
     ensures { wrote result out_starts.new out_ends.new
         ≡ gaps (kind_of kind) m.now start end out_starts.old out_ends.old }
 {
-    if !well_formed(kind, m) {
-        return Err(Refusal::NotFormed);
-    }
-    gaps::gaps(
-        kind, m, start, end, out_starts, out_ends,
-    )
+    checked(kind, m)?;
+    gaps::gaps(kind, m, start, end, out_starts, out_ends)
 }

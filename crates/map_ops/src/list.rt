@@ -4,119 +4,64 @@ ghost use Rattle.key.specs.Range.{kind_of};
 ghost use Rattle.outcomes.specs.Stored.{stored};
 ghost use Rattle.outcomes.specs.Outcomes.{count_of, equal, first_of, is_empty, last_of, order, range_at};
 
-use std::cmp::Ordering;
 use answers::Refusal;
 use key::{Entry, RangeKind};
 use outcomes::Stored;
-use store::check::well_formed;
-
-// The last of some places, and 0 of none.
-fn last_place(count: usize) -> usize
-    ensures { result ≡ count - 1 }
-{
-    if count == 0 {
-        return 0;
-    }
-    count - 1
-}
+use std::cmp::Ordering;
+use store::check::checked;
 
 // Whether nothing is held.
-pub fn is_empty(
-    kind: RangeKind,
-    m: &Stored,
-) -> Result<bool, Refusal>
+pub fn is_empty(kind: RangeKind, m: &Stored) -> Result<bool, Refusal>
     ensures { result ≡ is_empty (kind_of kind) m.now }
 {
-    if !well_formed(kind, m) {
-        return Err(Refusal::NotFormed);
-    }
-    if m.count == 0 {
-        return Ok(true);
-    }
-    Ok(false)
+    checked(kind, m)?;
+    Ok(m.count == 0)
 }
 
 // How many ranges are held.
-pub fn len(
-    kind: RangeKind,
-    m: &Stored,
-) -> Result<usize, Refusal>
+pub fn len(kind: RangeKind, m: &Stored) -> Result<usize, Refusal>
     ensures { result ≡ count_of (kind_of kind) m.now }
 {
-    if !well_formed(kind, m) {
-        return Err(Refusal::NotFormed);
-    }
+    checked(kind, m)?;
     Ok(m.count)
 }
 
 // The range and the value at a place.
-pub fn range_at(
-    kind: RangeKind,
-    m: &Stored,
-    place: usize,
-) -> Result<Option<Entry>, Refusal>
+pub fn range_at(kind: RangeKind, m: &Stored, place: usize) -> Result<Option<Entry>, Refusal>
     ensures { result ≡ range_at (kind_of kind) m.now place }
 {
-    if !well_formed(kind, m) {
-        return Err(Refusal::NotFormed);
-    }
+    checked(kind, m)?;
     lookup::range_at(m, place)
 }
 
 // The first range and its value.
-pub fn first_range_value(
-    kind: RangeKind,
-    m: &Stored,
-) -> Result<Option<Entry>, Refusal>
+pub fn first_range_value(kind: RangeKind, m: &Stored) -> Result<Option<Entry>, Refusal>
     ensures { result ≡ first_of (kind_of kind) m.now }
 {
-    if !well_formed(kind, m) {
-        return Err(Refusal::NotFormed);
-    }
+    checked(kind, m)?;
     lookup::range_at(m, 0)
 }
 
 // The last range and its value.
-pub fn last_range_value(
-    kind: RangeKind,
-    m: &Stored,
-) -> Result<Option<Entry>, Refusal>
+pub fn last_range_value(kind: RangeKind, m: &Stored) -> Result<Option<Entry>, Refusal>
     ensures { result ≡ last_of (kind_of kind) m.now }
 {
-    if !well_formed(kind, m) {
-        return Err(Refusal::NotFormed);
-    }
-    lookup::range_at(m, last_place(m.count))
+    checked(kind, m)?;
+    lookup::range_at(m, m.count.saturating_sub(1))
 }
 
 // Which of two maps comes first.
-pub fn cmp(
-    kind: RangeKind,
-    m: &Stored,
-    other: &Stored,
-) -> Result<Ordering, Refusal>
+pub fn cmp(kind: RangeKind, m: &Stored, other: &Stored) -> Result<Ordering, Refusal>
     ensures { result ≡ order (kind_of kind) m.now other.now }
 {
-    if !well_formed(kind, m) {
-        return Err(Refusal::NotFormed);
-    }
-    if !well_formed(kind, other) {
-        return Err(Refusal::NotFormed);
-    }
-    compare::compare(
-        m, other,
-    )
+    checked(kind, m)?;
+    checked(kind, other)?;
+    compare::compare(m, other)
 }
 
 // Whether two maps hold the same ranges with the same values.
-pub fn eq(
-    kind: RangeKind,
-    m: &Stored,
-    other: &Stored,
-) -> Result<bool, Refusal>
+pub fn eq(kind: RangeKind, m: &Stored, other: &Stored) -> Result<bool, Refusal>
     ensures { result ≡ equal (kind_of kind) m.now other.now }
 {
-    outcomes::equal_of(cmp(
-        kind, m, other,
-    ))
+    outcomes::equal_of(cmp(kind, m, other))
 }

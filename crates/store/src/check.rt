@@ -5,8 +5,9 @@ ghost use Rattle.key.specs.Rank.{rank};
 ghost use Rattle.key.specs.Range.{half_open, inclusive, kind_of};
 ghost use Rattle.outcomes.specs.Stored.{places, Sound, Spare, stored};
 ghost use Rattle.outcomes.specs.Outcomes.{formed};
-ghost use Rattle.store.specs.InnerCheck.{Follows, Steps, Keys, Unused};
+ghost use Rattle.store.specs.InnerCheck.{Checked, Follows, Steps, Keys, Unused};
 
+use answers::Refusal;
 use key::{RangeKind, Value};
 use outcomes::Stored;
 
@@ -163,4 +164,15 @@ pub fn well_formed(
         return false;
     }
     tidy(kind, &m.starts, &m.ends, &m.values, m.count)
+}
+
+// The same as a result: a map that is not well formed is refused, and one that is sound and has all its places is let pass.
+pub fn checked(kind: RangeKind, m: &Stored) -> Result<(), Refusal>
+    ensures { Checked (kind_of kind) m.now result }
+{
+    if well_formed(kind, m) {
+        Ok(())
+    } else {
+        Err(Refusal::NotFormed)
+    }
 }
