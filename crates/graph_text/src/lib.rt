@@ -11,6 +11,7 @@ ghost use Rattle.graph_text.specs.Grid.{quarters_in, clock_hour, is_marked, mark
 ghost use Rattle.graph_text.specs.GraphText.{hour_column, hours_line, total_column, row_line, sum_line, graph_text};
 ghost use Rattle.graph_text.specs.InnerRoom.{most_quarters, most_hours, graph_line_room, graph_room, Quarters, Quarter};
 
+use outcomes::Stored;
 use decimal::put_u64;
 use duty::{Tallied, Totals};
 use key::Bounds;
@@ -56,22 +57,19 @@ fn quarter_start(start: i64, q: usize) -> i64
 
 // Whether a quarter has a second of a row.
 pub fn is_marked(
-    count: usize,
-    starts: &[i64],
-    ends: &[i64],
-    values: &[u8],
+    m: &Stored,
     start: i64,
     row: usize,
     q: usize,
 ) -> bool
-    requires { Quarter (stored count starts.now ends.now values.now) start q × (row < row_count) × (q < most_quarters) }
-    ensures { result ≡ is_marked (ranges half_open (stored count starts.now ends.now values.now)) start row q }
+    requires { Quarter m.now start q × (row < row_count) × (q < most_quarters) }
+    ensures { result ≡ is_marked (ranges half_open m.now) start row q }
 {
     let quarter = Bounds {
         start: quarter_start(start, q),
         end: quarter_start(start, q + 1),
     };
-    let t = duty::between(count, starts, ends, values, quarter);
+    let t = duty::between(m, quarter);
     match t {
         Tallied::Seconds(totals) => 0 < seconds_of(totals, row),
         Tallied::Refused(_) => false,
@@ -100,18 +98,15 @@ fn blank_of(q: usize) -> u8
 
 // What a quarter shows in a row.
 fn shown_at(
-    count: usize,
-    starts: &[i64],
-    ends: &[i64],
-    values: &[u8],
+    m: &Stored,
     start: i64,
     row: usize,
     q: usize,
 ) -> u8
-    requires { Quarter (stored count starts.now ends.now values.now) start q × (row < row_count) × (q < most_quarters) }
-    ensures { result ≡ shown (ranges half_open (stored count starts.now ends.now values.now)) start row q }
+    requires { Quarter m.now start q × (row < row_count) × (q < most_quarters) }
+    ensures { result ≡ shown (ranges half_open m.now) start row q }
 {
-    if is_marked(count, starts, ends, values, start, row, q) {
+    if is_marked(m, start, row, q) {
         return mark_of(row);
     }
     blank_of(q)
@@ -119,23 +114,20 @@ fn shown_at(
 
 // The quarters of a row.
 fn put_cells(
-    count: usize,
-    starts: &[i64],
-    ends: &[i64],
-    values: &[u8],
+    m: &Stored,
     start: i64,
     n: usize,
     row: usize,
     out: &mut [u8],
     at: usize,
 ) -> usize
-    requires { Quarters (stored count starts.now ends.now values.now) start n × (row < row_count) × (at + n ≤ length out.old) }
-    ensures { AddsWithin n (series (cell (ranges half_open (stored count starts.now ends.now values.now)) start row) n) out.old at out.new result }
+    requires { Quarters m.now start n × (row < row_count) × (at + n ≤ length out.old) }
+    ensures { AddsWithin n (series (cell (ranges half_open m.now) start row) n) out.old at out.new result }
 {
     let mut to = at;
     let mut q = 0;
     while q < n {
-        let byte = shown_at(count, starts, ends, values, start, row, q);
+        let byte = shown_at(m, start, row, q);
         to = put_byte(out, to, byte);
         q += 1;
     }
@@ -153,10 +145,7 @@ fn put_total(out: &mut [u8], at: usize, n: u64) -> usize
 
 // The line of a row.
 fn put_row(
-    count: usize,
-    starts: &[i64],
-    ends: &[i64],
-    values: &[u8],
+    m: &Stored,
     start: i64,
     n: usize,
     t: Totals,
@@ -164,34 +153,31 @@ fn put_row(
     out: &mut [u8],
     at: usize,
 ) -> usize
-    requires { Quarters (stored count starts.now ends.now values.now) start n × (row < row_count) × (at + graph_line_room ≤ length out.old) }
-    ensures { AddsWithin graph_line_room (row_line (ranges half_open (stored count starts.now ends.now values.now)) start n t row) out.old at out.new result }
+    requires { Quarters m.now start n × (row < row_count) × (at + graph_line_room ≤ length out.old) }
+    ensures { AddsWithin graph_line_room (row_line (ranges half_open m.now) start n t row) out.old at out.new result }
 {
     let cells = put_row_column(out, at, row);
-    let total = put_cells(count, starts, ends, values, start, n, row, out, cells);
+    let total = put_cells(m, start, n, row, out, cells);
     put_total(out, total, seconds_of(t, row) as u64)
 }
 
 // The lines of the five rows.
 fn put_rows(
-    count: usize,
-    starts: &[i64],
-    ends: &[i64],
-    values: &[u8],
+    m: &Stored,
     start: i64,
     n: usize,
     t: Totals,
     out: &mut [u8],
     at: usize,
 ) -> usize
-    requires { Quarters (stored count starts.now ends.now values.now) start n × (at + row_count * graph_line_room ≤ length out.old) }
+    requires { Quarters m.now start n × (at + row_count * graph_line_room ≤ length out.old) }
     ensures { AddsWithin (row_count * graph_line_room) (series
-        (row_line (ranges half_open (stored count starts.now ends.now values.now)) start n t) row_count) out.old at out.new result }
+        (row_line (ranges half_open m.now) start n t) row_count) out.old at out.new result }
 {
     let mut to = at;
     let mut row = 0;
     while row < ROWS {
-        to = put_row(count, starts, ends, values, start, n, t, row, out, to);
+        to = put_row(m, start, n, t, row, out, to);
         row += 1;
     }
     to
@@ -242,20 +228,17 @@ fn put_sum_line(out: &mut [u8], at: usize, n: usize, t: Totals) -> usize
 
 // THE GRID of a day.
 pub fn graph_text(
-    count: usize,
-    starts: &[i64],
-    ends: &[i64],
-    values: &[u8],
+    m: &Stored,
     start: i64,
     end: i64,
     t: Totals,
     out: &mut [u8; GRAPH_ROOM],
 ) -> usize
-    requires { Drawable (stored count starts.now ends.now values.now) start end }
-    ensures { AddsWithin graph_room (graph_text (ranges half_open (stored count starts.now ends.now values.now)) start end t) out.old 0 out.new result }
+    requires { Drawable m.now start end }
+    ensures { AddsWithin graph_room (graph_text (ranges half_open m.now) start end t) out.old 0 out.new result }
 {
     let n = quarters_of(start, end);
     let first = put_hours_line(out, 0, n / 4);
-    let sum = put_rows(count, starts, ends, values, start, n, t, out, first);
+    let sum = put_rows(m, start, n, t, out, first);
     put_sum_line(out, sum, n, t)
 }

@@ -9,7 +9,7 @@ ghost use Rattle.range_text.specs.InnerRoom.{range_room, range_line_room, result
 
 use decimal::put_i64;
 use filling::fill;
-use outcomes::PLACES;
+use outcomes::{PLACES, Stored};
 use text::{put, put_byte};
 
 // The most bytes that a line takes: two numbers of 20 bytes, two dots, and a value of at most 20 bytes with what stands around it.
@@ -54,14 +54,14 @@ fn put_result_line(out: &mut [u8], at: usize, start: i64, end: i64) -> usize
 }
 
 // The lines of the first `count` places.
-fn put_ranges(count: usize, starts: &[i64], ends: &[i64], values: &[u8], out: &mut [u8]) -> usize
-    requires { RangesRoom count starts.now ends.now values.now out.old }
-    ensures { AddsWithin (range_line_room * count) (ranges_text (stored count starts.now ends.now values.now)) out.old 0 out.new result }
+fn put_ranges(m: &Stored, out: &mut [u8]) -> usize
+    requires { RangesRoom count m.now.starts m.now.ends m.now.values out.old }
+    ensures { AddsWithin (range_line_room * m.now.count) (ranges_text m.now) out.old 0 out.new result }
 {
     let mut to = 0;
     let mut i = 0;
-    while i < count {
-        to = put_line(out, to, starts[i], ends[i], values[i]);
+    while i < m.count {
+        to = put_line(out, to, m.starts[i], m.ends[i], m.values[i]);
         i += 1;
     }
     to
@@ -69,16 +69,13 @@ fn put_ranges(count: usize, starts: &[i64], ends: &[i64], values: &[u8], out: &m
 
 // THE RANGES OF A MAP.
 pub fn ranges_text(
-    count: usize,
-    starts: &[i64; PLACES],
-    ends: &[i64; PLACES],
-    values: &[u8; PLACES],
+    m: &Stored,
     out: &mut [u8; RANGES_ROOM],
 ) -> usize
     requires { count ≤ places }
-    ensures { AddsWithin (range_line_room * count) (ranges_text (stored count starts.now ends.now values.now)) out.old 0 out.new result }
+    ensures { AddsWithin (range_line_room * m.now.count) (ranges_text m.now) out.old 0 out.new result }
 {
-    put_ranges(count, starts, ends, values, out)
+    put_ranges(m, out)
 }
 
 // The lines of the first n places of a result.

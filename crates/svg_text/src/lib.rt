@@ -11,6 +11,7 @@ ghost use Rattle.graph_text.specs.InnerRoom.{most_quarters, most_hours, Quarters
 ghost use Rattle.svg_text.specs.SvgText.{head_svg, hour_rule, hour_rules, row_rule, row_rules, hour_svg, name_svg, total_svg, ink_of, mark_at, mark_svg, ink_svg, marks_svg, row_svg, frame_svg, foot_svg, svg_text};
 ghost use Rattle.svg_text.specs.InnerRoom.{text_room, mark_room, marks_room, row_room, frame_room, foot_room, svg_room};
 
+use outcomes::Stored;
 use duty::Totals;
 use filling::fill;
 use graph_text::{clock_hour, is_marked, quarters_of};
@@ -214,21 +215,18 @@ fn put_one(out: &mut [u8], at: usize, row: usize, q: usize) -> usize
 
 // A quarter of a row, if it is marked.
 fn put_mark(
-    count: usize,
-    starts: &[i64],
-    ends: &[i64],
-    values: &[u8],
+    m: &Stored,
     start: i64,
     row: usize,
     q: usize,
     out: &mut [u8],
     at: usize,
 ) -> usize
-    requires { Quarter (stored count starts.now ends.now values.now) start q × (row < row_count) × (q < most_quarters)
+    requires { Quarter m.now start q × (row < row_count) × (q < most_quarters)
         × (at + mark_room ≤ length out.old) }
-    ensures { AddsWithin mark_room (mark_svg (ranges half_open (stored count starts.now ends.now values.now)) start row q) out.old at out.new result }
+    ensures { AddsWithin mark_room (mark_svg (ranges half_open m.now) start row q) out.old at out.new result }
 {
-    if is_marked(count, starts, ends, values, start, row, q) {
+    if is_marked(m, start, row, q) {
         return put_one(out, at, row, q);
     }
     at
@@ -236,24 +234,21 @@ fn put_mark(
 
 // The marks of a row of n quarters.
 fn put_marks(
-    count: usize,
-    starts: &[i64],
-    ends: &[i64],
-    values: &[u8],
+    m: &Stored,
     start: i64,
     n: usize,
     row: usize,
     out: &mut [u8],
     at: usize,
 ) -> usize
-    requires { Quarters (stored count starts.now ends.now values.now) start n × (row < row_count) × (at + marks_room ≤ length out.old) }
-    ensures { AddsWithin marks_room (series (mark_svg (ranges half_open (stored count starts.now ends.now values.now)) start row) n) out.old at
+    requires { Quarters m.now start n × (row < row_count) × (at + marks_room ≤ length out.old) }
+    ensures { AddsWithin marks_room (series (mark_svg (ranges half_open m.now) start row) n) out.old at
         out.new result }
 {
     let mut to = at;
     let mut q = 0;
     while q < n {
-        to = put_mark(count, starts, ends, values, start, row, q, out, to);
+        to = put_mark(m, start, row, q, out, to);
         q += 1;
     }
     to
@@ -261,30 +256,24 @@ fn put_marks(
 
 // The same as a path.
 fn put_marks_path(
-    count: usize,
-    starts: &[i64],
-    ends: &[i64],
-    values: &[u8],
+    m: &Stored,
     start: i64,
     n: usize,
     row: usize,
     out: &mut [u8],
     at: usize,
 ) -> usize
-    requires { Quarters (stored count starts.now ends.now values.now) start n × (row < row_count) × (at + 4650 ≤ length out.old) }
-    ensures { AddsWithin 4650 (marks_svg (ranges half_open (stored count starts.now ends.now values.now)) start n row) out.old at out.new result }
+    requires { Quarters m.now start n × (row < row_count) × (at + 4650 ≤ length out.old) }
+    ensures { AddsWithin 4650 (marks_svg (ranges half_open m.now) start n row) out.old at out.new result }
 {
     let marks = put_ink_head(out, at, row);
-    let to = put_marks(count, starts, ends, values, start, n, row, out, marks);
+    let to = put_marks(m, start, n, row, out, marks);
     put(out, to, b"\"/>\n")
 }
 
 // A row: its name, its marks, its total.
 fn put_row(
-    count: usize,
-    starts: &[i64],
-    ends: &[i64],
-    values: &[u8],
+    m: &Stored,
     start: i64,
     n: usize,
     t: Totals,
@@ -292,35 +281,32 @@ fn put_row(
     out: &mut [u8],
     at: usize,
 ) -> usize
-    requires { Quarters (stored count starts.now ends.now values.now) start n × (row < row_count) × (at + row_room ≤ length out.old) }
-    ensures { AddsWithin row_room (row_svg (ranges half_open (stored count starts.now ends.now values.now)) start n t row) out.old at out.new result }
+    requires { Quarters m.now start n × (row < row_count) × (at + row_room ≤ length out.old) }
+    ensures { AddsWithin row_room (row_svg (ranges half_open m.now) start n t row) out.old at out.new result }
 {
     let path = put_row_label(out, at, row);
-    let to = put_marks_path(count, starts, ends, values, start, n, row, out, path);
+    let to = put_marks_path(m, start, n, row, out, path);
     let total = seconds_of(t, row) as u64;
     put_total(out, to, 8 * n as u64, 49 + 24 * row as u64, total)
 }
 
 // The five rows.
 fn put_rows(
-    count: usize,
-    starts: &[i64],
-    ends: &[i64],
-    values: &[u8],
+    m: &Stored,
     start: i64,
     n: usize,
     t: Totals,
     out: &mut [u8],
     at: usize,
 ) -> usize
-    requires { Quarters (stored count starts.now ends.now values.now) start n × (at + row_count * row_room ≤ length out.old) }
-    ensures { AddsWithin (row_count * row_room) (series (row_svg (ranges half_open (stored count starts.now ends.now values.now)) start n t) row_count)
+    requires { Quarters m.now start n × (at + row_count * row_room ≤ length out.old) }
+    ensures { AddsWithin (row_count * row_room) (series (row_svg (ranges half_open m.now) start n t) row_count)
         out.old at out.new result }
 {
     let mut to = at;
     let mut row = 0;
     while row < ROWS {
-        to = put_row(count, starts, ends, values, start, n, t, row, out, to);
+        to = put_row(m, start, n, t, row, out, to);
         row += 1;
     }
     to
@@ -338,20 +324,17 @@ fn put_foot(out: &mut [u8], at: usize, n: usize, sum: u64) -> usize
 
 // THE PICTURE of a day.
 pub fn svg_text(
-    count: usize,
-    starts: &[i64],
-    ends: &[i64],
-    values: &[u8],
+    m: &Stored,
     start: i64,
     end: i64,
     t: Totals,
     out: &mut [u8; SVG_ROOM],
 ) -> usize
-    requires { Drawable (stored count starts.now ends.now values.now) start end }
-    ensures { AddsWithin svg_room (svg_text (ranges half_open (stored count starts.now ends.now values.now)) start end t) out.old 0 out.new result }
+    requires { Drawable m.now start end }
+    ensures { AddsWithin svg_room (svg_text (ranges half_open m.now) start end t) out.old 0 out.new result }
 {
     let n = quarters_of(start, end);
     let first = put_frame(out, 0, n);
-    let foot = put_rows(count, starts, ends, values, start, n, t, out, first);
+    let foot = put_rows(m, start, n, t, out, first);
     put_foot(out, foot, n, sum_of(t))
 }
