@@ -11,6 +11,7 @@ use lib.ListN.{take}
 use lib.IntN.{ℤ}
 use mir.Syntax.{w64}
 use mir.Val.{SFits}
+use Rattle.std.specs.Prelude.{Ok, None}
 use Rattle.answers.specs.Answers.{done, no_map}
 use Rattle.span.specs.Span.{Span, at, Ordered, Edit, last}
 use Rattle.span.proofs.Tests.{cases}
@@ -18,12 +19,12 @@ use Rattle.span.proofs.Holding.{or_none}
 use Rattle.span.proofs.Sets.{last_puts}
 use Rattle.key.specs.Rank.{rank}
 use Rattle.key.specs.Range.{Kind, half_open}
+use Rattle.key.specs.declared.Entry.{Entry}
 use Rattle.key.proofs.Lawful.{Lawful}
 use Rattle.outcomes.specs.Stored.{ranges}
 use Rattle.outcomes.specs.declared.Stored.{Stored}
 use Rattle.outcomes.specs.Numbers as Numbers
 use Rattle.outcomes.specs.Outcomes.{lookup, entry_change, Edited, leaving, Change, edit, clear, bulk_insert_sound, bulk_insert, edits, span_edits}
-use Rattle.key.specs.declared.Entry.{Entry}
 use Rattle.outcomes.proofs.Edits.{none_refused, ranges_cleared}
 use Rattle.outcomes.proofs.Bulk.{range, entries_ranges, changes_puts, bulk_singles}
 use Rattle.byte_form.specs.Layout.{rm01}
@@ -33,7 +34,6 @@ use Rattle.one_map.specs.Events.{Effect, changed, anew, if_accepted, effect, lef
 use Rattle.one_map.proofs.Known.{some_found, proper_formed, proper_tidy, value_at_lem, none_found, same_lookups}
 use Rattle.one_map.proofs.OneMap.{edit_proper, edit_instants, clear_proper, clear_holds, read_proper}
 use Rattle.one_map.proofs.Refusals.{edit_unchanged, read_unchanged}
-use Rattle.std.specs.Prelude.{Ok, None}
 
 -- a proper map is left, which holds at every instant what the effect gave it, or else what was held
 pub record Left (kind : Kind) (m left : Stored) (x : Effect) : Type 0 where

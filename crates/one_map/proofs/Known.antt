@@ -13,6 +13,7 @@ use lib.ListN.{length, get_or, take}
 use lib.IntN.{ℤ, pos}
 use mir.Syntax.{w64}
 use mir.Val.{SFits}
+use Rattle.std.specs.Prelude.{Ok, Err, Some, None}
 use Rattle.span.specs.Span.{Span, span, inside, at, Tidy}
 use Rattle.span.specs.Operations.{holds}
 use Rattle.span.proofs.Holding.{at_upto}
@@ -30,7 +31,6 @@ use Rattle.outcomes.proofs.Formed.{formed, shape, good, length_ranges, get_or_ra
 use Rattle.outcomes.proofs.Storing.{map_take, starts_back, ends_back, values_back, upto_ranges}
 use Rattle.byte_form.proofs.Entries.{sound_formed, filled_take}
 use Rattle.one_map.specs.Events.{Proper, value_of, value_at}
-use Rattle.std.specs.Prelude.{Ok, Err, Some, None}
 
 -- a lookup that tells a value answers 0, with that value
 pub some_found : (a : Found) {v : ℕ} → value_of a ≡ some v → ((Numbers.found_in_c a).answer ≡ 0) × ((Numbers.found_in_c a).value ≡ v)

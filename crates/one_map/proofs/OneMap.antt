@@ -12,6 +12,7 @@ use lib.ListN.{length}
 use lib.IntN.{ℤ}
 use mir.Syntax.{w64}
 use mir.Val.{SFits}
+use Rattle.std.specs.Prelude.{Ok, None}
 use Rattle.answers.specs.Answers.{done, too_many}
 use Rattle.span.specs.Span.{Span, inside, at, given}
 use Rattle.span.specs.Operations.{span_order}
@@ -34,7 +35,6 @@ use Rattle.byte_form.proofs.Lawful.{rm01_lawful}
 use Rattle.byte_form.proofs.Forms.{write_read, read_write}
 use Rattle.one_map.specs.Events.{Proper, value_of, value_at, in_range}
 use Rattle.one_map.proofs.Known.{proper_formed, proper_tidy, value_at_lem, each_instant, stored_again, same_ranges, same_lookups}
-use Rattle.std.specs.Prelude.{Ok, None}
 
 -- a proper map holds no more ranges than it has places
 proper_few : {kind : Kind} {m : Stored} → Proper kind m → length (ranges kind m) ≤ places

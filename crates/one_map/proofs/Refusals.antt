@@ -11,18 +11,22 @@ use lib.Dec.{eqb, ltb, leb}
 use lib.ListN.{length, get_or, drop, length-append, length-drop, length-map}
 use lib.Seq.{get_or-append-add, get_or-drop}
 use lib.IntN.{ℤ, pos}
+use Rattle.std.specs.Prelude.{Ok, Err, Some, None}
+use Rattle.std.specs.declared.cmp.Ordering.TheVariants.{Less, Equal, Greater}
 use Rattle.answers.specs.Answers.{done, empty_range, too_many, too_short, not_formed, none_there, no_map, total_over}
+use Rattle.answers.specs.declared.Refusal.{Refusal}
+use Rattle.answers.specs.declared.Refusal.TheVariants.{EmptyRange, TooShort, NotFormed}
 use Rattle.span.specs.Span.{Span, given}
 use Rattle.span.specs.Operations.{uncovered, spans_overlap, any, holds, common, united, span_total}
 use Rattle.key.specs.Rank.{rank, keys, key_at}
 use Rattle.key.specs.Range.{Kind, half_open, span_of, empty}
+use Rattle.key.specs.declared.Entry.{Entry}
 use Rattle.outcomes.specs.Stored.{places, ranges, storing, well_formed}
 use Rattle.outcomes.specs.declared.Stored.{Stored}
 use Rattle.outcomes.specs.Numbers.{asked_in_c, counted_in_c, part_in_c, compared_in_c, totalled_in_c}
 use Rattle.outcomes.specs.Numbers as Numbers
 use Rattle.outcomes.specs.Outcomes.{not_written}
 use Rattle.outcomes.specs.Outcomes.{yes_no, compared_by, is_equal, first_place, how_many, part_of, in_first_places, Written, Edited, leaving, extended}
-use Rattle.key.specs.declared.Entry.{Entry}
 use Rattle.outcomes.specs.Outcomes.{range_at_sound, lookup_sound, overlaps_sound, overlapping_sound, into_lists, gaps_sound, order_sound, edit_sound, formed}
 use Rattle.outcomes.specs.Outcomes.{range_at, lookup, overlaps, overlapping, gaps, order, equal, edit, bulk_insert}
 use Rattle.outcomes.specs.Sets.{plain, total_is, intersection_sound, union_sound, total_sound, formed_set, intersection, union, total_of}
@@ -30,10 +34,6 @@ use Rattle.outcomes.specs.Answered.{Asked, Counted, Found, Placed, Compared, Tot
 use Rattle.byte_form.specs.Layout.{rm01}
 use Rattle.byte_form.specs.Form.{form_of, Output, output, map_in, is_form, read}
 use Rattle.byte_form.specs.Form as Form
-use Rattle.std.specs.Prelude.{Ok, Err, Some, None}
-use Rattle.answers.specs.declared.Refusal.{Refusal}
-use Rattle.answers.specs.declared.Refusal.TheVariants.{EmptyRange, TooShort, NotFormed}
-use Rattle.std.specs.declared.cmp.Ordering.TheVariants.{Less, Equal, Greater}
 
 -- EVERY OTHER FIELD IS 0 on any number but 0: yes or no
 pub told_zero : (a : Asked) → ((asked_in_c a).answer ≡ 0 → ⊥) → (asked_in_c a).yes ≡ false

@@ -5,6 +5,7 @@ use mathlib.Core.Bool.{Bool, true, false, cond}
 use mathlib.Core.List.{List, [], ◌∷◌}
 use mathlib.Core.Option.{some, none}
 use lib.IntN.{ℤ}
+use Rattle.std.specs.Prelude.{Err}
 use Rattle.answers.specs.Answers.{not_formed}
 use Rattle.answers.specs.Refusals.{number}
 use Rattle.answers.specs.declared.Refusal.TheVariants.{NotFormed}
@@ -21,7 +22,6 @@ use Rattle.one_map.proofs.Refusals.{Kept, unwritten_kept, kept_either, gaps_kept
 use Rattle.one_map.proofs.Refusals.{first_number, unformed, no_set, keyless, nothing_at, overfull, overlong}
 use Rattle.one_map.proofs.Refusals.{told_number, found_number, part_number, order_number, list_number, edit_number, lets_pass, both_pass}
 use Rattle.one_map.proofs.Refusals.{edit_order, place_order, lookup_order, overlaps_order, overlapping_order, equality_order, ordering_order, gaps_order}
-use Rattle.std.specs.Prelude.{Err}
 
 -- an edit behind the check of a set: refused, the set is as it was
 unchanged : (m : Stored) (t : Bool) (o : Edited) → ((o.answer ≡ 0 → ⊥) → o.left ≡ m)

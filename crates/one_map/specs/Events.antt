@@ -6,10 +6,10 @@ use Rattle.answers.specs.Answers.{done}
 use Rattle.span.specs.Span.{inside, last}
 use Rattle.key.specs.Rank.{rank}
 use Rattle.key.specs.Range.{Kind, half_open}
+use Rattle.key.specs.declared.Entry.{Entry}
 use Rattle.outcomes.specs.Stored.{places, AllFit, Sound}
 use Rattle.outcomes.specs.declared.Stored.{Stored}
 use Rattle.outcomes.specs.Outcomes.{entry_change, Edited, leaving, Change, lookup, clear, insert, remove, bulk_insert, span_edits}
-use Rattle.key.specs.declared.Entry.{Entry}
 use Rattle.outcomes.specs.Answered.{Found}
 use Rattle.byte_form.specs.Layout.{rm01}
 use Rattle.byte_form.specs.Bytes.{Bytes}

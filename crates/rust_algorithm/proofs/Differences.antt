@@ -13,12 +13,15 @@ use lib.IntN.{ℤ}
 use mir.Syntax.{w64}
 use mir.Val.{of_z}
 use borrow.Author.Tests.{lt-ltb, le-ltb, le-leb, lt-leb, eq-eqb, ne_eqb}
+use Rattle.std.specs.Prelude.{Err}
 use Rattle.answers.specs.Answers.{done, empty_range, too_many}
+use Rattle.answers.specs.declared.Refusal.TheVariants.{EmptyRange}
 use Rattle.span.specs.Span.{Span, span, inside, given}
 use Rattle.span.specs.Operations.{spans_overlap, any}
 use Rattle.span.proofs.Tests.{in_no}
 use Rattle.key.specs.Rank.{rank, keys}
 use Rattle.key.specs.Range.{Kind}
+use Rattle.key.specs.declared.Entry.{Entry}
 use Rattle.key.proofs.Laws.{rank_below}
 use Rattle.relations.specs.Relations as relations
 use Rattle.relations.specs.declared.Relation.TheVariants.{Empty}
@@ -26,7 +29,6 @@ use Rattle.outcomes.specs.Stored.{places, ranges, storing, well_formed}
 use Rattle.outcomes.specs.declared.Stored.{Stored}
 use Rattle.outcomes.specs.Outcomes.{not_written, Edited, leaving, edit_sound, edit, overlaps_sound, overlaps, overlapping_sound, overlapping, gaps_sound, gaps}
 use Rattle.outcomes.specs.Outcomes.{entry_change, bulk_insert_sound, span_edits}
-use Rattle.key.specs.declared.Entry.{Entry}
 use Rattle.rust_algorithm.specs.Btree.{filtered}
 use Rattle.rust_algorithm.specs.Map.{rust_ranges_overlap}
 use Rattle.rust_algorithm.specs.InclusiveMap.{inclusive_range_contains, inclusive_ranges_overlap}
@@ -35,8 +37,6 @@ use Rattle.rust_algorithm.specs.Equal.{LentMap, entry_spans}
 use Rattle.rust_algorithm.proofs.InclusiveEdits.{leb_ltb}
 use Rattle.rust_algorithm.proofs.Same.{Kept, Transcribed}
 use Rattle.rust_algorithm.proofs.Equal.{kept, well, ends_by, edit_equal, edited_is, left, extend_changes}
-use Rattle.std.specs.Prelude.{Err}
-use Rattle.answers.specs.declared.Refusal.TheVariants.{EmptyRange}
 
 -- OF EVERY INPUT
 -- contains and overlaps of ranges: where one is empty or reversed, the Rust says no

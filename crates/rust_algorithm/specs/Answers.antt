@@ -1,6 +1,6 @@
 -- The Rust's functions of one kind, over ranges as spans from lo up to hi; and what the ledger answers, in the words of `outcomes`, by what the Rust answers.
 use Prim.Native.Nat.{ℕ, ◌-◌, Ordering}
-use Rattle.std.specs.Prelude.{Bool, false, cond, List, [], ◌∷◌, eqb, ltb, length, ℤ}
+use Rattle.std.specs.Prelude.{Bool, false, cond, List, [], ◌∷◌, eqb, ltb, length, ℤ, Ok, Some, None}
 use Rattle.std.proofs.Math.Option.{Option, some, none}
 use Rattle.answers.specs.Answers.{done, empty_range, too_many}
 use Rattle.span.specs.Span.{Span, inside, Edit}
@@ -14,7 +14,7 @@ use Rattle.relations.specs.declared.Common.TheVariants.{Between, Nothing}
 use Rattle.outcomes.specs.Stored.{places, ranges, storing}
 use Rattle.outcomes.specs.declared.Stored.{Stored}
 use Rattle.outcomes.specs.Outcomes.{Edited, leaving, Change}
-use Rattle.outcomes.specs.Answered.{Found}
+use Rattle.outcomes.specs.Answered.{Found, entry}
 use Rattle.rust_algorithm.specs.Map.{map_edit, map_history, map_extend, map_get_key_value, map_contains_key, map_overlapping, map_overlaps, map_gaps}
 use Rattle.rust_algorithm.specs.Map.{map_eq, map_cmp}
 use Rattle.rust_algorithm.specs.InclusiveMap.{inclusive_edit, inclusive_history, inclusive_extend, inclusive_get_key_value, inclusive_contains_key}
@@ -24,8 +24,6 @@ use Rattle.rust_algorithm.specs.InclusiveMap.{inclusive_range_contains, inclusiv
 use Rattle.rust_algorithm.specs.Operations.{range_intersect, inclusive_intersect}
 use Rattle.rust_algorithm.specs.Operations.{set_union, set_intersection, set_or, set_and}
 use Rattle.rust_algorithm.specs.Operations.{inclusive_set_union, inclusive_set_intersection, inclusive_set_or, inclusive_set_and}
-use Rattle.std.specs.Prelude.{Ok, Some, None}
-use Rattle.outcomes.specs.Answered.{entry}
 
 -- what rangemap has for one kind of range
 pub record Functions : Type 0 where

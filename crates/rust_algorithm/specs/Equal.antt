@@ -1,25 +1,24 @@
 -- EQUAL TO THE RUST on every input not refused: the statement, for a kind and the Rust's functions of that kind. `proofs/Equal` has that both kinds meet it.
-use Rattle.std.specs.Prelude.{ℕ, ◌<◌, ◌≡◌, false, List, [], ◌∷◌, map, length, take, drop, ℤ}
-use Rattle.std.proofs.Math.Option.{Option, some}
+use Rattle.std.specs.Prelude.{ℕ, ◌<◌, ◌≡◌, false, List, [], ◌∷◌, map, length, take, drop, ℤ, Ok}
 use Rattle.std.specs.Int.{w64}
+use Rattle.std.proofs.Math.Option.{Option, some}
 use Rattle.std.proofs.Common.{SFits}
 use Rattle.span.specs.Span.{Span}
 use Rattle.key.specs.Rank.{rank}
 use Rattle.key.specs.Range.{Kind, span_of}
+use Rattle.key.specs.declared.Entry.{Entry}
 use Rattle.relations.specs.Relations as relations
 use Rattle.relations.specs.Relations.{related}
 use Rattle.outcomes.specs.Stored.{places, ranges, storing, Sound}
 use Rattle.outcomes.specs.declared.Stored.{Stored}
 use Rattle.outcomes.specs.Outcomes.{Change, Written, into_lists, yes_no, compared_by, clear, edits, span_edits, bulk_insert_sound}
-use Rattle.key.specs.declared.Entry.{Entry}
 use Rattle.outcomes.specs.Outcomes.{is_empty, count_of, range_at, first_of, last_of, lookup, contains, overlaps, overlapping, gaps, equal, order}
 use Rattle.outcomes.specs.Sets.{SoundSet, intersection, union}
+use Rattle.outcomes.specs.declared.Part.{Part}
 use Rattle.outcomes.specs.Answered.{Placed}
 use Rattle.rust_algorithm.specs.Btree.{nth}
 use Rattle.rust_algorithm.specs.Map.{map_first, map_last, map_len, map_is_empty}
 use Rattle.rust_algorithm.specs.Answers.{Functions, related_by, common_by, rust_found, rust_run}
-use Rattle.std.specs.Prelude.{Ok}
-use Rattle.outcomes.specs.Answered.{part}
 
 -- a map as it is lent: sound, and of as many places as maps have
 pub record LentMap (kind : Kind) (m : Stored) : Type 0 where
@@ -27,11 +26,10 @@ pub record LentMap (kind : Kind) (m : Stored) : Type 0 where
   pub full_size : length m.starts ≡ places
 
 -- a part of a map's places: those are the entries that the Rust gives
-pub record PartGiven (xs : List Span) (part : Placed) (given : List Span) : Type 0 where
-  pub place : ℕ
-  pub count : ℕ
-  pub told : part ≡ Ok (part place count)
-  pub same : take count (drop place xs) ≡ given
+pub record PartGiven (xs : List Span) (answer : Placed) (given : List Span) : Type 0 where
+  pub part : Part
+  pub told : answer ≡ Ok part
+  pub same : take part.count (drop part.place xs) ≡ given
 
 -- a list that is written: the Rust's iterator ends, and what it gave is written into the lent lists
 pub record ListGiven (kind : Kind) (given : Option (List Span)) (starts ends : List ℤ) (w : Written) : Type 0 where
