@@ -7,7 +7,7 @@ use mathlib.Core.Bool.{Bool, true, false, ◌&&◌, not, cond}
 use mathlib.Core.List.{List, [], ◌∷◌, ◌++◌, map}
 use mathlib.Core.Option.{Option}
 use borrow.Author.Tests.{ltb-false}
-use lib.Dec.{eqb, ltb, leb}
+use lib.Dec.{eqb, ltb}
 use lib.ListN.{length, get_or, drop, length-append, length-drop, length-map}
 use lib.Seq.{get_or-append-add, get_or-drop}
 use lib.IntN.{ℤ, pos}
@@ -21,7 +21,7 @@ use Rattle.span.specs.Operations.{uncovered, spans_overlap, any, holds, common, 
 use Rattle.key.specs.Rank.{rank, keys, key_at}
 use Rattle.key.specs.Range.{Kind, half_open, span_of, empty}
 use Rattle.key.specs.declared.Entry.{Entry}
-use Rattle.outcomes.specs.Stored.{places, ranges, storing, well_formed}
+use Rattle.outcomes.specs.Stored.{places, ranges, storing}
 use Rattle.outcomes.specs.declared.Stored.{Stored}
 use Rattle.outcomes.specs.Numbers.{asked_in_c, counted_in_c, part_in_c, compared_in_c, totalled_in_c}
 use Rattle.outcomes.specs.Numbers as Numbers
@@ -70,22 +70,32 @@ pub total_zero : (a : Totalled) → ((totalled_in_c a).answer ≡ 0 → ⊥) →
 total_zero (Ok t) n = absurd (n refl)
 total_zero (Err why) n = refl
 
--- ALL LENT MEMORY IS AS IT WAS on any number but 0: a map that is edited
+-- ALL LENT MEMORY IS AS IT WAS on any number but 0: what stands behind a check leaves a map as it was where it does so alone
+pub unchanged_behind : (m : Stored) (t : Bool) (o : Edited) → ((o.answer ≡ 0 → ⊥) → o.left ≡ m)
+    → ((cond t o (leaving not_formed m)).answer ≡ 0 → ⊥) → (cond t o (leaving not_formed m)).left ≡ m
+unchanged_behind m true o f n = f n
+unchanged_behind m false o f n = refl
+
+-- a map that is edited
 module _ (kind : Kind) (m : Stored) (s e : ℤ) (new : Option ℕ) where
-  -- insert or remove, refused: the map is as it was
-  pub edit_unchanged : ((edit kind m s e new).answer ≡ 0 → ⊥) → (edit kind m s e new).left ≡ m
-  unfolding edit edit_sound
-  edit_unchanged n = go (well_formed kind places m) (leb (kind.past e) (rank s)) (ltb places (length xs)) n
+  -- insert or remove through the unchecked door, refused: the map is as it was
+  pub sound_unchanged : ((edit_sound kind places m s e new).answer ≡ 0 → ⊥) → (edit_sound kind places m s e new).left ≡ m
+  unfolding edit_sound
+  sound_unchanged n = go (empty (span_of kind s e 0)) (ltb places (length xs)) n
     where
       xs : List Span
       xs = given (rank s) (kind.past e) new (ranges kind m)
 
-      go : (f t u : Bool) → ((cond f (cond t (leaving empty_range m) (cond u (leaving too_many m) (leaving done (storing kind places xs)))) (leaving not_formed m)).answer ≡ 0 → ⊥)
-          → (cond f (cond t (leaving empty_range m) (cond u (leaving too_many m) (leaving done (storing kind places xs)))) (leaving not_formed m)).left ≡ m
-      go false t u n = refl
-      go true true u n = refl
-      go true false true n = refl
-      go true false false n = absurd (n refl)
+      go : (t u : Bool) → ((cond t (leaving empty_range m) (cond u (leaving too_many m) (leaving done (storing kind places xs)))).answer ≡ 0 → ⊥)
+          → (cond t (leaving empty_range m) (cond u (leaving too_many m) (leaving done (storing kind places xs)))).left ≡ m
+      go true u n = refl
+      go false true n = refl
+      go false false n = absurd (n refl)
+
+  -- and through the other
+  pub edit_unchanged : ((edit kind m s e new).answer ≡ 0 → ⊥) → (edit kind m s e new).left ≡ m
+  unfolding edit
+  edit_unchanged n = unchanged_behind m (formed kind m) (edit_sound kind places m s e new) sound_unchanged n
 
 -- a map that is read
 pub read_unchanged : (m : Stored) (bs : List ℕ) → ((read rm01 m bs).answer ≡ 0 → ⊥) → (read rm01 m bs).left ≡ m

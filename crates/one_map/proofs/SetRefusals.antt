@@ -1,12 +1,10 @@
 -- DOCUMENT 01's RULES OF REFUSALS, of sets: 4 where some value is not 0, and then as the map's function answers.
 use Prim.Native.Nat.{ℕ, ◌-◌}
 use mathlib.Core.Path.{◌≡◌, refl}
-use mathlib.Core.Bool.{Bool, true, false, cond}
 use mathlib.Core.List.{List, [], ◌∷◌}
 use mathlib.Core.Option.{some, none}
 use lib.IntN.{ℤ}
 use Rattle.std.specs.Prelude.{Err}
-use Rattle.answers.specs.Answers.{not_formed}
 use Rattle.answers.specs.Refusals.{number}
 use Rattle.answers.specs.declared.Refusal.TheVariants.{NotFormed}
 use Rattle.span.specs.Span.{given}
@@ -16,18 +14,12 @@ use Rattle.key.specs.Range.{Kind}
 use Rattle.outcomes.specs.Stored.{ranges}
 use Rattle.outcomes.specs.declared.Stored.{Stored}
 use Rattle.outcomes.specs.Outcomes.{not_written}
-use Rattle.outcomes.specs.Outcomes.{first_place, Edited, leaving, range_at, first_of, last_of, lookup, overlaps, overlapping, gaps, equal, order, insert, remove}
+use Rattle.outcomes.specs.Outcomes.{first_place, leaving, range_at, first_of, last_of, lookup, overlaps, overlapping, gaps, equal, order, insert, remove}
 use Rattle.outcomes.specs.Sets.{plain, if_set, if_sets}
-use Rattle.one_map.proofs.Refusals.{Kept, unwritten_kept, kept_either, gaps_kept, edit_unchanged}
+use Rattle.one_map.proofs.Refusals.{Kept, unwritten_kept, kept_either, gaps_kept, unchanged_behind, edit_unchanged}
 use Rattle.one_map.proofs.Refusals.{first_number, unformed, no_set, keyless, nothing_at, overfull, overlong}
 use Rattle.one_map.proofs.Refusals.{told_number, found_number, part_number, order_number, list_number, edit_number, lets_pass, both_pass}
 use Rattle.one_map.proofs.Refusals.{edit_order, place_order, lookup_order, overlaps_order, overlapping_order, equality_order, ordering_order, gaps_order}
-
--- an edit behind the check of a set: refused, the set is as it was
-unchanged : (m : Stored) (t : Bool) (o : Edited) → ((o.answer ≡ 0 → ⊥) → o.left ≡ m)
-    → ((cond t o (leaving not_formed m)).answer ≡ 0 → ⊥) → (cond t o (leaving not_formed m)).left ≡ m
-unchanged m true o f n = f n
-unchanged m false o f n = refl
 
 module _ (kind : Kind) (m : Stored) where
   -- INSERT: 4, 1, 2
@@ -38,7 +30,7 @@ module _ (kind : Kind) (m : Stored) where
 
   -- refused, the set is as it was
   pub set_insert_unchanged : (s e : ℤ) → let o = if_set m (insert kind m s e 0) (λ why. leaving (number why) m) in (o.answer ≡ 0 → ⊥) → o.left ≡ m
-  set_insert_unchanged s e = unchanged m (plain m) _ (edit_unchanged kind m s e (some 0))
+  set_insert_unchanged s e = unchanged_behind m (plain m) _ (edit_unchanged kind m s e (some 0))
 
   -- REMOVE: 4, 1, 2
   pub set_remove_order : (s e : ℤ)
@@ -48,7 +40,7 @@ module _ (kind : Kind) (m : Stored) where
 
   -- refused, the set is as it was
   pub set_remove_unchanged : (s e : ℤ) → let o = if_set m (remove kind m s e) (λ why. leaving (number why) m) in (o.answer ≡ 0 → ⊥) → o.left ≡ m
-  set_remove_unchanged s e = unchanged m (plain m) _ (edit_unchanged kind m s e none)
+  set_remove_unchanged s e = unchanged_behind m (plain m) _ (edit_unchanged kind m s e none)
 
   -- RANGE AT A PLACE: 4, 5
   pub set_place_order : (i : ℕ) → found_number (if_set m (range_at kind m i) Err) ≡ first_number (no_set m ∷ unformed kind m ∷ nothing_at m i ∷ [])

@@ -12,7 +12,9 @@ use lib.Dec.{eqb}
 use lib.ListN.{take}
 use lib.IntN.{ℤ}
 use borrow.Author.Tests.{eqb-true}
+use Rattle.std.specs.Prelude.{Err}
 use Rattle.answers.specs.Answers.{done}
+use Rattle.answers.specs.Refusals.{number}
 use Rattle.span.specs.Span.{Span}
 use Rattle.key.specs.Range.{Kind, half_open, inclusive}
 use Rattle.key.proofs.Lawful.{Lawful, half_open_lawful, inclusive_too}
@@ -64,7 +66,6 @@ use Rattle.theorems.specs.Rust.{EditAsRust, ExtendAsRust, LenAsRust, IsEmptyAsRu
 use Rattle.theorems.specs.Rust.{OverlapsAsRust, OverlappingAsRust, GapsAsRust, EqAsRust, CmpAsRust, UnionAsRust, IntersectionAsRust, WrittenAsRust}
 use Rattle.theorems.proofs.Steps.{either_door, as_bulk}
 use Rattle.theorems.proofs.Histories.{range_map_proper, range_inclusive_map_proper, GoodSet, range_set_good, range_inclusive_set_good}
-use Rattle.std.specs.Prelude.{Err}
 
 -- WHAT A STRUCT ANSWERS to each question
 record StructAnswers : Type 0 where
@@ -192,21 +193,21 @@ set_answers kind m = record {
   contains = λ k. if_set m (contains kind m k) Err;
   overlaps = λ s e. if_set m (overlaps kind m s e) Err;
   overlapping = λ s e. if_set m (overlapping kind m s e) Err;
-  gaps = λ s e os oe. if_set m (gaps kind m s e os oe) (λ n. not_written n os oe);
+  gaps = λ s e os oe. if_set m (gaps kind m s e os oe) (λ why. not_written why os oe);
 }
 
 -- A SET'S FUNCTIONS ARE THE MAP'S where all values are 0
 module _ {kind : Kind} {rust : Functions} (same : EqualToTheRust kind rust) {m : Stored} (g : GoodSet kind m) where
   -- insert
-  set_insert_as_rust : (s e : ℤ) → if_set m (insert kind m s e 0) (λ n. leaving n m) ≡ rust_edited kind rust m s e (some 0)
+  set_insert_as_rust : (s e : ℤ) → if_set m (insert kind m s e 0) (λ why. leaving (number why) m) ≡ rust_edited kind rust m s e (some 0)
   set_insert_as_rust s e = set_as_map kind (set_insert_event s e) m g.1 ∙ edit_as_rust same g.0 s e (some 0)
 
   -- remove
-  set_remove_as_rust : (s e : ℤ) → if_set m (remove kind m s e) (λ n. leaving n m) ≡ rust_edited kind rust m s e none
+  set_remove_as_rust : (s e : ℤ) → if_set m (remove kind m s e) (λ why. leaving (number why) m) ≡ rust_edited kind rust m s e none
   set_remove_as_rust s e = set_as_map kind (set_remove_event s e) m g.1 ∙ edit_as_rust same g.0 s e none
 
   -- bulk insert
-  set_extend_as_rust : (xs : List Entry) {m' : Stored} {r : Applied} → extended r m' ≡ if_set m (bulk_insert kind m xs) (λ n. extended (record { answer = n; applied = 0 }) m)
+  set_extend_as_rust : (xs : List Entry) {m' : Stored} {r : Applied} → extended r m' ≡ if_set m (bulk_insert kind m xs) (λ why. extended (record { answer = number why; applied = 0 }) m)
       → ExtendAsRust kind rust m xs r m'
   set_extend_as_rust xs q = extend_as_rust same g.0 xs (q ∙ as_bulk kind m xs g.1)
 

@@ -8,7 +8,9 @@ use lib.Dec.{ltb}
 use borrow.Author.Tests.{le-ltb}
 use lib.ListN.{length, take, drop}
 use lib.Seq.{take_at}
+use Rattle.std.specs.Prelude.{Ok, Err}
 use Rattle.answers.specs.Answers.{done, too_short, not_formed}
+use Rattle.answers.specs.declared.Refusal.TheVariants.{TooShort, NotFormed}
 use Rattle.key.specs.Range.{half_open}
 use Rattle.outcomes.specs.declared.Stored.{Stored}
 use Rattle.outcomes.specs.Outcomes.{leaving, formed}
@@ -30,8 +32,6 @@ use Rattle.theorems.specs.Calls.{Call}
 use Rattle.theorems.specs.Structs.{RangeMapAfter}
 use Rattle.theorems.proofs.Formed.{range_map_formed}
 use Rattle.theorems.proofs.Histories.{range_map_proper}
-use Rattle.std.specs.Prelude.{Ok, Err}
-use Rattle.answers.specs.declared.Refusal.TheVariants.{TooShort, NotFormed}
 
 -- the bytes of an output that count
 abbrev counted : Output → List ℕ

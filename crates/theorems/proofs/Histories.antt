@@ -8,6 +8,7 @@ use mathlib.Core.Option.{Option, some, none}
 use lib.IntN.{ℤ}
 use mir.Syntax.{w64}
 use mir.Val.{SFits}
+use Rattle.std.specs.Prelude.{Err}
 use Rattle.span.specs.Span.{Real, last}
 use Rattle.key.specs.Rank.{rank}
 use Rattle.key.specs.Range.{Kind, half_open, inclusive}
@@ -47,7 +48,6 @@ use Rattle.theorems.specs.Structs.{RangeSetCall, RangeSetAfter, RangeInclusiveSe
 use Rattle.theorems.proofs.Steps.{Step, insert_step, remove_step, either_door, extend_step, clear_step, read_step}
 use Rattle.theorems.proofs.Steps.{SetStep, set_insert_step, set_remove_step, set_extend_step, set_clear_step}
 use Rattle.theorems.proofs.Steps.{refused_same, either_refused, set_insert_refused, set_remove_refused}
-use Rattle.std.specs.Prelude.{Err}
 
 -- WHAT CHANGES LEAVE, one after the other
 module _ (kind : Kind) where

@@ -5,6 +5,7 @@ use mathlib.Core.List.{List}
 use lib.Dec.{ltb}
 use lib.IntN.{ℤ}
 use Rattle.answers.specs.Answers.{empty_range, not_formed, bad_query}
+use Rattle.answers.specs.declared.Refusal.TheVariants.{BadQuery}
 use Rattle.key.specs.Rank.{rank}
 use Rattle.key.specs.Range.{Kind, half_open, inclusive, span_of, empty}
 use Rattle.outcomes.specs.declared.Stored.{Stored}
@@ -29,7 +30,6 @@ use Rattle.inclusive_set.specs.Promises.{RangeInclusiveSetGaps, RangeInclusiveSe
 use Rattle.map_bytes.specs.Promises.{RangeMapWrite}
 use Rattle.map_query.specs.Promises.{RangeMapQuery, RangeMapQueryUnchecked}
 use Rattle.theorems.proofs.Refused.{ListsKept, lists_kept, OutputKept, output_kept}
-use Rattle.answers.specs.declared.Refusal.TheVariants.{BadQuery}
 
 -- the unchecked door of gaps
 gaps_sound_kept : (kind : Kind) (m : Stored) (s e : ℤ) (os oe : List ℤ) → Kept (gaps_sound kind m s e os oe) os oe

@@ -6,14 +6,16 @@ use mathlib.Core.List.{List, [], ◌∷◌}
 use lib.Dec.{ltb}
 use lib.ListN.{length}
 use lib.IntN.{ℤ}
+use Rattle.std.specs.Prelude.{Err}
 use Rattle.answers.specs.Answers.{empty_range, too_short, bad_query, bad_day, bad_status}
+use Rattle.answers.specs.declared.Refusal.TheVariants.{BadQuery}
 use Rattle.key.specs.Rank.{rank}
 use Rattle.key.specs.Range.{half_open}
 use Rattle.outcomes.specs.Stored.{ranges}
 use Rattle.outcomes.specs.Outcomes.{not_written, formed, into_lists, yes_no}
 use Rattle.outcomes.specs.declared.Count.{Count}
 use Rattle.outcomes.specs.declared.Told.{Told}
-use Rattle.one_map.proofs.Refusals.{Refusal, refuse, first_number, unformed, both_pass, lets_pass, told_number, told_done, list_number, writing_order}
+use Rattle.one_map.proofs.Refusals.{Reason, refuse, first_number, unformed, both_pass, lets_pass, told_number, told_done, list_number, writing_order}
 use Rattle.duty.specs.Duty.{strange, totals_of, tally_sound}
 use Rattle.duty.specs.declared.Tallied.TheVariants as Tallied
 use Rattle.log_day.specs.Days.{day_of}
@@ -28,8 +30,6 @@ use Rattle.query_text.specs.Reader.{Read, got, bad, query_of}
 use Rattle.query.specs.Answers.{by_query, result_of, true_at, query_ranges_sound, query_at_sound, query_ranges, query_at}
 use Rattle.map_report.specs.Promises.{RangeMapDayReport}
 use Rattle.map_query.specs.Promises.{RangeMapQuery, RangeMapQueryAt}
-use Rattle.std.specs.Prelude.{Err}
-use Rattle.answers.specs.declared.Refusal.TheVariants.{BadQuery}
 
 -- what a day's keys give, and else another
 abbrev pub by_day : {A : Type 0} → Day → (ℤ → ℤ → A) → A → A
@@ -41,15 +41,15 @@ abbrev report_number : Reported → ℕ
 report_number x = (reported_in_c x).answer
 
 -- 1: the window is empty or reversed
-abbrev pub no_window : ℤ → ℤ → Refusal
+abbrev pub no_window : ℤ → ℤ → Reason
 no_window s e = refuse (not (ltb (rank s) (rank e))) empty_range
 
 -- 7: the bytes are no query
-abbrev pub no_query : List ℕ → Refusal
+abbrev pub no_query : List ℕ → Reason
 no_query bytes = refuse (by_query (query_of bytes) (λ q. false) true) bad_query
 
 -- 3: the result of the query has more ranges than one of the lent lists has places
-abbrev pub result_over : RangeMap → RangeMap → ℤ → ℤ → List ℕ → List ℤ → List ℤ → Refusal
+abbrev pub result_over : RangeMap → RangeMap → ℤ → ℤ → List ℕ → List ℤ → List ℤ → Reason
 result_over a b s e bytes os oe =
     refuse (by_query (query_of bytes) (λ q. ltb (min (length os) (length oe)) (length (result_of (held a) (held b) s e q))) false) too_short
 
@@ -84,11 +84,11 @@ module _ (a b : RangeMap) (s e : ℤ) (bytes : List ℕ) where
       of_read bad = refl
 
 -- 8: the zone or the date is bad
-abbrev pub no_day : ℕ → ℕ → ℕ → ℕ → Refusal
+abbrev pub no_day : ℕ → ℕ → ℕ → ℕ → Reason
 no_day z y mo d = refuse (by_day (day_of z y mo d) (λ s e. false) true) bad_day
 
 -- 10: a status outside 1 to 4 is in the day
-abbrev pub strange_in : RangeMap → ℕ → ℕ → ℕ → ℕ → Refusal
+abbrev pub strange_in : RangeMap → ℕ → ℕ → ℕ → ℕ → Reason
 strange_in m z y mo d = refuse (by_day (day_of z y mo d) (λ s e. strange (rank s) (rank e) (ranges half_open (held m))) false) bad_status
 
 -- A DAY'S REPORT: 4, 8, 10

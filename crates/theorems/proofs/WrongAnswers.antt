@@ -13,7 +13,9 @@ use lib.IntN.{ℤ, pos}
 use mir.Syntax.{w64}
 use mir.Val.{SFits}
 use mir.Facts.{sfits_lit}
+use Rattle.std.specs.Prelude.{Ok}
 use Rattle.answers.specs.Answers.{done}
+use Rattle.answers.specs.Refusals.{number}
 use Rattle.span.specs.Span.{inside, at, keep, before, after, joins, tidy, push, joined, given, history}
 use Rattle.span.specs.Labels.{relabelled}
 use Rattle.span.specs.Operations.{puts, cuts, uncovered, laid_over, within, common_parts, common, chosen}
@@ -59,7 +61,6 @@ use Rattle.map_query.specs.Promises.{RangeMapQuery, RangeMapQueryAt}
 use Rattle.theorems.proofs.Histories.{range_map_of, range_inclusive_map_of, range_set_of, range_inclusive_set_of}
 use Rattle.theorems.specs.Shortcuts.{NoShortcut, EntryInput, BoundsInput}
 use Rattle.theorems.specs.Inputs.{DateInput, BytesInput, QueryInput, ListsInput}
-use Rattle.std.specs.Prelude.{Ok}
 
 -- `unfolding of_maps` and `unfolding of_queries` open every definition that a case computes with
 unfoldable of_spans : Unit {0}
@@ -92,10 +93,10 @@ one_sound law = (event_proper law (insert_event (pos 0) (pos 8) 0) (clear_proper
 
 -- insert and remove of a set
 abbrev set_insert : Kind → Stored → ℤ → ℤ → Edited
-set_insert kind m s e = if_set m (insert kind m s e 0) (λ n. leaving n m)
+set_insert kind m s e = if_set m (insert kind m s e 0) (λ why. leaving (number why) m)
 
 abbrev set_remove : Kind → Stored → ℤ → ℤ → Edited
-set_remove kind m s e = if_set m (remove kind m s e) (λ n. leaving n m)
+set_remove kind m s e = if_set m (remove kind m s e) (λ why. leaving (number why) m)
 
 -- AN EDIT, tried on a map: 0..8 is taken, and leaves another map; 8..0 is refused with 1
 record Tried {A : Type 0} (args : ℤ → ℤ → A) (does : Stored → A → Edited) (m : Stored) : Type 0 where
@@ -313,7 +314,7 @@ a1_ranges : query_ranges (clear half_open) (clear half_open) (pos 0) (pos 8) a1 
 unfolding of_queries
 a1_ranges = refl
 
-a1_at : query_at (clear half_open) (clear half_open) (pos 0) (pos 8) a1 (pos 0) ≡ (Ok false)
+a1_at : query_at (clear half_open) (clear half_open) (pos 0) (pos 8) a1 (pos 0) ≡ Ok false
 unfolding of_queries
 a1_at = refl
 

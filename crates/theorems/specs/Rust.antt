@@ -2,6 +2,7 @@
 -- what calls leave is what these hold that made the same changes. m and o are the maps that two structs hold.
 use Rattle.std.specs.Prelude.{ℕ, ◌<◌, ◌≡◌, List, [], take, drop, ℤ}
 use Rattle.std.proofs.Math.Option.{Option, some}
+use Rattle.std.specs.Prelude.{Ok}
 use Rattle.answers.specs.Answers.{done}
 use Rattle.span.specs.Span.{Span}
 use Rattle.key.specs.Rank.{rank}
@@ -21,7 +22,6 @@ use Rattle.rust_algorithm.specs.Btree.{nth}
 use Rattle.rust_algorithm.specs.Map.{map_first, map_last, map_len, map_is_empty}
 use Rattle.rust_algorithm.specs.Answers.{Functions, rust_found, rust_edited}
 use Rattle.rust_algorithm.specs.Equal.{entry_spans}
-use Rattle.std.specs.Prelude.{Ok}
 
 -- two lent lists, at entry and at exit: the Rust's iterator ends, and what it gave is written
 abbrev pub WrittenAsRust : Kind → Option (List Span) → List ℤ → List ℤ → List ℤ → List ℤ → Count → Type 0
