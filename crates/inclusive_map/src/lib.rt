@@ -14,7 +14,7 @@ ghost use Rattle.inclusive_map.specs.Promises.{RangeInclusiveMapGetKeyValueUnche
 ghost use Rattle.inclusive_map.specs.Promises.{RangeInclusiveMapInsertUnchecked, RangeInclusiveMapRemoveUnchecked};
 
 use key::{RangeKind, Value};
-use outcomes::{Applied, Count, Order, PLACES, Range, Stored, Stretch, Told};
+use outcomes::{Applied, Count, Order, Range, Stored, Stretch, Told};
 
 // The kind of this map's ranges.
 const KIND: RangeKind = RangeKind::Inclusive;
@@ -31,12 +31,7 @@ pub fn range_inclusive_map_new() -> RangeInclusiveMap
     ensures { RangeInclusiveMapNew result }
 {
     RangeInclusiveMap {
-        stored: Stored {
-            count: 0,
-            starts: [0; PLACES],
-            ends: [0; PLACES],
-            values: [0; PLACES],
-        },
+        stored: Stored::new(),
     }
 }
 

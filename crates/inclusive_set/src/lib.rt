@@ -11,7 +11,7 @@ ghost use Rattle.inclusive_set.specs.Promises.{RangeInclusiveSetUnion, RangeIncl
 
 use key::RangeKind;
 use operations::Operation;
-use outcomes::{Applied, Count, Order, PLACES, Range, Stored, Stretch, Told, Total};
+use outcomes::{Applied, Count, Order, Range, Stored, Stretch, Told, Total};
 
 // The kind of this set's ranges.
 const KIND: RangeKind = RangeKind::Inclusive;
@@ -28,12 +28,7 @@ pub fn range_inclusive_set_new() -> RangeInclusiveSet
     ensures { RangeInclusiveSetNew result }
 {
     RangeInclusiveSet {
-        stored: Stored {
-            count: 0,
-            starts: [0; PLACES],
-            ends: [0; PLACES],
-            values: [0; PLACES],
-        },
+        stored: Stored::new(),
     }
 }
 

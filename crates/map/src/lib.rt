@@ -11,7 +11,7 @@ ghost use Rattle.map.specs.Promises.{RangeMapCmp, RangeMapInsert, RangeMapRemove
 ghost use Rattle.map.specs.Promises.{RangeMapGetKeyValueUnchecked, RangeMapGapsUnchecked, RangeMapInsertUnchecked, RangeMapRemoveUnchecked};
 
 use key::{RangeKind, Value};
-use outcomes::{Applied, Count, Order, PLACES, Range, Stored, Stretch, Told};
+use outcomes::{Applied, Count, Order, Range, Stored, Stretch, Told};
 
 // The kind of this map's ranges.
 const KIND: RangeKind = RangeKind::HalfOpen;
@@ -28,12 +28,7 @@ pub fn range_map_new() -> RangeMap
     ensures { RangeMapNew result }
 {
     RangeMap {
-        stored: Stored {
-            count: 0,
-            starts: [0; PLACES],
-            ends: [0; PLACES],
-            values: [0; PLACES],
-        },
+        stored: Stored::new(),
     }
 }
 

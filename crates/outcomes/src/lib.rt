@@ -3,7 +3,9 @@
 #![tactic(auto)]
 
 ghost use Rattle.std.specs.Prelude.{◌≡◌};
+ghost use Rattle.key.specs.Range.{Kind};
 ghost use Rattle.outcomes.specs.Stored.{places};
+ghost use Rattle.outcomes.specs.Outcomes.{clear};
 ghost use Rattle.outcomes.specs.Numbers.{asked_in_c, counted_in_c, found_in_c, part_in_c, compared_in_c, equal_of, totalled_in_c};
 ghost use Rattle.outcomes.specs.InnerOutcome.{outcome_in_c};
 
@@ -221,4 +223,18 @@ pub fn equal_of(compared: Result<Ordering, Refusal>) -> Result<bool, Refusal>
     ensures { result ≡ equal_of compared }
 {
     Ok(compared?.is_eq())
+}
+
+impl Stored {
+    // A map that holds nothing, of either kind.
+    pub fn new() -> Stored
+        ensures { (k : Kind) → result ≡ clear k }
+    {
+        Stored {
+            count: 0,
+            starts: [0; PLACES],
+            ends: [0; PLACES],
+            values: [0; PLACES],
+        }
+    }
 }

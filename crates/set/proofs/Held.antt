@@ -5,7 +5,7 @@ use Rattle.set.specs.declared.RangeSet.{RangeSet}
 use Rattle.set.specs.Set.{held}
 
 abbrev back : Stored → RangeSet
-back m = record { count = m.count; starts = m.starts; ends = m.ends; values = m.values }
+back m = record { stored = m }
 
 pub held_one : {a b : RangeSet} → held a ≡ held b → a ≡ b
 held_one e = ap back e

@@ -9,7 +9,7 @@ ghost use Rattle.set.specs.Promises.{RangeSetTotal};
 
 use key::RangeKind;
 use operations::Operation;
-use outcomes::{Applied, Count, Order, PLACES, Range, Stored, Stretch, Told, Total};
+use outcomes::{Applied, Count, Order, Range, Stored, Stretch, Told, Total};
 
 // The kind of this set's ranges.
 const KIND: RangeKind = RangeKind::HalfOpen;
@@ -26,12 +26,7 @@ pub fn range_set_new() -> RangeSet
     ensures { RangeSetNew result }
 {
     RangeSet {
-        stored: Stored {
-            count: 0,
-            starts: [0; PLACES],
-            ends: [0; PLACES],
-            values: [0; PLACES],
-        },
+        stored: Stored::new(),
     }
 }
 
