@@ -9,7 +9,6 @@ use borrow.Rule.Slice.PartMut.{mid_of, put_mid as put_back}
 use lib.ListN.{length, get_or, take, drop}
 use lib.Seq.{sets, sets-eq, length-sets, take-suc, length-take-le}
 use lib.IntN.{ℤ, pos}
-use Rattle.answers.specs.Answers.{too_short}
 use Rattle.outcomes.specs.Stored.{Sound}
 use Rattle.outcomes.specs.declared.Stored.{Stored}
 use Rattle.outcomes.specs.Outcomes.{entries}

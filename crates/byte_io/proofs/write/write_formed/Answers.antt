@@ -1,6 +1,5 @@
 use native.Mathlib.Omega.{arith}
 use Rattle.key.specs.Range.{half_open}
-use Rattle.outcomes.specs.Stored.{stored}
 use Rattle.outcomes.specs.declared.Stored.{Stored}
 use Rattle.outcomes.proofs.Formed.{sound_held}
 use Rattle.byte_form.proofs.Lawful.{rm01_lawful}
