@@ -321,16 +321,16 @@ range_inclusive_set_refused set_clear_call m m' q n = absurd n
 
 -- THE STRUCT that stores a map: a half-open map
 abbrev pub range_map_of : Stored → RangeMap
-range_map_of x = record { count = x.count; starts = x.starts; ends = x.ends; values = x.values }
+range_map_of x = record { stored = x }
 
 -- an inclusive map
 abbrev pub range_inclusive_map_of : Stored → RangeInclusiveMap
-range_inclusive_map_of x = record { count = x.count; starts = x.starts; ends = x.ends; values = x.values }
+range_inclusive_map_of x = record { stored = x }
 
 -- a set of half-open ranges
 abbrev pub range_set_of : Stored → RangeSet
-range_set_of x = record { count = x.count; starts = x.starts; ends = x.ends; values = x.values }
+range_set_of x = record { stored = x }
 
 -- a set of inclusive ranges
 abbrev pub range_inclusive_set_of : Stored → RangeInclusiveSet
-range_inclusive_set_of x = record { count = x.count; starts = x.starts; ends = x.ends; values = x.values }
+range_inclusive_set_of x = record { stored = x }
