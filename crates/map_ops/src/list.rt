@@ -56,7 +56,7 @@ pub fn cmp(kind: RangeKind, m: &Stored, other: &Stored) -> Result<Ordering, Refu
 {
     checked(kind, m)?;
     checked(kind, other)?;
-    compare::compare(m, other)
+    Ok(compare::compare(m, other))
 }
 
 // Whether two maps hold the same ranges with the same values.
