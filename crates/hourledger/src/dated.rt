@@ -1,6 +1,6 @@
 // `day` and `graph`: what is shown of a day. The zone and the date are judged before the form is read.
 ghost use Rattle.key.specs.Range.{half_open};
-ghost use Rattle.outcomes.specs.Stored.{stored, Sound};
+ghost use Rattle.outcomes.specs.Stored.{Sound};
 ghost use Rattle.graph_text.specs.Grid.{Drawable};
 
 use crate::form::{ROOM, load, read_form};
@@ -8,9 +8,8 @@ use crate::output::{print, refuse};
 use command::View;
 use duty::Totals;
 use graph_text::{GRAPH_ROOM, graph_text};
-use key::Value;
 use log_day::Day;
-use outcomes::{PLACES, Stored};
+use outcomes::Stored;
 use report::Reported;
 use report_text::{REPORT_ROOM, report_text};
 use svg_text::{SVG_ROOM, svg_text};
@@ -21,13 +20,7 @@ fn show_report(rt: &HostRuntime, start: i64, end: i64, t: Totals) {
     print(rt, &out, n);
 }
 
-fn show_graph(
-    rt: &HostRuntime,
-    m: &Stored,
-    start: i64,
-    end: i64,
-    t: Totals,
-)
+fn show_graph(rt: &HostRuntime, m: &Stored, start: i64, end: i64, t: Totals)
     requires { Drawable m.now start end }
 {
     let mut out = [0u8; GRAPH_ROOM];
@@ -35,13 +28,7 @@ fn show_graph(
     print(rt, &out, n);
 }
 
-fn show_picture(
-    rt: &HostRuntime,
-    m: &Stored,
-    start: i64,
-    end: i64,
-    t: Totals,
-)
+fn show_picture(rt: &HostRuntime, m: &Stored, start: i64, end: i64, t: Totals)
     requires { Drawable m.now start end }
 {
     let mut out = [0u8; SVG_ROOM];
@@ -49,14 +36,7 @@ fn show_picture(
     print(rt, &out, n);
 }
 
-fn show(
-    rt: &HostRuntime,
-    view: View,
-    m: &Stored,
-    start: i64,
-    end: i64,
-    t: Totals,
-)
+fn show(rt: &HostRuntime, view: View, m: &Stored, start: i64, end: i64, t: Totals)
     requires { Drawable m.now start end }
 {
     match view {
@@ -66,47 +46,25 @@ fn show(
     }
 }
 
-fn of_map<'a>(
-    rt: &HostRuntime,
-    view: View,
-    count: &'a usize,
-    starts: &'a [i64; PLACES],
-    ends: &'a [i64; PLACES],
-    values: &'a [Value; PLACES],
-    zone: u8,
-    year: u16,
-    month: u8,
-    day: u8,
-)
-    requires { Sound half_open (stored count.now starts.now ends.now values.now) }
+fn of_map(rt: &HostRuntime, view: View, m: &Stored, zone: u8, year: u16, month: u8, day: u8)
+    requires { Sound half_open m.now }
 {
-    let told = report::checked(count, starts, ends, values, zone, year, month, day);
-    match told {
-        Reported::Totals(start, end, t) => {
-            show(rt, view, *count, starts, ends, values, start, end, t)
-        }
-        Reported::Refused(n) => refuse(rt, n),
+    match report::checked(m, zone, year, month, day) {
+        Reported::Totals(start, end, t) => show(rt, view, m, start, end, t),
+        Reported::Refused(why) => refuse(rt, why),
     }
 }
 
 fn of_form(rt: &HostRuntime, form: &[u8], view: View, zone: u8, year: u16, month: u8, day: u8) {
-    let mut count = 0;
-    let mut starts = [0i64; PLACES];
-    let mut ends = [0i64; PLACES];
-    let mut values = [0u8; PLACES];
-    let answer = load(form, &mut count, &mut starts, &mut ends, &mut values);
-    if answer != 0 {
-        refuse(rt, answer);
-        return;
+    let mut m = Stored::new();
+    match load(form, &mut m) {
+        Ok(()) => of_map(rt, view, &m, zone, year, month, day),
+        Err(why) => refuse(rt, why),
     }
-    of_map(
-        rt, view, &count, &starts, &ends, &values, zone, year, month, day,
-    );
 }
 
 pub fn run(rt: &HostRuntime, view: View, zone: u8, year: u16, month: u8, day: u8) {
-    let judged = log_day::day_of(zone, year, month, day);
-    match judged {
+    match log_day::day_of(zone, year, month, day) {
         Day::Refused(n) => refuse(rt, n),
         Day::Span(_, _) => {
             let mut bytes = [0u8; ROOM];

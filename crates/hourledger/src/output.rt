@@ -1,6 +1,7 @@
 // What is printed: text that is proved, at the start of lent bytes.
 ghost use Rattle.std.specs.Prelude.{◌≤◌, length};
 
+use answers::Refusal;
 use command::said::{REFUSAL_ROOM, refusal_text};
 use std::io;
 use std::io::Write;
@@ -35,8 +36,8 @@ pub fn print_error(rt: &HostRuntime, bytes: &[u8], n: usize)
 }
 
 // The number of a refusal.
-pub fn refuse(rt: &HostRuntime, answer: u8) {
+pub fn refuse(rt: &HostRuntime, why: Refusal) {
     let mut out = [0u8; REFUSAL_ROOM];
-    let n = refusal_text(answer, &mut out);
+    let n = refusal_text(why.number(), &mut out);
     print(rt, &out, n);
 }

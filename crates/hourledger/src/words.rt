@@ -72,18 +72,11 @@ fn six(rt: &HostRuntime) -> Command {
 
 // The command that the program was started with. Its own name is not counted.
 pub fn asked(rt: &HostRuntime) -> Command {
-    let words = word_count(rt);
-    if words == 1 {
-        return Command::Ranges;
+    match word_count(rt) {
+        1 => Command::Ranges,
+        2 => one(rt),
+        6 => five(rt),
+        7 => six(rt),
+        _ => Command::Other,
     }
-    if words == 2 {
-        return one(rt);
-    }
-    if words == 6 {
-        return five(rt);
-    }
-    if words == 7 {
-        return six(rt);
-    }
-    Command::Other
 }
