@@ -1,16 +1,15 @@
 -- Laws of a run of stores, `sets`, over any type of elements: a load beside it, and one more store at its end or before it.
-use Prim.Native.Nat.{ℕ, suc, ◌+◌, ◌-◌, ◌≤◌, ◌<◌}
+use Prim.Native.Nat.{ℕ, suc, ◌+◌, ◌-◌, ◌≤◌, ◌<◌, min}
 use mathlib.Core.Path.{◌≡◌, refl, sym, ap, ◌∙◌}
 use mathlib.Core.List.{List, [], ◌∷◌, ◌++◌, append_assoc, append-nil}
 use native.Mathlib.Omega.{arith}
 use native.Mathlib.Nat.{add-zero}
-use lib.ListN.{length, set, take, drop, replicate, length-replicate, length-drop, length-append}
+use lib.ListN.{length, get_or, set, take, drop, replicate, length-replicate, length-drop, length-append}
 use lib.ListN.{replicate-append-replicate, drop_of_length-le}
 use lib.Seq.{sets, paste, set_comm, length-take-le, sets-eq}
-use lib.Seq.{take-append-le, take-take, take_all, take_at, drop_at, drop-append-add, drop-drop}
-use borrow.Rule.Slice.PartMut.{put_mid}
+use lib.Seq.{take-append-le, take-take, take_at, drop_at, drop-append-add, drop-drop}
 use Rattle.std.proofs.lemmas.List.{drop-replicate}
-use Rattle.std.proofs.lemmas.Slice.{put_mid-paste}
+use Rattle.std.proofs.lemmas.List.Edits.{paste_more}
 use Rattle.splice.specs.InnerSplice.{filled_with, Filler, spliced}
 
 module _ {A : Type 0} where
@@ -27,6 +26,14 @@ module _ {A : Type 0} where
 
   pub sets_front : (l : List A) (i : ℕ) (vs : List A) (v : A) → set (sets l (suc i) vs) i v ≡ sets l i (v ∷ vs)
   sets_front l i vs v = sets_past l i (suc i) vs v (omega arith)
+
+  -- one more place written, of n at most
+  pub put_more : {a : List A} (l : List A) (at : ℕ) (new : List A) (k n : ℕ) (d : A) → k < n → at + n ≤ length l → k < length new
+      → a ≡ paste l at new (min k n) → set a (at + k) (get_or new k d) ≡ paste l at new (min (k + 1) n)
+  put_more l at new k n d h room few e =
+      let now : min k n ≡ k = omega arith in
+      let next : min (k + 1) n ≡ k + 1 = omega arith in
+      rw (e, now, next) (paste_more l at new k d (omega arith) few)
 
   -- one more place cleared
   pub clear_more : {a : List A} (l : List A) (from p : ℕ) (z : A) → a ≡ sets l from (replicate (p - from) z) → from ≤ p
@@ -54,7 +61,7 @@ module _ {A : Type 0} (a : List A) (i j count : ℕ) (vs : List A) (z : A) (ij :
   abbrev moved : List A
   moved = paste a (i + length vs) (drop j a) (count - j)
 
-  after_put : paste moved i vs (length vs) ≡ take i a ++ vs ++ tail ++ drop end a
+  after_put : take i moved ++ vs ++ drop (i + length vs) moved ≡ take i a ++ vs ++ tail ++ drop end a
   after_put =
       let h : List A = take (i + length vs) a in
       let b : i ≤ length (h ++ tail) = omega (arith, length-append h tail, len_head) in
@@ -62,7 +69,7 @@ module _ {A : Type 0} (a : List A) (i j count : ℕ) (vs : List A) (z : A) (ij :
       take-append-le i (h ++ tail) (drop end a) b ∙ take-append-le i h tail (omega (arith, len_head)) ∙ take-take i (i + length vs) a (omega arith) in
       let d : drop (i + length vs) (h ++ tail ++ drop end a) ≡ tail ++ drop end a =
       ap (drop (i + length vs)) (append_assoc h tail (drop end a)) ∙ drop_at h (tail ++ drop end a) (i + length vs) len_head in
-      rw (t, take_all (length vs) vs (omega arith), d) (sym (append_assoc (take i a ++ vs) tail (drop end a)))
+      rw (t, d) (sym (append_assoc (take i a ++ vs) tail (drop end a)))
 
   after_clear : sets (take i a ++ vs ++ tail ++ drop end a) end (replicate (count - end) z) ≡ take i a ++ vs ++ tail ++ replicate (length a - end) z
   after_clear =
@@ -79,11 +86,10 @@ module _ {A : Type 0} (a : List A) (i j count : ℕ) (vs : List A) (z : A) (ij :
       rw (sets-eq (replicate (count - end) z) (p ++ drop end a) end w, take_at p (drop end a) end n, d, append_assoc p, replicate-append-replicate, s)
 
   -- the three calls of `splice_column`, by what each ensures
-  pub splice_done : {c : List A} (m ys : List A) (n k : ℕ) → length vs ≡ n → k ≡ n → m ≡ paste a (i + n) (drop j a) (count - j) → ys ≡ vs
-      → c ≡ filled_with (put_mid i k m ys) (i + n + (count - j)) count z → c ≡ spliced a i j count vs z
+  pub splice_done : {c : List A} (m p : List A) (n : ℕ) → length vs ≡ n → m ≡ paste a (i + n) (drop j a) (count - j)
+      → p ≡ take i m ++ vs ++ drop (i + n) m → c ≡ filled_with p (i + n + (count - j)) count z → c ≡ spliced a i j count vs z
   unfolding spliced
-  splice_done m ys n k en ek em ey ec =
-      rw (ec, put_mid-paste i k m ys vs n ey (sym ek) (sym en), em, ← en, after_put) after_clear
+  splice_done m p n en em ep ec = rw (ec, ep, em, ← en, after_put) after_clear
 
 -- a list that is cleared whole holds nothing
 pub all_clear : {A : Type 0} (l : List A) (z : A) {n : ℕ} → length l ≡ n → filled_with l 0 n z ≡ replicate n z

@@ -1,4 +1,3 @@
-use Prim.Native.Nat.{◌+◌, ◌-◌}
 use mathlib.Core.Path.{◌≡◌}
 use native.Mathlib.Omega.{arith}
 use lib.ListN.{length, take}
@@ -13,5 +12,5 @@ returns g c =
     let apt = c.requires.0 in
     let many : length (take p.n a.new.now) ≡ p.n = length-take-le p.n a.new.now (omega (arith, apt.few)) in
     splice_done a.a.now p.from p.to a.count (take p.n a.new.now) a.spare apt.ascending apt.within c.requires.1.held
-    (omega (arith, many, c.requires.1.room)) c.requires.2 c.copy_within.new.self c.copy_from_slice.new.self p.n (p.from + p.n - p.from)
-    many (omega arith) c.copy_within.ensures.after c.copy_from_slice.ensures.after c.clear.ensures
+    (omega (arith, many, c.requires.1.room)) c.requires.2 c.copy_within.new.self c.put.new.a p.n many
+    c.copy_within.ensures.after c.put.ensures c.clear.ensures
