@@ -32,7 +32,7 @@ pub fn clear<T: Copy>(a: &mut [T], from: usize, to: usize, with: T)
 }
 
 // Writes the first n of three from the place `at` on.
-// A test for each, since `copy_from_slice` calls the C library for so few: some 60 instructions more a splice, a sixth of one at 20 ranges.
+// A test for each, since `copy_from_slice` calls the C library for so few: some 60 instructions more a splice.
 fn put<T: Copy>(a: &mut [T], at: usize, new: &[T; 3], n: usize)
     requires { (n ≤ 3) × (at + n ≤ length a.old) }
     ensures { a.new ≡ paste a.old at new.now n }
