@@ -1,0 +1,23 @@
+use Prim.Native.Nat.{ℕ, ◌<◌}
+use mathlib.Core.Path.{sym, subst, ◌∙◌}
+use Rattle.std.proofs.lemmas.Result.{MatchResult-from_err}
+use Rattle.log_day.specs.Days.{zones}
+use Rattle.log_day.proofs.Accepted.{number_below, no_zone, by_date}
+use Rattle.log_day.proofs.accepted_zone.Goals as goal
+
+pub returns-in_err-zone : goal.returns-in_err-zone
+returns-in_err-zone c = MatchResult-from_err c.from_residual.result _ _ c.from_residual.ensures.0 (λ _. no_zone c.args.number c.args.date c.in_err-zone.ensures)
+
+pub returns-then-is_in_ledger : goal.returns-then-is_in_ledger
+returns-then-is_in_ledger c =
+    let d = c.args.date in
+    let e = c.in_ok-zone.ensures in
+    let p = by_date c.args.number d (subst (λ (n : ℕ). n < zones) e (number_below c.in_ok-zone.zone)) in
+    (e, sym p ∙ sym c.is_in_ledger.ensures ∙ c.if-is_in_ledger.true)
+
+pub returns-else-is_in_ledger : goal.returns-else-is_in_ledger
+returns-else-is_in_ledger c =
+    let d = c.args.date in
+    let e = c.in_ok-zone.ensures in
+    let p = by_date c.args.number d (subst (λ (n : ℕ). n < zones) e (number_below c.in_ok-zone.zone)) in
+    sym p ∙ sym c.is_in_ledger.ensures ∙ c.if-is_in_ledger.false
