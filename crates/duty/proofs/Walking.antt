@@ -5,9 +5,10 @@ use native.Mathlib.Decide.{dec_lt}
 use mathlib.Core.Path.{◌≡◌, refl, sym, ap, ◌∙◌}
 use mathlib.Core.Bool.{Bool, true, false, ◌||◌, not, cond}
 use mathlib.Core.List.{List, [], ◌∷◌}
+use Rattle.std.specs.Prelude.{Some, None}
 use borrow.Author.Tests.{eq-eqb, eqb-true, eqb-false, not-false}
 use lib.Dec.{eqb}
-use lib.ListN.{length, get_or, set, take, drop, length-set, take-append-drop, drop_of_length-le, get_or-eq_default}
+use lib.ListN.{length, get_or, set, take, drop, length-set, take-append-drop, drop_of_length-le}
 use lib.Seq.{drop-cons, get_or-set_same, get_or-set_other, length-take-le, get_or-take, take-take}
 use lib.IntN.{ℤ, pos}
 use Rattle.answers.specs.Answers.{bad_status}
@@ -32,9 +33,8 @@ use Rattle.store.proofs.Seeking.{reached_after, ends_ascend}
 use Rattle.duty.specs.Duty.{is_off_duty, is_sleeper_berth, is_driving, is_on_duty, is_status, seconds_of, unrecorded_of, strange, totals_of, tally_sound}
 use Rattle.duty.specs.declared.Tallied.{Tallied}
 use Rattle.duty.specs.InnerWalk.{u32_limit, table_length, sum_over, gathered_of, gathering, tally_sum, completing, tally_of, walk_finds}
-use Rattle.duty.specs.InnerCounting.{Statuses, part, Met, EachApart, Inside, no_seconds, credited, Joined, seconds_in, TableRoom, Added}
+use Rattle.duty.specs.InnerCounting.{Statuses, part, Met, EachApart, Inside, no_seconds, credited, seconds_in, TableRoom, Added}
 use Rattle.duty.specs.declared.Tally.{Tally}
-use Rattle.duty.specs.declared.Walked.{Walked}
 use Rattle.duty.proofs.Laws.{seconds_cons, seconds_alike, seconds_none, strange_cons, strange_alike, strange_none}
 use Rattle.duty.proofs.Laws.{within_ended, within_past, within_front}
 use Rattle.duty.proofs.ByStatus.{past_table, status_upto, sum_same, seconds_by_status}
@@ -86,30 +86,6 @@ credited_has t v d n h = go (eqb v d) refl
     go : (b : Bool) → eqb v d ≡ b → get_or (set t v (get_or t v 0 + n)) d 0 ≡ get_or t d 0 + cond b n 0
     go true e = let same : v ≡ d = eqb-true v d e in rw (← same) (get_or-set_same t v (get_or t v 0 + n) 0 h)
     go false e = let other = get_or-set_other t v d (get_or t v 0 + n) 0 (λ z. eqb-false v d e (sym z)) in omega arith
-
--- two as one: r has both up to the status k, and from there on the first alone
-pub record JoinedUpto (t u r : List ℕ) (k : ℕ) : Type 0 where
-  pub long : length r ≡ length t
-  pub done : (s : ℕ) → s < k → get_or r s 0 ≡ get_or t s 0 + get_or u s 0
-  pub left : (s : ℕ) → k ≤ s → get_or r s 0 ≡ get_or t s 0
-
-pub joined_next : {t u r : List ℕ} {k : ℕ} → k < length t → JoinedUpto t u r k → JoinedUpto t u (set r k (get_or r k 0 + get_or u k 0)) (k + 1)
-joined_next {t} {u} {r} {k} h a =
-    let n : ℕ = get_or r k 0 + get_or u k 0 in
-    record {
-      long = length-set r k n ∙ a.long;
-      done = λ s i. elim (dec_lt s k) [
-        | yes j ↦ get_or-set_other r k s n 0 (omega arith) ∙ a.done s j
-        | no j ↦ let same : s ≡ k = omega arith in rw same (omega (arith, get_or-set_same r k n 0 (omega (arith, a.long)), a.left k (omega arith)))
-      ];
-      left = λ s i. get_or-set_other r k s n 0 (omega arith) ∙ a.left s (omega arith);
-    }
-
-pub joined_end : {t u r : List ℕ} → length u ≡ table_length → JoinedUpto t u r table_length → Joined t u r
-joined_end {t} {u} {r} l a s = elim (dec_lt s table_length) [
-  | yes i ↦ a.done s i
-  | no i ↦ let none : get_or u s 0 ≡ 0 = get_or-eq_default u 0 (omega arith) in omega (arith, a.left s (omega arith))
-]
 
 -- PLACE BY PLACE
 abbrev pub at_place : List ℤ → List ℤ → List ℕ → ℕ → Span
@@ -332,19 +308,19 @@ module _ {m : Stored} (sound : Sound half_open m) {from to : ℕ} {start end : �
       (λ s. omega (arith, h s, empty_has s, seconds_alike (equals s) lo hi xs met_part alike))
       ∙ seconds_by_status p table_length bound lo hi xs
 
-  pub table_is : (t : List ℕ) → Statuses m.values from to → Added window met_part no_seconds t → Walked.Counted (gathering t) ≡ walk_finds lo hi xs
+  pub table_is : (t : List ℕ) → Statuses m.values from to → Added window met_part no_seconds t → Some (gathering t) ≡ walk_finds lo hi xs
   unfolding walk_finds tally_of gathering
   table_is t s h =
       let e : strange lo hi xs ≡ false = strange_alike lo hi xs met_part alike ∙ calm met s in
       rw e
-      (ap Walked.Counted
+      (ap Some
       (same_tally
       (table_of_test t is_off_duty (λ v i. (past_table v i).off) h)
       (table_of_test t is_sleeper_berth (λ v i. (past_table v i).berth) h)
       (table_of_test t is_driving (λ v i. (past_table v i).drives) h)
       (table_of_test t is_on_duty (λ v i. (past_table v i).on) h)))
 
-  pub strange_is : (Statuses m.values from to → ⊥) → Walked.Strange ≡ walk_finds lo hi xs
+  pub strange_is : (Statuses m.values from to → ⊥) → None ≡ walk_finds lo hi xs
   unfolding walk_finds
   strange_is f = let e : strange lo hi xs ≡ true = strange_alike lo hi xs met_part alike ∙ strange_there met f in rw e
 
@@ -353,11 +329,11 @@ module _ (m : Stored) (s e : ℤ) where
   abbrev all : List Span
   all = ranges half_open m
 
-  pub found_strange : Walked.Strange ≡ walk_finds (rank s) (rank e) all → Tallied.Refused bad_status ≡ tally_sound m s e
+  pub found_strange : None ≡ walk_finds (rank s) (rank e) all → Tallied.Refused bad_status ≡ tally_sound m s e
   unfolding walk_finds tally_sound
   found_strange w = go (strange (rank s) (rank e) all) w
     where
-      go : (t : Bool) → Walked.Strange ≡ cond t Walked.Strange (Walked.Counted (tally_of (rank s) (rank e) all))
+      go : (t : Bool) → None ≡ cond t None (Some (tally_of (rank s) (rank e) all))
           → Tallied.Refused bad_status ≡ cond t (Tallied.Refused bad_status) (Tallied.Seconds (totals_of (rank s) (rank e) all))
       go true w = refl
       go false w = cc
@@ -367,11 +343,11 @@ module _ (m : Stored) (s e : ℤ) where
     pub calm : strange (rank s) (rank e) all ≡ false
     pub tally_is : t ≡ tally_of (rank s) (rank e) all
 
-  pub found_counted : {t : Tally} → Walked.Counted t ≡ walk_finds (rank s) (rank e) all → Found t
+  pub found_counted : {t : Tally} → Some t ≡ walk_finds (rank s) (rank e) all → Found t
   unfolding walk_finds
   found_counted {t} w = go (strange (rank s) (rank e) all) refl w
     where
-      go : (b : Bool) → strange (rank s) (rank e) all ≡ b → Walked.Counted t ≡ cond b Walked.Strange (Walked.Counted (tally_of (rank s) (rank e) all)) → Found t
+      go : (b : Bool) → strange (rank s) (rank e) all ≡ b → Some t ≡ cond b None (Some (tally_of (rank s) (rank e) all)) → Found t
       go true c w = let z : ◌≡◌ {A = ℕ} 0 1 = cc in absurd (omega arith)
       go false c w = record { calm = c; tally_is = cc }
 

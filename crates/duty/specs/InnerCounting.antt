@@ -14,11 +14,6 @@ use Rattle.duty.specs.InnerWalk.{u32_limit, table_length}
 abbrev pub Statuses : List ℕ → ℕ → ℕ → Type 0
 Statuses vs a b = (k : ℕ) → k < b → a ≤ k → is_status (get_or vs k 0) ≡ true
 
--- 0 if a value is a status
-pub record Amiss (v r : ℕ) : Type 0 where
-  pub status : r ≡ 0 → is_status v ≡ true
-  pub none : is_status v ≡ true → r ≡ 0
-
 -- the ranges at the places from a up to b
 abbrev pub part : List ℤ → List ℤ → List ℕ → ℕ → ℕ → List Span
 part ss es vs a b = drop a (take b (spans half_open ss es vs))

@@ -7,9 +7,9 @@ ghost use Rattle.key.specs.Rank.{rank};
 ghost use Rattle.key.specs.Range.{half_open};
 ghost use Rattle.outcomes.specs.Stored.{Sound, stored, ranges};
 ghost use Rattle.store.specs.InnerSearch.{Reached};
-ghost use Rattle.duty.specs.Duty.{tally_sound};
+ghost use Rattle.duty.specs.Duty.{is_status, tally_sound};
 ghost use Rattle.duty.specs.InnerWalk.{u32_limit, table_length, gathering, tally_sum, completing, walk_finds};
-ghost use Rattle.duty.specs.InnerCounting.{Statuses, Amiss, Met, EachApart, Inside, part};
+ghost use Rattle.duty.specs.InnerCounting.{Statuses, Met, EachApart, Inside, part};
 ghost use Rattle.duty.specs.InnerCounting.{no_seconds, credited, Both, Joined, TableRoom, Added};
 
 use outcomes::Stored;
@@ -18,7 +18,7 @@ use key::{Bounds, RangeKind, Value};
 use store::search::{first_past, reaching};
 
 // The seconds of each duty, and those that are unrecorded.
-#[derive(Clone, Copy)]
+#[derive(Clone, Copy, Debug, PartialEq, Eq)]
 pub struct Totals {
     pub off_duty: u32,
     pub sleeper_berth: u32,
@@ -27,29 +27,32 @@ pub struct Totals {
     pub unrecorded: u32,
 }
 
-#[derive(Clone, Copy)]
+// The seconds, or the number of a refusal.
+#[derive(Clone, Copy, Debug, PartialEq, Eq)]
 pub enum Tallied {
     Seconds(Totals),
     Refused(u8),
+}
+
+// The statuses, by the values that stand for them. What a map stores stays a number: the C interface lends bytes, of which not all are statuses.
+#[derive(Clone, Copy, Debug, PartialEq, Eq)]
+enum Status {
+    OffDuty = 1,
+    SleeperBerth = 2,
+    Driving = 3,
+    OnDuty = 4,
 }
 
 // How long a table of seconds by status is. The last status is 4, and 0 is none.
 const TABLE_LENGTH: usize = 5;
 
 // The seconds of the four duties.
-#[derive(Clone, Copy)]
+#[derive(Clone, Copy, Debug, PartialEq, Eq)]
 struct Tally {
     off_duty: u32,
     sleeper_berth: u32,
     driving: u32,
     on_duty: u32,
-}
-
-// What a walk over the places finds.
-#[derive(Clone, Copy)]
-enum Walked {
-    Counted(Tally),
-    Strange,
 }
 
 // The seconds from one key up to another. They are few, so the difference of the keys never wraps.
@@ -66,22 +69,15 @@ fn shared(first: i64, last: i64, window: Bounds) -> u32
         × (rank window.end - rank window.start < u32_limit) }
     ensures { result ≡ min (rank last) (rank window.end) - max (rank first) (rank window.start) }
 {
-    let from = key::max(first, window.start);
-    let to = key::min(last, window.end);
-    seconds(from, to)
+    seconds(first.max(window.start), last.min(window.end))
 }
 
-// 0 if a value is a status, else 1.
-fn amiss(value: Value) -> u8
-    ensures { Amiss value result }
+// Whether a value is a status.
+#[tactic(auto, using(crate::proofs::ByStatus::status_of))]
+fn is_status(value: Value) -> bool
+    ensures { result ≡ is_status value }
 {
-    if value == 0 {
-        return 1;
-    }
-    if value <= 4 {
-        return 0;
-    }
-    1
+    Status::OffDuty as Value <= value && value <= Status::OnDuty as Value
 }
 
 // Whether the values from the place `from` up to the place `to` are all statuses. With no early return the loop takes several places at a time.
@@ -89,16 +85,11 @@ fn statuses(values: &[Value], from: usize, to: usize) -> bool
     requires { (from ≤ to) × (to ≤ length values.now) }
     ensures { Decides result (Statuses values.now from to) }
 {
-    let mut seen = 0;
-    let mut k = from;
-    while k < to {
-        seen |= amiss(values[k]);
-        k += 1;
+    let mut all = true;
+    for value in &values[from..to] {
+        all &= is_status(*value);
     }
-    if seen == 0 {
-        return true;
-    }
-    false
+    all
 }
 
 // Adds seconds to the status `value`, in a table of seconds by status.
@@ -115,13 +106,7 @@ fn joined(t: [u32; TABLE_LENGTH], u: [u32; TABLE_LENGTH]) -> [u32; TABLE_LENGTH]
     requires { Both t u }
     ensures { Joined t u result }
 {
-    let mut r = t;
-    let mut s = 0;
-    while s < TABLE_LENGTH {
-        r[s] += u[s];
-        s += 1;
-    }
-    r
+    std::array::from_fn(|s| t[s] + u[s])
 }
 
 // A table, and the seconds of the places from `from` up to `to` that lie in the window.
@@ -139,11 +124,9 @@ fn clipped(
     ensures { Added window (part starts.now ends.now values.now from to) table result }
 {
     let mut t = table;
-    let mut k = from;
-    while k < to {
+    for k in from..to {
         let n = shared(starts[k], ends[k], window);
         credit(&mut t, values[k], n);
-        k += 1;
     }
     t
 }
@@ -167,6 +150,7 @@ fn whole(
     let mut t = table;
     let mut u = [0; TABLE_LENGTH];
     let mut k = from;
+    // A `for` would have to count the pairs first, and find the place after them again.
     while k + 2 < to {
         let n = seconds(starts[k], ends[k]);
         credit(&mut t, values[k], n);
@@ -206,10 +190,10 @@ fn gathered(t: [u32; TABLE_LENGTH]) -> Tally
     ensures { result ≡ gathering t }
 {
     Tally {
-        off_duty: t[1],
-        sleeper_berth: t[2],
-        driving: t[3],
-        on_duty: t[4],
+        off_duty: t[Status::OffDuty as usize],
+        sleeper_berth: t[Status::SleeperBerth as usize],
+        driving: t[Status::Driving as usize],
+        on_duty: t[Status::OnDuty as usize],
     }
 }
 
@@ -228,23 +212,23 @@ fn completed(t: Tally, seconds: u32) -> Totals
     }
 }
 
-// The four totals of the window.
+// The four totals of the window, none if a strange status is there.
 // Each range from the place `from` on ends past the window's start, so those that begin before its end meet it.
 fn walk(
     m: &Stored,
     from: usize,
     window: Bounds,
-) -> Walked
-    requires { Sound half_open m.now × Reached half_open count m.now.ends window.start from
+) -> Option<Tally>
+    requires { Sound half_open m.now × Reached half_open m.now.count m.now.ends window.start from
         × (rank window.start < rank window.end) × (rank window.end - rank window.start < u32_limit) }
     ensures { result ≡ walk_finds (rank window.start) (rank window.end) (ranges half_open m.now) }
 {
     let to = first_past(RangeKind::HalfOpen, &m.starts, from, m.count, window.end);
     if !statuses(&m.values, from, to) {
-        return Walked::Strange;
+        return None;
     }
     let t = table_of(&m.starts, &m.ends, &m.values, from, to, window);
-    Walked::Counted(gathered(t))
+    Some(gathered(t))
 }
 
 // THE SECONDS of each duty in the window, and those that are unrecorded: 10 if a status outside 1 to 4 is there.
@@ -259,7 +243,7 @@ pub fn between(
     let from = reaching(RangeKind::HalfOpen, &m.ends, m.count, window.start);
     let w = walk(m, from, window);
     match w {
-        Walked::Counted(t) => Tallied::Seconds(completed(t, seconds(window.start, window.end))),
-        Walked::Strange => Tallied::Refused(BAD_STATUS),
+        Some(t) => Tallied::Seconds(completed(t, seconds(window.start, window.end))),
+        None => Tallied::Refused(BAD_STATUS),
     }
 }

@@ -21,22 +21,22 @@ walk-w-requires c =
 pub seconds-requires : goal.seconds-requires
 seconds-requires c = let p = c.requires in simp rank_back (omega (arith, p.1), p.2)
 
-pub returns-in-Strange : goal.returns-in-Strange
-returns-in-Strange c = found_strange _ _ _ (sym c.in-Strange.is ∙ c.walk-w.ensures)
+pub returns-in-None : goal.returns-in-None
+returns-in-None c = found_strange _ _ _ (sym c.in-None.is ∙ c.walk-w.ensures)
 
 pub completed-requires : goal.completed-requires
 completed-requires c =
     let a = c.args in
-    let found : Found (stored a.count a.starts.now a.ends.now a.values.now) a.window.start a.window.end c.in-Counted.t =
-    found_counted _ _ _ (sym c.in-Counted.is ∙ c.walk-w.ensures) in
+    let found : Found (stored a.count a.starts.now a.ends.now a.values.now) a.window.start a.window.end c.in-Some.t =
+    found_counted _ _ _ (sym c.in-Some.is ∙ c.walk-w.ensures) in
     let p = c.requires in
     rw (simp rank_back at c.seconds.ensures) (counted_room _ _ _ p.0 p.1 found)
 
-pub returns-in-Counted : goal.returns-in-Counted
-returns-in-Counted c =
+pub returns-in-Some : goal.returns-in-Some
+returns-in-Some c =
     let a = c.args in
-    let found : Found (stored a.count a.starts.now a.ends.now a.values.now) a.window.start a.window.end c.in-Counted.t =
-    found_counted _ _ _ (sym c.in-Counted.is ∙ c.walk-w.ensures) in
+    let found : Found (stored a.count a.starts.now a.ends.now a.values.now) a.window.start a.window.end c.in-Some.t =
+    found_counted _ _ _ (sym c.in-Some.is ∙ c.walk-w.ensures) in
     let p = c.requires in
     let n = simp rank_back at c.seconds.ensures in
     ap Tallied.Seconds (rw n at c.completed.ensures) ∙ counted_is _ _ _ p.0 p.1 found

@@ -1,5 +1,6 @@
 use native.Mathlib.Omega.{arith}
 use mathlib.Core.Path.{ap, ◌∙◌}
+use Rattle.std.specs.Prelude.{Some}
 use borrow.Author.Rules.{sfits_of}
 use mir.Facts.{to_z-of_z}
 use Rattle.key.specs.Range.{half_open}
@@ -7,7 +8,7 @@ use Rattle.key.proofs.Lawful.{half_open_lawful}
 use Rattle.outcomes.proofs.Formed.{sound_held}
 use Rattle.store.specs.InnerSearch.{FirstPast}
 use Rattle.store.proofs.Seeking.{starts_searched}
-use Rattle.duty.specs.declared.Walked.TheVariants as Walked
+use Rattle.std.specs.Prelude.{Some}
 use Rattle.duty.proofs.Walking.{met, apart, table_room, table_is, strange_is}
 use Rattle.duty.proofs.walk.Goals as goal
 
@@ -49,4 +50,4 @@ returns c =
     rw (to_z-of_z (sfits_of c.struct_told-1.given.1.0.1)) at c.first_past-to.ensures in
     let p = c.requires in
     let s = c.statuses.ensures.right c.if-not-statuses.false in
-    ap Walked.Counted c.gathered.ensures ∙ table_is p.0 p.1 next p.2 p.3 c.table_of-t.result s c.table_of-t.ensures
+    ap Some c.gathered.ensures ∙ table_is p.0 p.1 next p.2 p.3 c.table_of-t.result s c.table_of-t.ensures
