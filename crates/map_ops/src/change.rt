@@ -1,7 +1,7 @@
 // Edits of a map, over all its fields, for either kind: the check of the lent map, and then the unchecked door of its kind. Any map is taken.
 use answers::Refusal;
 use key::{RangeKind, Value};
-use outcomes::{PLACES, Stored};
+use outcomes::Stored;
 use store::check::checked;
 
 pub mod bulk;
@@ -13,6 +13,7 @@ ghost use Rattle.outcomes.specs.Outcomes.{clear, insert, remove};
 ghost use Rattle.outcomes.specs.InnerOutcome.{Leaves};
 
 // Gives the value to each instant of the range and to no other.
+#[tactic(auto, unfolding(outcomes::specs::Outcomes::edit))]
 pub fn insert(
     kind: RangeKind,
     m: &mut Stored,
@@ -28,6 +29,7 @@ pub fn insert(
 }
 
 // Uncovers exactly the instants of the range.
+#[tactic(auto, unfolding(outcomes::specs::Outcomes::edit))]
 pub fn remove(kind: RangeKind, m: &mut Stored, start: i64, end: i64) -> Result<(), Refusal>
     ensures { Leaves result m.new
         (remove (kind_of kind) m.old start end) }
@@ -40,8 +42,5 @@ pub fn remove(kind: RangeKind, m: &mut Stored, start: i64, end: i64) -> Result<(
 pub fn clear(m: &mut Stored)
     ensures { (k : Kind) → m.new ≡ clear k }
 {
-    m.count = 0;
-    splice::clear(&mut m.starts, 0, PLACES, 0);
-    splice::clear(&mut m.ends, 0, PLACES, 0);
-    splice::clear(&mut m.values, 0, PLACES, 0);
+    *m = Stored::new();
 }

@@ -12,6 +12,7 @@ use outcomes::{Part, Stored};
 use store::check::checked;
 
 // The range that holds the key, and its value.
+#[tactic(auto, unfolding(outcomes::specs::Outcomes::lookup))]
 pub fn get_key_value(kind: RangeKind, m: &Stored, key: i64) -> Result<Option<Entry>, Refusal>
     ensures { result ≡ lookup (kind_of kind) m.now key }
 {
@@ -20,6 +21,7 @@ pub fn get_key_value(kind: RangeKind, m: &Stored, key: i64) -> Result<Option<Ent
 }
 
 // Whether some range holds the key.
+#[tactic(auto, unfolding(outcomes::specs::Outcomes::contains))]
 pub fn contains_key(kind: RangeKind, m: &Stored, key: i64) -> Result<bool, Refusal>
     ensures { result ≡ contains (kind_of kind) m.now key }
 {
@@ -28,6 +30,7 @@ pub fn contains_key(kind: RangeKind, m: &Stored, key: i64) -> Result<bool, Refus
 }
 
 // Whether some range has a key of the query.
+#[tactic(auto, unfolding(outcomes::specs::Outcomes::overlaps))]
 pub fn overlaps(kind: RangeKind, m: &Stored, start: i64, end: i64) -> Result<bool, Refusal>
     ensures { result ≡ overlaps (kind_of kind) m.now start end }
 {
@@ -36,6 +39,7 @@ pub fn overlaps(kind: RangeKind, m: &Stored, start: i64, end: i64) -> Result<boo
 }
 
 // Which consecutive stored part meets the query.
+#[tactic(auto, unfolding(outcomes::specs::Outcomes::overlapping))]
 pub fn overlapping(kind: RangeKind, m: &Stored, start: i64, end: i64) -> Result<Part, Refusal>
     ensures { result ≡ overlapping (kind_of kind) m.now start end }
 {
@@ -43,18 +47,3 @@ pub fn overlapping(kind: RangeKind, m: &Stored, start: i64, end: i64) -> Result<
     lookup::overlapping(kind, m, start, end)
 }
 
-// The maximal uncovered ranges inside the outer range, into the first places of two lent lists.
-pub fn gaps(
-    kind: RangeKind,
-    m: &Stored,
-    start: i64,
-    end: i64,
-    out_starts: &mut [i64],
-    out_ends: &mut [i64],
-) -> Result<usize, Refusal>
-    ensures { wrote result out_starts.new out_ends.new
-        ≡ gaps (kind_of kind) m.now start end out_starts.old out_ends.old }
-{
-    checked(kind, m)?;
-    gaps::gaps(kind, m, start, end, out_starts, out_ends)
-}

@@ -11,6 +11,7 @@ use std::cmp::Ordering;
 use store::check::checked;
 
 // Whether nothing is held.
+#[tactic(auto, unfolding(outcomes::specs::Outcomes::is_empty))]
 pub fn is_empty(kind: RangeKind, m: &Stored) -> Result<bool, Refusal>
     ensures { result ≡ is_empty (kind_of kind) m.now }
 {
@@ -19,6 +20,7 @@ pub fn is_empty(kind: RangeKind, m: &Stored) -> Result<bool, Refusal>
 }
 
 // How many ranges are held.
+#[tactic(auto, unfolding(outcomes::specs::Outcomes::count_of))]
 pub fn len(kind: RangeKind, m: &Stored) -> Result<usize, Refusal>
     ensures { result ≡ count_of (kind_of kind) m.now }
 {
@@ -27,6 +29,7 @@ pub fn len(kind: RangeKind, m: &Stored) -> Result<usize, Refusal>
 }
 
 // The range and the value at a place.
+#[tactic(auto, unfolding(outcomes::specs::Outcomes::range_at))]
 pub fn range_at(kind: RangeKind, m: &Stored, place: usize) -> Result<Option<Entry>, Refusal>
     ensures { result ≡ range_at (kind_of kind) m.now place }
 {
@@ -35,6 +38,7 @@ pub fn range_at(kind: RangeKind, m: &Stored, place: usize) -> Result<Option<Entr
 }
 
 // The first range and its value.
+#[tactic(auto, unfolding(outcomes::specs::Outcomes::range_at))]
 pub fn first_range_value(kind: RangeKind, m: &Stored) -> Result<Option<Entry>, Refusal>
     ensures { result ≡ first_of (kind_of kind) m.now }
 {
@@ -43,6 +47,7 @@ pub fn first_range_value(kind: RangeKind, m: &Stored) -> Result<Option<Entry>, R
 }
 
 // The last range and its value.
+#[tactic(auto, unfolding(outcomes::specs::Outcomes::range_at))]
 pub fn last_range_value(kind: RangeKind, m: &Stored) -> Result<Option<Entry>, Refusal>
     ensures { result ≡ last_of (kind_of kind) m.now }
 {
