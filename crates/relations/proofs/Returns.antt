@@ -2,17 +2,20 @@
 use Prim.Native.Nat.{ℕ, ◌≤◌, ◌<◌}
 use native.Mathlib.Omega.{arith}
 use native.Mathlib.Decide.{dec_lt}
-use mathlib.Core.Path.{◌≡◌, refl}
-use mathlib.Core.Bool.{Bool, true, false, ◌||◌, ◌&&◌}
-use borrow.Author.Tests.{le-leb, lt-leb, lt-ltb, le-ltb}
+use mathlib.Core.Path.{◌≡◌, refl, sym}
+use mathlib.Core.Bool.{Bool, true, false, ◌||◌, ◌&&◌, not}
+use borrow.Author.Tests.{le-leb, lt-leb, lt-ltb, leb-true, ltb-true}
+use lib.Dec.{ltb, leb}
 use lib.IntN.{ℤ}
 use Rattle.span.specs.Span.{Span}
 use Rattle.span.specs.Operations.{spans_overlap}
-use Rattle.span.proofs.Tests.{Within, in_yes, in_no}
+use Rattle.span.proofs.Tests.{Within, in_yes, in_no, both as both_hold}
+use Rattle.key.specs.InnerDecides.{Decides}
 use Rattle.key.specs.Rank.{rank, lesser, greater}
 use Rattle.key.specs.Range.{Kind, span_of, empty}
+use Rattle.key.proofs.Answers.{never, decides_one}
 use Rattle.relations.specs.Relations.{spans_touch, related, range_contains, ranges_overlap, ranges_touch, ranges_intersect}
-use Rattle.relations.specs.declared.Relation.TheVariants.{Yes, No, Empty}
+use Rattle.relations.specs.declared.Relation.TheVariants.{Yes, Empty}
 use Rattle.relations.specs.declared.Common.TheVariants.{Between, Nothing}
 
 pub empty_yes : (x : Span) → x.hi ≤ x.lo → empty x ≡ true
@@ -29,9 +32,27 @@ or_right : (t : Bool) → (t || true) ≡ true
 or_right true = refl
 or_right false = refl
 
-and_right : (t : Bool) → (t && false) ≡ false
-and_right true = refl
-and_right false = refl
+-- two tests, one after the other
+pub and_also : {P Q : Type 0} {t : Bool} → P → Decides t Q → Decides t (P × Q)
+and_also p d = record { right = λ e. (p, d.right e); wrong = λ e w. d.wrong e w.1 }
+
+-- a test of the other sort
+pub turned : {m n : ℕ} (t : Bool) → Decides t (n < m) → Decides (not t) (m ≤ n)
+turned true d = record { right = λ e. never e; wrong = λ e w. let h = d.right refl in omega arith }
+turned false d = record { right = λ e. not_lt _ _ (d.wrong refl); wrong = λ e. never (sym e) }
+
+-- two comparisons of the definitions
+lt_both : (a b c d : ℕ) → Decides (ltb a b && ltb c d) ((a < b) × (c < d))
+lt_both a b c d = record {
+  right = λ e. let (p, q) = both_hold (ltb a b) (ltb c d) e in (ltb-true a b p, ltb-true c d q);
+  wrong = λ e w. never (sym (rw (lt-ltb a b w.0, lt-ltb c d w.1) at e));
+}
+
+le_both : (a b c d : ℕ) → Decides (leb a b && leb c d) ((a ≤ b) × (c ≤ d))
+le_both a b c d = record {
+  right = λ e. let (p, q) = both_hold (leb a b) (leb c d) e in (leb-true a b p, leb-true c d q);
+  wrong = λ e w. never (sym (rw (le-leb a b w.0, le-leb c d w.1) at e));
+}
 
 module _ (kind : Kind) (s e : ℤ) where
   abbrev x : Span
@@ -42,13 +63,15 @@ module _ (kind : Kind) (s e : ℤ) where
     unfolding range_contains
     contains_empty h = rw (empty_yes x h)
 
-    pub contains_no : x.lo < x.hi → (Within x.lo x.hi (rank k) → ⊥) → No ≡ range_contains kind s e k
-    unfolding range_contains
-    contains_no h n = rw (empty_no x h, in_no x.lo x.hi (rank k) n)
-
     pub contains_yes : x.lo < x.hi → Within x.lo x.hi (rank k) → Yes ≡ range_contains kind s e k
     unfolding range_contains
     contains_yes h w = rw (empty_no x h, in_yes x.lo x.hi (rank k) w)
+
+    -- what a test of a range that has a key says
+    pub contains_told : x.lo < x.hi → (t : Bool) → Decides t (Within x.lo x.hi (rank k)) → related false t ≡ range_contains kind s e k
+    unfolding range_contains
+    contains_told h true d = contains_yes h (d.right refl)
+    contains_told h false d = rw (empty_no x h, in_no x.lo x.hi (rank k) (d.wrong refl))
 
   module _ (s' e' : ℤ) where
     abbrev y : Span
@@ -70,29 +93,21 @@ module _ (kind : Kind) (s e : ℤ) where
     touches_empty n = none (spans_touch x y) n
 
     module _ (h : x.lo < x.hi) (i : y.lo < y.hi) where
-      pub overlaps_after : y.hi ≤ x.lo → No ≡ ranges_overlap kind s e s' e'
-      unfolding ranges_overlap spans_overlap
-      overlaps_after p = rw (empty_no x h, empty_no y i, le-ltb x.lo y.hi p)
-
-      pub overlaps_before : x.hi ≤ y.lo → No ≡ ranges_overlap kind s e s' e'
-      unfolding ranges_overlap spans_overlap
-      overlaps_before p = rw (empty_no x h, empty_no y i, le-ltb y.lo x.hi p, and_right)
-
       pub overlaps_yes : x.lo < y.hi → y.lo < x.hi → Yes ≡ ranges_overlap kind s e s' e'
       unfolding ranges_overlap spans_overlap
       overlaps_yes p q = rw (empty_no x h, empty_no y i, lt-ltb x.lo y.hi p, lt-ltb y.lo x.hi q)
 
-      pub touches_after : y.hi < x.lo → No ≡ ranges_touch kind s e s' e'
-      unfolding ranges_touch spans_touch
-      touches_after p = rw (empty_no x h, empty_no y i, lt-leb x.lo y.hi p)
-
-      pub touches_before : x.hi < y.lo → No ≡ ranges_touch kind s e s' e'
-      unfolding ranges_touch spans_touch
-      touches_before p = rw (empty_no x h, empty_no y i, lt-leb y.lo x.hi p, and_right)
+      pub overlaps_told : (t : Bool) → Decides t ((x.lo < y.hi) × (y.lo < x.hi)) → related false t ≡ ranges_overlap kind s e s' e'
+      unfolding ranges_overlap spans_overlap
+      overlaps_told t d = rw (empty_no x h, empty_no y i, decides_one d (lt_both x.lo y.hi y.lo x.hi))
 
       pub touches_yes : x.lo ≤ y.hi → y.lo ≤ x.hi → Yes ≡ ranges_touch kind s e s' e'
       unfolding ranges_touch spans_touch
       touches_yes p q = rw (empty_no x h, empty_no y i, le-leb x.lo y.hi p, le-leb y.lo x.hi q)
+
+      pub touches_told : (t : Bool) → Decides t ((x.lo ≤ y.hi) × (y.lo ≤ x.hi)) → related false t ≡ ranges_touch kind s e s' e'
+      unfolding ranges_touch spans_touch
+      touches_told t d = rw (empty_no x h, empty_no y i, decides_one d (le_both x.lo y.hi y.lo x.hi))
 
     abbrev both : Span
     both = span_of kind (greater s s') (lesser e e') 0

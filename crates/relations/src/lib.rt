@@ -5,16 +5,16 @@
 pub mod half_open;
 pub mod inclusive;
 
-ghost use Rattle.std.specs.Prelude.{◌≡◌, ◌<◌};
+ghost use Rattle.std.specs.Prelude.{◌≡◌, ◌<◌, false};
 ghost use Rattle.key.specs.InnerDecides.{Decides};
 ghost use Rattle.key.specs.Rank.{rank};
 ghost use Rattle.key.specs.Range.{kind_of};
-ghost use Rattle.relations.specs.Relations.{range_contains, ranges_overlap, ranges_touch, ranges_intersect, relation_in_c, common_in_c};
+ghost use Rattle.relations.specs.Relations.{range_contains, ranges_overlap, ranges_touch, ranges_intersect, related, relation_in_c, common_in_c};
 
 use answers::{DONE, EMPTY_RANGE, NONE_THERE};
 use key::{Bounds, RangeKind, full};
 
-// Whether two ranges are related; there is no answer for a range that is empty or reversed.
+// Whether two ranges are related; there is no answer for a range that is empty or reversed. The specs here and in rust_algorithm speak of its three cases.
 #[derive(Clone, Copy)]
 pub enum Relation {
     Yes,
@@ -22,14 +22,23 @@ pub enum Relation {
     Empty,
 }
 
-// What two ranges have in common.
+// Yes or no, of two ranges that are not empty.
+impl From<bool> for Relation {
+    fn from(held: bool) -> Relation
+        ensures { result ≡ related false held }
+    {
+        if held { Relation::Yes } else { Relation::No }
+    }
+}
+
+// What two ranges have in common. It stays an enum of its own, since the specs here and in rust_algorithm speak of its two cases.
 #[derive(Clone, Copy)]
 pub enum Common {
     Between(i64, i64),
     Nothing,
 }
 
-// A relation as C and Rust see it: answer 0 with yes or no, or 1.
+// A relation as C and Rust see it: answer 0 with yes or no, or 1. A number beside the value, since that is the layout in C.
 #[repr(C)]
 #[derive(Clone, Copy)]
 pub struct Related {
@@ -37,7 +46,7 @@ pub struct Related {
     pub yes: bool,
 }
 
-// What is in common as C and Rust see it: answer 0 with the range, or 5.
+// What is in common as C and Rust see it: answer 0 with the range, or 5. A number beside the value, since that is the layout in C.
 #[repr(C)]
 #[derive(Clone, Copy)]
 pub struct Intersected {
@@ -60,23 +69,14 @@ pub fn contains(kind: RangeKind, range: Bounds, key: i64) -> Relation
     if !starts_before(kind, range, range) {
         return Relation::Empty;
     }
-    if key < range.start {
-        return Relation::No;
-    }
-    if !full(kind, key, range.end) {
-        return Relation::No;
-    }
-    Relation::Yes
+    Relation::from(range.start <= key && full(kind, key, range.end))
 }
 
 // Whether each of two ranges has a key: it starts before its own end.
 fn both_full(kind: RangeKind, range: Bounds, other: Bounds) -> bool
     ensures { Decides result ((rank range.start < (kind_of kind).past range.end) × (rank other.start < (kind_of kind).past other.end)) }
 {
-    if !starts_before(kind, range, range) {
-        return false;
-    }
-    starts_before(kind, other, other)
+    starts_before(kind, range, range) && starts_before(kind, other, other)
 }
 
 // Whether some key is in both ranges: each starts before the other's end.
@@ -86,13 +86,7 @@ pub fn overlaps(kind: RangeKind, range: Bounds, other: Bounds) -> Relation
     if !both_full(kind, range, other) {
         return Relation::Empty;
     }
-    if !starts_before(kind, range, other) {
-        return Relation::No;
-    }
-    if !starts_before(kind, other, range) {
-        return Relation::No;
-    }
-    Relation::Yes
+    Relation::from(starts_before(kind, range, other) && starts_before(kind, other, range))
 }
 
 // Whether some key lies past a range and before another. One is added to an end only where a later key was seen, so the greatest key is an
@@ -102,18 +96,11 @@ fn apart(kind: RangeKind, range: Bounds, other: Bounds) -> bool
 {
     let end = range.end;
     let start = other.start;
-    if start <= end {
-        return false;
-    }
-    match kind {
-        RangeKind::HalfOpen => true,
-        RangeKind::Inclusive => {
-            if key::next(end) < start {
-                return true;
-            }
-            false
+    start > end
+        && match kind {
+            RangeKind::HalfOpen => true,
+            RangeKind::Inclusive => key::next(end) < start,
         }
-    }
 }
 
 // Whether nothing lies between the ranges: they overlap, or one begins right where the other ends.
@@ -123,13 +110,7 @@ pub fn touches(kind: RangeKind, range: Bounds, other: Bounds) -> Relation
     if !both_full(kind, range, other) {
         return Relation::Empty;
     }
-    if apart(kind, other, range) {
-        return Relation::No;
-    }
-    if apart(kind, range, other) {
-        return Relation::No;
-    }
-    Relation::Yes
+    Relation::from(!apart(kind, other, range) && !apart(kind, range, other))
 }
 
 // What both ranges have: from the greater start to the lesser end, if a key is left. Any pair is taken.
@@ -138,44 +119,49 @@ pub fn intersect(kind: RangeKind, range: Bounds, other: Bounds) -> Common
 {
     let s = key::max(range.start, other.start);
     let e = key::min(range.end, other.end);
-    if !full(kind, s, e) {
-        return Common::Nothing;
-    }
-    Common::Between(s, e)
-}
-
-pub fn relation_numbers(r: Relation) -> Related
-    ensures { result ≡ relation_in_c r }
-{
-    match r {
-        Relation::Yes => Related {
-            answer: DONE,
-            yes: true,
-        },
-        Relation::No => Related {
-            answer: DONE,
-            yes: false,
-        },
-        Relation::Empty => Related {
-            answer: EMPTY_RANGE,
-            yes: false,
-        },
+    if full(kind, s, e) {
+        Common::Between(s, e)
+    } else {
+        Common::Nothing
     }
 }
 
-pub fn common_numbers(c: Common) -> Intersected
-    ensures { result ≡ common_in_c c }
-{
-    match c {
-        Common::Between(start, end) => Intersected {
-            answer: DONE,
-            start: start,
-            end: end,
-        },
-        Common::Nothing => Intersected {
-            answer: NONE_THERE,
-            start: 0,
-            end: 0,
-        },
+impl From<Relation> for Related {
+    fn from(relation: Relation) -> Related
+        ensures { result ≡ relation_in_c relation }
+    {
+        match relation {
+            Relation::Yes => Related {
+                answer: DONE,
+                yes: true,
+            },
+            Relation::No => Related {
+                answer: DONE,
+                yes: false,
+            },
+            Relation::Empty => Related {
+                answer: EMPTY_RANGE,
+                yes: false,
+            },
+        }
+    }
+}
+
+impl From<Common> for Intersected {
+    fn from(common: Common) -> Intersected
+        ensures { result ≡ common_in_c common }
+    {
+        match common {
+            Common::Between(start, end) => Intersected {
+                answer: DONE,
+                start,
+                end,
+            },
+            Common::Nothing => Intersected {
+                answer: NONE_THERE,
+                start: 0,
+                end: 0,
+            },
+        }
     }
 }

@@ -24,14 +24,14 @@ left : (kind : Kind) {s e s' e' : ℤ} (m n : ℤ) {b : Bool} → SFits w64 s �
 left kind m n f g f' g' h k a z d =
     rw (to_z-of_z h, to_z-of_z k, a, z, to_z-of_z f, to_z-of_z g, to_z-of_z f', to_z-of_z g') at d
 
-pub returns-then-not-full : goal.returns-then-not-full
-returns-then-not-full c =
+pub returns-else-full : goal.returns-else-full
+returns-else-full c =
     let d = left (kind_of c.args.kind) c.max-s.result c.min-e.result (search rules) (search rules) (search rules) (search rules)
     (search rules) (search rules) c.max-s.ensures c.min-e.ensures c.full.ensures in
-    intersect_none _ _ _ _ _ (not_full d c.if-not-full.true)
+    intersect_none _ _ _ _ _ (not_full d c.if-full.false)
 
-pub returns : goal.returns
-returns c =
+pub returns-then-full : goal.returns-then-full
+returns-then-full c =
     let f : SFits w64 c.args.range.start = search rules in
     let g : SFits w64 c.args.range.end = search rules in
     let f' : SFits w64 c.args.other.start = search rules in
@@ -40,4 +40,4 @@ returns c =
     let k : SFits w64 c.min-e.result = search rules in
     let d = left (kind_of c.args.kind) c.max-s.result c.min-e.result f g f' g' h k c.max-s.ensures c.min-e.ensures c.full.ensures in
     rw (to_z-of_z h, to_z-of_z k, c.max-s.ensures, c.min-e.ensures, to_z-of_z f, to_z-of_z g, to_z-of_z f', to_z-of_z g')
-    (intersect_some _ _ _ _ _ (d.right c.if-not-full.false))
+    (intersect_some _ _ _ _ _ (d.right c.if-full.true))
