@@ -1,5 +1,5 @@
 -- What the functions of this crate say to each other.
-use Rattle.std.specs.Prelude.{ℕ, suc, ◌≤◌, ◌≡◌, cond, List, [], ◌∷◌, length, eqb}
+use Rattle.std.specs.Prelude.{ℕ, suc, cond, List, [], ◌∷◌, eqb}
 use Rattle.outcomes.specs.Answered.{Outcome}
 use Rattle.edit_lines.specs.declared.Made.{Made}
 use Rattle.std.specs.Prelude.{Ok, Err}
@@ -13,8 +13,3 @@ made_by n (Err a) = Made.Refused n a
 unfoldable pub index_of : ℕ → List ℕ → ℕ
 index_of b [] = 0
 index_of b (x ∷ xs) = cond (eqb x b) 0 (suc (index_of b xs))
-
--- where the first space of a text is, or the text's length
-pub record SpaceAt (text : List ℕ) (r : ℕ) : Type 0 where
-  pub is : r ≡ index_of 32 text
-  pub within : r ≤ length text

@@ -15,7 +15,7 @@ pub fn told_text(made: Made, out: &mut [u8; TOLD_ROOM]) -> usize
     match made {
         Made::Done => 0,
         Made::Refused(n, answer) => {
-            let numbers = [n as u64, answer as u64];
+            let numbers = [n as u64, u64::from(answer)];
             fill(out, 0, b"line {: {\n", &numbers)
         }
         Made::NotAnEdit(n) => {

@@ -11,7 +11,7 @@ returns-in-Done c = rw c.in-Done.is (record { adds = adds_none _ _; within = ome
 
 pub returns-in-Refused : goal.returns-in-Refused
 unfolding told_text
-returns-in-Refused c = rw c.in-Refused.is (as_within refl (omega arith) c.fill.ensures)
+returns-in-Refused c = rw c.in-Refused.is (as_within refl (omega arith) (rw c.from.ensures at c.fill.ensures))
 
 pub returns-in-NotAnEdit : goal.returns-in-NotAnEdit
 unfolding told_text
