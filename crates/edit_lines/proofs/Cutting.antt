@@ -11,9 +11,8 @@ use lib.Pointwise.{pointwise}
 use Rattle.byte_form.specs.Form.{same_bytes}
 use Rattle.byte_form.proofs.Forms.{told_same}
 use Rattle.std.proofs.lemmas.Slice.Eq.{bytes_eq-Decides}
-use lib.ListN.{length, take, drop, length-take, length-drop}
-use lib.Seq.{take-length, take_all, drop-drop}
-use Rattle.outcomes.proofs.Storing.{drop_take}
+use lib.ListN.{length, take, drop, length-drop, drop_of_length-le}
+use lib.Seq.{take-length, take_all}
 use Rattle.std.specs.List.{position, position_or_len}
 use Rattle.std.specs.Prelude.{Some, None}
 use Rattle.std.proofs.lemmas.List.Quantifiers.{position-Some}
@@ -28,10 +27,6 @@ use Rattle.edit_lines.specs.Parts.{ahead, parts_at, lines_of, words_of}
 -- where a byte is, by whether it is the first, and where it is behind that
 abbrev index_after : Bool → ℕ → ℕ
 index_after t n = cond t 0 (suc n)
-
--- what a search of a whole text from a place on finds
-pub found : (text : List ℕ) (from b : ℕ) → from + index_of b (drop from (take (length text) text)) ≡ from + index_of b (drop from text)
-found text from b = rw (take-length text)
 
 -- a byte in front of a text of which the first part is known
 module _ (b : ℕ) (e : List (List ℕ)) (x : ℕ) (xs : List ℕ) where
@@ -104,20 +99,6 @@ place_none b xs e = elim (dec_lt (index_of b xs) (length xs)) [
   | no h ↦ omega (arith, index_within b xs)
 ]
 
--- the same from a place of the text on, where the search found r
-module _ (b : ℕ) (text : List ℕ) (from r : ℕ) (is : r ≡ from + index_of b (drop from (take (length text) text))) where
-  index_is : index_of b (drop from text) ≡ r - from
-  index_is = omega (arith, is, found text from b)
-
-  behind_is : (e : List (List ℕ)) → parts_at b e (drop (suc (index_of b (drop from text))) (drop from text)) ≡ parts_at b e (drop (r + 1) text)
-  behind_is e =
-      let n : from + suc (index_of b (drop from text)) ≡ r + 1 = omega (arith, is, found text from b) in
-      rw (drop-drop (suc (index_of b (drop from text))) from text, n)
-
-pub line_more : (text : List ℕ) (from r : ℕ) → r ≡ from + index_of 10 (drop from (take (length text) text)) → from < length text
-    → lines_of (drop from text) ≡ take (r - from) (drop from text) ∷ lines_of (drop (r + 1) text)
-line_more text from r is h = lines_more (drop from text) (simp length-drop (omega arith)) ∙ rw (behind_is 10 text from r is [], index_is 10 text from r is)
-
 -- a line has a word
 words_some : (xs : List ℕ) → (p : List ℕ) × ((ps : List (List ℕ)) × (words_of xs ≡ p ∷ ps))
 unfolding parts_at ahead
@@ -157,21 +138,25 @@ module _ (xs : List ℕ) where
       let whole : length (drop (i + 1) xs) ≤ length xs - (i + 1) = simp length-drop (omega arith) in
       parts_more 32 ([] ∷ []) xs (omega arith) ∙ rw (take_all (length xs - (i + 1)) (drop (i + 1) xs) whole, is, add-one)
 
+-- no line is in a text of no bytes
+pub no_text : (xs : List ℕ) → length xs ≡ 0 → lines_of xs ≡ []
+unfolding parts_at
+no_text [] e = refl
+no_text (x ∷ xs) e = absurd (omega arith)
+
+-- the first line of a text, in which a newline was looked for
+module _ (xs : List ℕ) where
+  pub a_line : {i : ℕ} → position (λ x. eqb x 10) xs ≡ Some i → lines_of xs ≡ take i xs ∷ lines_of (take (length xs - (i + 1)) (drop (i + 1) xs))
+  a_line {i} e =
+      let (is, within) = place_some 10 xs i e in
+      let whole : length (drop (i + 1) xs) ≤ length xs - (i + 1) = simp length-drop (omega arith) in
+      lines_more xs (omega arith) ∙ rw (take_all (length xs - (i + 1)) (drop (i + 1) xs) whole, is, add-one)
+
+  pub only_line : 0 < length xs → position (λ x. eqb x 10) xs ≡ None → lines_of xs ≡ xs ∷ lines_of []
+  only_line h e =
+      let n = place_none 10 xs e in
+      lines_more xs h ∙ rw (n, take-length xs, drop_of_length-le xs {i = suc (length xs)} (omega arith))
+
 -- a line of five words or more is no edit
 pub five_words : (w s e v xs : List ℕ) → words_line (w ∷ s ∷ e ∷ v ∷ words_of xs) ≡ Line.Neither
 five_words w s e v xs = let (p, (ps, is)) = words_some xs in rw is
-
--- what is behind a byte of a part, by the part of the text
-pub find_some : (text : List ℕ) (from to b i : ℕ) → from ≤ to → to ≤ length text
-    → position (λ x. eqb x b) (take (to - from) (drop from text)) ≡ Some i → (from + i ≡ from + index_of b (drop from (take to text))) × (from + i ≤ to)
-find_some text from to b i h w e =
-    let (is, within) = place_some b (take (to - from) (drop from text)) i e in
-    let size : length (take (to - from) (drop from text)) ≡ to - from = simp (length-take, length-drop) (omega arith) in
-    (rw drop_take (omega (arith, is)), omega (arith, within, size))
-
-pub find_none : (text : List ℕ) (from to b : ℕ) → from ≤ to → to ≤ length text
-    → position (λ x. eqb x b) (take (to - from) (drop from text)) ≡ None → to ≡ from + index_of b (drop from (take to text))
-find_none text from to b h w e =
-    let none = place_none b (take (to - from) (drop from text)) e in
-    let size : length (take (to - from) (drop from text)) ≡ to - from = simp (length-take, length-drop) (omega arith) in
-    rw drop_take (omega (arith, none, size))

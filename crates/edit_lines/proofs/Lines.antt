@@ -1,25 +1,22 @@
 -- One line done on a map, and the lines behind it, as a loop does them.
-use Prim.Native.Nat.{ℕ, zero, suc, ◌+◌, ◌-◌, ◌≤◌, ◌<◌, min}
+use Prim.Native.Nat.{ℕ, zero, suc, ◌+◌}
 use native.Mathlib.Omega.{arith}
 use native.Mathlib.Numerals.{add-one}
-use native.Mathlib.Decide.{dec_lt}
 use mathlib.Core.Path.{◌≡◌, refl, sym, ap, ◌∙◌}
 use mathlib.Core.Bool.{Bool, true, false, cond}
-use mathlib.Core.List.{List}
+use mathlib.Core.List.{List, [], ◌∷◌}
 use mathlib.Core.Option.{Option, some, none}
 use borrow.Author.Tests.{ne_eqb}
 use lib.Dec.{eqb}
-use lib.ListN.{length, take, drop, drop_of_length-le}
 use Rattle.key.specs.Range.{half_open}
 use Rattle.outcomes.specs.declared.Stored.{Stored}
 use Rattle.outcomes.specs.Outcomes.{Change, edit}
 use Rattle.outcomes.specs.InnerOutcome.{outcome_of, Leaves}
 use Rattle.outcomes.specs.Answered.{Outcome}
-use Rattle.edit_lines.specs.Parts.{parts_at, lines_of}
+use Rattle.edit_lines.specs.Parts.{lines_of}
 use Rattle.edit_lines.specs.Making.{line_of, change_of, Making, making, line_done, makes}
-use Rattle.edit_lines.specs.InnerStep.{index_of, made_by}
+use Rattle.edit_lines.specs.InnerStep.{made_by}
 use Rattle.edit_lines.specs.declared.Made.{Made}
-use Rattle.edit_lines.proofs.Cutting.{line_more}
 
 -- a line that is an edit, by how the edit went and what it leaves
 pub edit_done : (n : ℕ) (m : Stored) (c : Change) {went : Outcome} {r : Made} {left : Stored} → Leaves went left (edit half_open m c.start c.end c.new)
@@ -63,35 +60,29 @@ has_stopped Made.Done h = absurd (h refl)
 has_stopped (Made.Refused n a) h = refl
 has_stopped (Made.NotAnEdit n) h = refl
 
--- the line of a text from a place on, where the search for its end found r
-module _ (text : List ℕ) (from n r : ℕ) (m : Stored) (is : r ≡ from + index_of 10 (drop from (take (length text) text))) (more : from < length text) where
+-- a text of which the first line is known, and what is behind it
+module _ (text line rest : List ℕ) (n : ℕ) (m : Stored) (is : lines_of text ≡ line ∷ lines_of rest) where
   abbrev this : Option Change
-  this = change_of (line_of (take (r - from) (drop from text)))
+  this = change_of (line_of line)
 
-  abbrev rest : Stored → Making
-  rest left = makes (n + 1) left (lines_of (drop (r + 1) text))
+  abbrev behind : Stored → Making
+  behind left = makes (n + 1) left (lines_of rest)
 
-  one_line : makes n m (lines_of (drop from text)) ≡ line_done (n + 1) m this rest
+  one_line : makes n m (lines_of text) ≡ line_done (n + 1) m this behind
   unfolding makes
   one_line =
-      ap (makes n m) (line_more text from r is more)
-      ∙ ap (λ (k : ℕ). line_done k m this (λ (left : Stored). makes k left (lines_of (drop (r + 1) text)))) (sym (add-one n))
+      ap (makes n m) is
+      ∙ ap (λ (k : ℕ). line_done k m this (λ (left : Stored). makes k left (lines_of rest))) (sym (add-one n))
 
   pub line_ends : {told : Made} {m₁ : Stored} → (told ≡ Made.Done → ⊥) → making told m₁ ≡ line_done (n + 1) m this (making Made.Done)
-      → making told m₁ ≡ makes n m (lines_of (drop from text))
-  line_ends {told} h e = sym (one_line ∙ line_stops (n + 1) m rest this (has_stopped told h) e)
+      → making told m₁ ≡ makes n m (lines_of text)
+  line_ends {told} h e = sym (one_line ∙ line_stops (n + 1) m behind this (has_stopped told h) e)
 
-  behind_line : (to : ℕ) → to ≡ min (r + 1) (length text) → drop (r + 1) text ≡ drop to text
-  behind_line to e = elim (dec_lt r (length text)) [
-    | yes p ↦ let z : to ≡ r + 1 = omega arith in rw z
-    | no p ↦ drop_of_length-le text {i = r + 1} (omega arith) ∙ sym (drop_of_length-le text {i = to} (omega arith))
-  ]
-
-  pub line_again : {m₁ : Stored} (to : ℕ) → to ≡ min (r + 1) (length text) → making Made.Done m₁ ≡ line_done (n + 1) m this (making Made.Done)
-      → makes n m (lines_of (drop from text)) ≡ makes (n + 1) m₁ (lines_of (drop to text))
-  line_again {m₁} to b e = one_line ∙ line_goes (n + 1) m rest this e ∙ ap (λ (l : List ℕ). makes (n + 1) m₁ (lines_of l)) (behind_line to b)
+  pub line_again : {m₁ : Stored} → making Made.Done m₁ ≡ line_done (n + 1) m this (making Made.Done)
+      → makes n m (lines_of text) ≡ makes (n + 1) m₁ (lines_of rest)
+  line_again e = one_line ∙ line_goes (n + 1) m behind this e
 
 -- at the end of a text no line is left
-pub no_line : (text : List ℕ) (from n : ℕ) (m : Stored) → length text ≤ from → makes n m (lines_of (drop from text)) ≡ making Made.Done m
-unfolding makes parts_at
-no_line text from n m h = rw (drop_of_length-le text {i = from} h)
+pub no_line : (text : List ℕ) (n : ℕ) (m : Stored) → lines_of text ≡ [] → makes n m (lines_of text) ≡ making Made.Done m
+unfolding makes
+no_line text n m e = rw e

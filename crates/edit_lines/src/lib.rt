@@ -5,15 +5,16 @@ pub mod said;
 mod scan;
 mod words;
 
-ghost use Rattle.std.specs.Prelude.{◌≡◌, ◌+◌, ◌≤◌, min};
+ghost use Rattle.std.specs.Prelude.{◌≡◌, ◌<◌, [], ◌∷◌, length};
+ghost use Rattle.std.specs.Option.{MatchOption};
 ghost use Rattle.outcomes.specs.Stored.{stored};
 ghost use Rattle.edit_lines.specs.InnerStep.{made_by};
 ghost use Rattle.edit_lines.specs.Parts.{lines_of};
 ghost use Rattle.edit_lines.specs.Making.{line_of, change_of, making, line_done, makes, made_of};
 
 use key::RangeKind;
-use outcomes::{Outcome, Stored};
-use scan::find;
+use outcomes::Stored;
+use scan::place_of;
 
 // What a line is.
 #[derive(Clone, Copy)]
@@ -67,12 +68,18 @@ fn line_done(
     }
 }
 
-// The place behind the newline at `end`, or the end of the text.
-fn behind(end: usize, length: usize) -> usize
-    requires { end ≤ length }
-    ensures { result ≡ min (end + 1) length }
+// The first line and what is behind its newline, or nothing where the text is empty.
+fn first_line(text: &[u8]) -> Option<(&[u8], &[u8])>
+    ensures { MatchOption result (lines_of text.now ≡ [])
+        (λ cut. (lines_of text.now ≡ cut.0.now ∷ lines_of cut.1.now) × (length cut.1.now < length text.now)) }
 {
-    if end < length { end + 1 } else { length }
+    if text.is_empty() {
+        return None;
+    }
+    match place_of(text, NEWLINE) {
+        Some(end) => Some((&text[..end], &text[end + 1..])),
+        None => Some((text, &text[..0])),
+    }
 }
 
 // The lines of a text, done on a map.
@@ -83,16 +90,15 @@ fn lines_done(
     ensures { making result m.new
         ≡ makes 0 m.old (lines_of text.now) }
 {
-    let mut from = 0;
+    let mut rest = text;
     let mut n = 0;
-    while from < text.len() {
-        let end = find(text, from, text.len(), NEWLINE);
+    while let Some((line, behind)) = first_line(rest) {
         n += 1;
-        let done = line_done(&text[from..end], n, m);
+        let done = line_done(line, n, m);
         let Made::Done = done else {
             return done;
         };
-        from = behind(end, text.len());
+        rest = behind;
     }
     Made::Done
 }
