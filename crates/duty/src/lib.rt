@@ -5,16 +5,16 @@ ghost use Rattle.std.specs.Prelude.{◌≡◌, ◌+◌, ◌-◌, ◌≤◌, ◌<
 ghost use Rattle.key.specs.InnerDecides.{Decides};
 ghost use Rattle.key.specs.Rank.{rank};
 ghost use Rattle.key.specs.Range.{half_open};
-ghost use Rattle.outcomes.specs.Stored.{Sound, stored, ranges};
+ghost use Rattle.outcomes.specs.Stored.{Sound, ranges};
 ghost use Rattle.store.specs.InnerSearch.{Reached};
 ghost use Rattle.duty.specs.Duty.{is_status, tally_sound};
 ghost use Rattle.duty.specs.InnerWalk.{u32_limit, table_length, gathering, tally_sum, completing, walk_finds};
 ghost use Rattle.duty.specs.InnerCounting.{Statuses, Met, EachApart, Inside, part};
 ghost use Rattle.duty.specs.InnerCounting.{no_seconds, credited, Both, Joined, TableRoom, Added};
 
-use outcomes::Stored;
-use answers::BAD_STATUS;
+use answers::Refusal;
 use key::{Bounds, RangeKind, Value};
+use outcomes::Stored;
 use store::search::{first_past, reaching};
 
 // The seconds of each duty, and those that are unrecorded.
@@ -25,13 +25,6 @@ pub struct Totals {
     pub driving: u32,
     pub on_duty: u32,
     pub unrecorded: u32,
-}
-
-// The seconds, or the number of a refusal.
-#[derive(Clone, Copy, Debug, PartialEq, Eq)]
-pub enum Tallied {
-    Seconds(Totals),
-    Refused(u8),
 }
 
 // The statuses, by the values that stand for them. What a map stores stays a number: the C interface lends bytes, of which not all are statuses.
@@ -112,21 +105,19 @@ fn joined(t: [u32; TABLE_LENGTH], u: [u32; TABLE_LENGTH]) -> [u32; TABLE_LENGTH]
 // A table, and the seconds of the places from `from` up to `to` that lie in the window.
 fn clipped(
     table: [u32; TABLE_LENGTH],
-    starts: &[i64],
-    ends: &[i64],
-    values: &[Value],
+    m: &Stored,
     from: usize,
     to: usize,
     window: Bounds,
 ) -> [u32; TABLE_LENGTH]
-    requires { Met starts.now ends.now values.now window from to × Statuses values.now from to
-        × TableRoom window (part starts.now ends.now values.now from to) table }
-    ensures { Added window (part starts.now ends.now values.now from to) table result }
+    requires { Met m.now window from to × Statuses m.now.values from to
+        × TableRoom window (part m.now from to) table }
+    ensures { Added window (part m.now from to) table result }
 {
     let mut t = table;
     for k in from..to {
-        let n = shared(starts[k], ends[k], window);
-        credit(&mut t, values[k], n);
+        let n = shared(m.starts[k], m.ends[k], window);
+        credit(&mut t, m.values[k], n);
     }
     t
 }
@@ -135,53 +126,44 @@ fn clipped(
 // They are taken two at a time, each into a table of its own, so that no sum waits for the one before it.
 fn whole(
     table: [u32; TABLE_LENGTH],
-    starts: &[i64],
-    ends: &[i64],
-    values: &[Value],
+    m: &Stored,
     from: usize,
     to: usize,
     window: Bounds,
 ) -> [u32; TABLE_LENGTH]
-    requires { Met starts.now ends.now values.now window from to × Statuses values.now from to
-        × EachApart starts.now ends.now from to × Inside starts.now window from to
-        × TableRoom window (part starts.now ends.now values.now from to) table }
-    ensures { Added window (part starts.now ends.now values.now from to) table result }
+    requires { Met m.now window from to × Statuses m.now.values from to
+        × EachApart m.now from to × Inside m.now window from to
+        × TableRoom window (part m.now from to) table }
+    ensures { Added window (part m.now from to) table result }
 {
     let mut t = table;
     let mut u = [0; TABLE_LENGTH];
     let mut k = from;
     // A `for` would have to count the pairs first, and find the place after them again.
     while k + 2 < to {
-        let n = seconds(starts[k], ends[k]);
-        credit(&mut t, values[k], n);
+        let n = seconds(m.starts[k], m.ends[k]);
+        credit(&mut t, m.values[k], n);
         let next = k + 1;
-        let o = seconds(starts[next], ends[next]);
-        credit(&mut u, values[next], o);
+        let o = seconds(m.starts[next], m.ends[next]);
+        credit(&mut u, m.values[next], o);
         k += 2;
     }
-    clipped(joined(t, u), starts, ends, values, k, to, window)
+    clipped(joined(t, u), m, k, to, window)
 }
 
 // The seconds by status of the places from `from` up to `to`, which meet the window. Only the first can begin before it.
-fn table_of(
-    starts: &[i64],
-    ends: &[i64],
-    values: &[Value],
-    from: usize,
-    to: usize,
-    window: Bounds,
-) -> [u32; TABLE_LENGTH]
-    requires { Met starts.now ends.now values.now window from to × Statuses values.now from to
-        × EachApart starts.now ends.now from to × TableRoom window (part starts.now ends.now values.now from to) no_seconds }
-    ensures { Added window (part starts.now ends.now values.now from to) no_seconds result }
+fn table_of(m: &Stored, from: usize, to: usize, window: Bounds) -> [u32; TABLE_LENGTH]
+    requires { Met m.now window from to × Statuses m.now.values from to
+        × EachApart m.now from to × TableRoom window (part m.now from to) no_seconds }
+    ensures { Added window (part m.now from to) no_seconds result }
 {
     let t = [0; TABLE_LENGTH];
     if from == to {
         return t;
     }
     let second = from + 1;
-    let first = clipped(t, starts, ends, values, from, second, window);
-    whole(first, starts, ends, values, second, to, window)
+    let first = clipped(t, m, from, second, window);
+    whole(first, m, second, to, window)
 }
 
 // The four totals of a table of seconds by status. The promise sums over the statuses that pass each total's test.
@@ -214,11 +196,7 @@ fn completed(t: Tally, seconds: u32) -> Totals
 
 // The four totals of the window, none if a strange status is there.
 // Each range from the place `from` on ends past the window's start, so those that begin before its end meet it.
-fn walk(
-    m: &Stored,
-    from: usize,
-    window: Bounds,
-) -> Option<Tally>
+fn walk(m: &Stored, from: usize, window: Bounds) -> Option<Tally>
     requires { Sound half_open m.now × Reached half_open m.now.count m.now.ends window.start from
         × (rank window.start < rank window.end) × (rank window.end - rank window.start < u32_limit) }
     ensures { result ≡ walk_finds (rank window.start) (rank window.end) (ranges half_open m.now) }
@@ -227,23 +205,16 @@ fn walk(
     if !statuses(&m.values, from, to) {
         return None;
     }
-    let t = table_of(&m.starts, &m.ends, &m.values, from, to, window);
-    Some(gathered(t))
+    Some(gathered(table_of(m, from, to, window)))
 }
 
 // THE SECONDS of each duty in the window, and those that are unrecorded: 10 if a status outside 1 to 4 is there.
-pub fn between(
-    m: &Stored,
-    window: Bounds,
-) -> Tallied
+pub fn between(m: &Stored, window: Bounds) -> Result<Totals, Refusal>
     requires { Sound half_open m.now
         × (rank window.start < rank window.end) × (rank window.end - rank window.start < u32_limit) }
     ensures { result ≡ tally_sound m.now window.start window.end }
 {
     let from = reaching(RangeKind::HalfOpen, &m.ends, m.count, window.start);
-    let w = walk(m, from, window);
-    match w {
-        Some(t) => Tallied::Seconds(completed(t, seconds(window.start, window.end))),
-        None => Tallied::Refused(BAD_STATUS),
-    }
+    let t = walk(m, from, window).ok_or(Refusal::BadStatus)?;
+    Ok(completed(t, seconds(window.start, window.end)))
 }
