@@ -1,7 +1,7 @@
 -- Document 01, Byte form: the mark, count as u32, then range after range; what the writer and the reader answer and leave. All of it is over any layout:
 -- document 01's is `rm01`.
 use Rattle.std.specs.Prelude.{ℕ, zero, suc, ◌≡◌, Bool, true, false, ◌&&◌, cond, List, [], ◌∷◌, ◌++◌, map, eqb, ltb, length, take, drop, pos}
-use Rattle.answers.specs.Answers.{done, too_short, not_formed, no_map}
+use Rattle.answers.specs.Answers.{done, no_map}
 use Rattle.outcomes.specs.Stored.{places, filled}
 use Rattle.outcomes.specs.declared.Stored.{Stored}
 use Rattle.outcomes.specs.Outcomes.{entries, formed, Edited, leaving}
