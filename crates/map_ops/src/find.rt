@@ -47,3 +47,19 @@ pub fn overlapping(kind: RangeKind, m: &Stored, start: i64, end: i64) -> Result<
     lookup::overlapping(kind, m, start, end)
 }
 
+// The maximal uncovered ranges inside the outer range, into the first places of two lent lists.
+#[tactic(auto, unfolding(outcomes::specs::Outcomes::gaps))]
+pub fn gaps(
+    kind: RangeKind,
+    m: &Stored,
+    start: i64,
+    end: i64,
+    out_starts: &mut [i64],
+    out_ends: &mut [i64],
+) -> Result<usize, Refusal>
+    ensures { wrote result out_starts.new out_ends.new
+        ≡ gaps (kind_of kind) m.now start end out_starts.old out_ends.old }
+{
+    checked(kind, m)?;
+    gaps::gaps(kind, m, start, end, out_starts, out_ends)
+}
