@@ -6,9 +6,9 @@ use mathlib.Core.List.{List, [], ◌∷◌}
 use lib.Dec.{ltb}
 use lib.ListN.{length}
 use lib.IntN.{ℤ}
-use Rattle.std.specs.Prelude.{Err}
+use Rattle.std.specs.Prelude.{Ok, Err}
 use Rattle.answers.specs.Answers.{empty_range, too_short, bad_query, bad_day, bad_status}
-use Rattle.answers.specs.declared.Refusal.TheVariants.{BadQuery}
+use Rattle.answers.specs.declared.Refusal.TheVariants.{BadQuery, BadStatus}
 use Rattle.key.specs.Rank.{rank}
 use Rattle.key.specs.Range.{half_open}
 use Rattle.outcomes.specs.Stored.{ranges}
@@ -17,13 +17,11 @@ use Rattle.outcomes.specs.declared.Count.{Count}
 use Rattle.outcomes.specs.declared.Told.{Told}
 use Rattle.one_map.proofs.Refusals.{Reason, refuse, first_number, unformed, both_pass, lets_pass, told_number, told_done, list_number, writing_order}
 use Rattle.duty.specs.Duty.{strange, totals_of, tally_sound}
-use Rattle.duty.specs.declared.Tallied.TheVariants as Tallied
 use Rattle.log_day.specs.Days.{day_of}
 use Rattle.log_day.specs.declared.Day.{Day}
 use Rattle.log_day.proofs.Spans.{refused_is}
-use Rattle.report.specs.Report.{with_keys, day_report_sound, day_report, reported_in_c}
+use Rattle.report.specs.Report.{Reported, with_keys, day_report_sound, day_report, reported_in_c}
 use Rattle.report.specs.declared.DayReport.{DayReport}
-use Rattle.report.specs.declared.Reported.{Reported}
 use Rattle.map.specs.declared.RangeMap.{RangeMap}
 use Rattle.map.specs.Map.{held}
 use Rattle.query_text.specs.Reader.{Read, got, bad, query_of}
@@ -103,7 +101,7 @@ report_order m z y mo d r q =
     of_day (Day.Span s e) h = of_strange (strange (rank s) (rank e) (ranges half_open (held m)))
       where
         of_strange : (t : Bool)
-            → report_number (with_keys s e (cond t (Tallied.Refused bad_status) (Tallied.Seconds (totals_of (rank s) (rank e) (ranges half_open (held m))))))
+            → report_number (with_keys s e (cond t (Err BadStatus) (Ok (totals_of (rank s) (rank e) (ranges half_open (held m))))))
             ≡ cond t bad_status 0
         of_strange true = refl
         of_strange false = refl

@@ -6,7 +6,9 @@ use mathlib.Core.Bool.{false}
 use mathlib.Core.List.{List}
 use lib.ListN.{get_or}
 use lib.IntN.{ℤ, pos}
+use Rattle.std.specs.Prelude.{Ok, Err}
 use Rattle.answers.specs.Answers.{done}
+use Rattle.answers.specs.declared.Refusal.{Refusal}
 use Rattle.outcomes.specs.Numbers.{asked_in_c, counted_in_c, found_in_c, part_in_c, compared_in_c, totalled_in_c}
 use Rattle.outcomes.specs.Outcomes.{Written, Listed}
 use Rattle.outcomes.specs.Answered.{Asked}
@@ -25,8 +27,7 @@ use Rattle.byte_form.specs.Form.{Output, Wrote}
 use Rattle.log_day.specs.Days.{day_in_c}
 use Rattle.log_day.specs.declared.Day.{Day}
 use Rattle.log_day.specs.declared.LogDay.{LogDay}
-use Rattle.report.specs.Report.{reported_in_c}
-use Rattle.report.specs.declared.Reported.{Reported}
+use Rattle.report.specs.Report.{Reported, reported_in_c}
 use Rattle.report.specs.declared.DayReport.{DayReport}
 use Rattle.one_map.proofs.Refusals.{Kept, BytesKept, told_zero, count_zero, range_zero, stretch_zero, order_zero, total_zero}
 
@@ -64,9 +65,9 @@ day_refused (Day.Span s e) r q n = absurd (n (ap (λ (x : LogDay). x.answer) q))
 day_refused (Day.Refused k) r q n = (ap (λ (x : LogDay). x.start) q, ap (λ (x : LogDay). x.end) q)
 
 -- a report: all of it is 0 but its number
-pub report_refused : (a : Reported) (r : DayReport) → r ≡ reported_in_c a → Refuses r.answer → r ≡ reported_in_c (Reported.Refused r.answer)
-report_refused (Reported.Totals s e t) r q n = absurd (n (ap (λ (x : DayReport). x.answer) q))
-report_refused (Reported.Refused k) r q n = q ∙ ap (λ (j : ℕ). reported_in_c (Reported.Refused j)) (sym (ap (λ (x : DayReport). x.answer) q))
+pub report_refused : (a : Reported) (r : DayReport) → r ≡ reported_in_c a → Refuses r.answer → (why : Refusal) × (r ≡ reported_in_c (Err why))
+report_refused (Ok x) r q n = absurd (n (ap (λ (y : DayReport). y.answer) q))
+report_refused (Err why) r q n = (why, q)
 
 -- TWO LENT LISTS, of gaps, intersection, union and a query: refused, both are as they were and the count is 0; and places past the count always are
 pub record ListsKept (r : Count) (starts starts' ends ends' : List ℤ) : Type 0 where
