@@ -1,5 +1,5 @@
 -- docs/PROGRAM.md, Make: the edit that a line is, and what the lines of a text make from nothing.
-use Rattle.std.specs.Prelude.{ℕ, suc, cond, List, [], ◌∷◌, eqb, ltb}
+use Rattle.std.specs.Prelude.{ℕ, ℤ, suc, cond, List, [], ◌∷◌, eqb, ltb, Option as Read, Some, None}
 use Rattle.std.proofs.Math.Option.{Option, some, none}
 use Rattle.answers.specs.Answers.{done}
 use Rattle.key.specs.Range.{half_open}
@@ -7,8 +7,6 @@ use Rattle.outcomes.specs.declared.Stored.{Stored}
 use Rattle.outcomes.specs.Outcomes.{Change, edit, clear}
 use Rattle.byte_form.specs.Form.{same_bytes}
 use Rattle.decimal.specs.Reading.{read_number, read_signed}
-use Rattle.decimal.specs.declared.Numeral.{Numeral}
-use Rattle.decimal.specs.declared.Signed.{Signed}
 use Rattle.filling.specs.Filling.{ascii, filled_in}
 use Rattle.edit_lines.specs.Parts.{lines_of, words_of}
 use Rattle.edit_lines.specs.declared.Line.{Line}
@@ -23,17 +21,17 @@ abbrev pub remove_word : List ℕ
 remove_word = ascii "remove"
 
 -- insert START END VALUE: the value is 0 to 255
-abbrev pub insert_of : Signed → Signed → Numeral → Line
-insert_of (Signed.Is s) (Signed.Is e) (Numeral.Is v) = cond (ltb v 256) (Line.Insert s e v) Line.Neither
-insert_of (Signed.Is s) (Signed.Is e) Numeral.Not = Line.Neither
-insert_of (Signed.Is s) Signed.Not v = Line.Neither
-insert_of Signed.Not e v = Line.Neither
+abbrev pub insert_of : Read ℤ → Read ℤ → Read ℕ → Line
+insert_of (Some s) (Some e) (Some v) = cond (ltb v 256) (Line.Insert s e v) Line.Neither
+insert_of (Some s) (Some e) None = Line.Neither
+insert_of (Some s) None v = Line.Neither
+insert_of None e v = Line.Neither
 
 -- remove START END
-abbrev pub remove_of : Signed → Signed → Line
-remove_of (Signed.Is s) (Signed.Is e) = Line.Remove s e
-remove_of (Signed.Is s) Signed.Not = Line.Neither
-remove_of Signed.Not e = Line.Neither
+abbrev pub remove_of : Read ℤ → Read ℤ → Line
+remove_of (Some s) (Some e) = Line.Remove s e
+remove_of (Some s) None = Line.Neither
+remove_of None e = Line.Neither
 
 -- a line of these words
 abbrev pub words_line : List (List ℕ) → Line

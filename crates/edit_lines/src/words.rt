@@ -6,7 +6,6 @@ ghost use Rattle.edit_lines.specs.Making.{words_line, line_of};
 
 use crate::Line;
 use crate::scan::place_of;
-use decimal::{Numeral, Signed};
 
 const SPACE: u8 = 32;
 
@@ -25,10 +24,10 @@ fn remove_of(word: &[u8], start: &[u8], end: &[u8]) -> Line
     if word != b"remove".as_slice() {
         return Line::Neither;
     }
-    let Signed::Is(s) = decimal::read_i64(start) else {
+    let Some(s) = decimal::read_i64(start) else {
         return Line::Neither;
     };
-    let Signed::Is(e) = decimal::read_i64(end) else {
+    let Some(e) = decimal::read_i64(end) else {
         return Line::Neither;
     };
     Line::Remove(s, e)
@@ -41,13 +40,13 @@ fn insert_of(word: &[u8], start: &[u8], end: &[u8], value: &[u8]) -> Line
     if word != b"insert".as_slice() {
         return Line::Neither;
     }
-    let Signed::Is(s) = decimal::read_i64(start) else {
+    let Some(s) = decimal::read_i64(start) else {
         return Line::Neither;
     };
-    let Signed::Is(e) = decimal::read_i64(end) else {
+    let Some(e) = decimal::read_i64(end) else {
         return Line::Neither;
     };
-    let Numeral::Is(v) = decimal::read_u64(value) else {
+    let Some(v) = decimal::read_u64(value) else {
         return Line::Neither;
     };
     match u8::try_from(v) {

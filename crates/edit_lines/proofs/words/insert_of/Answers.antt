@@ -11,8 +11,8 @@ returns-then-ne c = rw (no_word c.args.word.now insert_word (rw c.as_slice.ensur
 pub returns-in-Ok : goal.returns-in-Ok
 returns-in-Ok c =
     let word = is_word c.args.word.now insert_word (rw c.as_slice.ensures at c.ne.ensures) c.if-ne.false in
-    let start = sym c.read_i64.ensures ∙ c.in-Is.is in
-    let end = sym c.read_i64-2.ensures ∙ c.in-Is-read_i64.is in
-    let value = sym c.read_u64.ensures ∙ c.in-Is-read_u64.is in
+    let start = sym c.read_i64.ensures ∙ c.in-Some.is in
+    let end = sym c.read_i64-2.ensures ∙ c.in-Some-read_i64.is in
+    let value = sym c.read_u64.ensures ∙ c.in-Some-read_u64.is in
     let told = c.in-Ok.ensures in
     rw (word, start, end, value, lt-ltb _ _ told.0, told.1) (search rules)
