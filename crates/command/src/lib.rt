@@ -65,7 +65,7 @@ fn query_in(start: &[u8], end: &[u8]) -> Command
     Command::Query(s, e)
 }
 
-// The command of one word.
+// The command of one word. A match on the words themselves was tried: it leaves a goal to prove for each byte at which one may differ.
 pub fn one(word: &[u8]) -> Command
     ensures { result ≡ command_of (word.now ∷ []) }
 {
