@@ -5,16 +5,16 @@ use mathlib.Core.Path.{◌≡◌, sym, ap, ◌∙◌}
 use mathlib.Core.Bool.{true, false, ◌&&◌}
 use lib.Dec.{ltb, leb}
 use borrow.Author.Tests.{ltb-true, leb-true, lt-ltb, le-ltb, le-leb}
-use Rattle.answers.specs.Answers.{bad_day}
+use Rattle.std.specs.Prelude.{Ok, Err}
+use Rattle.answers.specs.declared.Refusal.TheVariants.{BadDay}
 use Rattle.calendar.specs.declared.Date.{Date}
 use Rattle.calendar.specs.Calendar.{date, is_date, next_date}
 use Rattle.calendar.specs.Years.{Known}
 use Rattle.calendar.proofs.Every.{both}
 use Rattle.calendar.proofs.Numbers.{There, there, Follows, Onward, same_year, new_year, follows}
-use Rattle.log_day.specs.declared.Day.TheVariants.{Span, Refused}
 use Rattle.log_day.specs.declared.TimeZone.{TimeZone}
 use Rattle.log_day.specs.declared.TimeZone.TheVariants.{Eastern, Central, Mountain, Pacific, Alaska, Hawaii, MountainFixed}
-use Rattle.log_day.specs.Days.{zones, midnight, accepted, day_of}
+use Rattle.log_day.specs.Days.{zones, midnight, accepted, bounds, day_of}
 use Rattle.log_day.specs.InnerZones.{number_of, in_ledger}
 
 -- a zone of the code is there
@@ -78,10 +78,10 @@ pub next_known : (z : ℕ) (d : Date) → Good z d → Known (next_date d).year
 next_known z d g = onward_known (next_follows z d g).onward g.from g.to
 
 -- the answers
-pub accepts : (z y m d : ℕ) → accepted z (date y m d) ≡ true → Span (midnight z (date y m d)) (midnight z (next_date (date y m d))) ≡ day_of z y m d
+pub accepts : (z y m d : ℕ) → accepted z (date y m d) ≡ true → Ok (bounds (midnight z (date y m d)) (midnight z (next_date (date y m d)))) ≡ day_of z y m d
 unfolding day_of
 accepts z y m d e = rw e
 
-pub refuses : (z y m d : ℕ) → accepted z (date y m d) ≡ false → Refused bad_day ≡ day_of z y m d
+pub refuses : (z y m d : ℕ) → accepted z (date y m d) ≡ false → Err BadDay ≡ day_of z y m d
 unfolding day_of
 refuses z y m d e = rw e

@@ -1,9 +1,10 @@
 -- What the functions that find a day say to each other: the number of a zone, and which dates are of the ledger.
 -- No promise of an exported function rests on it.
 use Rattle.std.specs.Prelude.{ℕ, ◌≡◌, ◌≤◌, Bool, ◌&&◌, leb, Result, MatchResult}
+use Rattle.answers.specs.declared.Refusal.{Refusal}
+use Rattle.answers.specs.declared.Refusal.TheVariants.{BadDay}
 use Rattle.calendar.specs.declared.Date.{Date}
 use Rattle.calendar.specs.Calendar.{is_date}
-use Rattle.log_day.specs.declared.BadDay.{BadDay}
 use Rattle.log_day.specs.declared.TimeZone.{TimeZone}
 use Rattle.log_day.specs.declared.TimeZone.TheVariants.{Eastern, Central, Mountain, Pacific, Alaska, Hawaii, MountainFixed}
 use Rattle.log_day.specs.Days.{zones}
@@ -19,8 +20,8 @@ number_of Hawaii = 5
 number_of MountainFixed = 6
 
 -- what is answered of a number: the zone of that number, where there is one
-abbrev pub IsZone : ℕ → Result TimeZone BadDay → Type 0
-IsZone n r = MatchResult r (λ (z : TimeZone). number_of z ≡ n) (λ (_ : BadDay). zones ≤ n)
+abbrev pub IsZone : ℕ → Result TimeZone Refusal → Type 0
+IsZone n r = MatchResult r (λ (z : TimeZone). number_of z ≡ n) (λ (why : Refusal). (why ≡ BadDay) × (zones ≤ n))
 
 -- is it a date of the years 2007 to 2099
 unfoldable pub in_ledger : Date → Bool

@@ -7,15 +7,9 @@ ghost use Rattle.log_day.specs.Days.{standard, changes_clock, daylight, offset, 
 ghost use Rattle.log_day.specs.InnerZones.{number_of, IsZone, in_ledger};
 ghost use Rattle.log_day.specs.Promises.{LogDayPromise};
 
-use answers::{BAD_DAY, DONE};
+use answers::{DONE, Refusal};
 use calendar::{Date, DayNumber};
-
-// A day as its start and end, or the number of a refusal.
-#[derive(Clone, Copy, Debug, PartialEq, Eq)]
-pub enum Day {
-    Span(i64, i64),
-    Refused(u8),
-}
+use key::Bounds;
 
 // A day as C and Rust see it: answer 0 with start and end, or 8.
 #[repr(C)]
@@ -48,17 +42,13 @@ const FIRST_YEAR: u16 = 2007;
 
 const LAST_YEAR: u16 = 2099;
 
-// Why there is no day: the zone or the date is not there, or the year is not of the ledger.
-#[derive(Clone, Copy, Debug, PartialEq, Eq)]
-struct BadDay;
-
-// The zone of a number.
+// The zone of a number, where there is one.
 impl TryFrom<u8> for TimeZone {
-    type Error = BadDay;
+    type Error = Refusal;
 
     ghost try_from_gives = { IsZone };
 
-    fn try_from(number: u8) -> Result<TimeZone, BadDay> {
+    fn try_from(number: u8) -> Result<TimeZone, Refusal> {
         match number {
             0 => Ok(TimeZone::Eastern),
             1 => Ok(TimeZone::Central),
@@ -67,7 +57,7 @@ impl TryFrom<u8> for TimeZone {
             4 => Ok(TimeZone::Alaska),
             5 => Ok(TimeZone::Hawaii),
             6 => Ok(TimeZone::MountainFixed),
-            _ => Err(BadDay),
+            _ => Err(Refusal::BadDay),
         }
     }
 }
@@ -153,45 +143,41 @@ fn is_in_ledger(date: Date) -> bool
 }
 
 // The zone of a number, where the zone and the date are accepted.
-fn accepted_zone(number: u8, date: Date) -> Result<TimeZone, BadDay>
-    ensures { MatchResult result (λ z. (number_of z ≡ number) × (accepted number date ≡ true)) (λ _. accepted number date ≡ false) }
+fn accepted_zone(number: u8, date: Date) -> Result<TimeZone, Refusal>
+    ensures { MatchResult result (λ z. (number_of z ≡ number) × (accepted number date ≡ true)) (λ why. (why ≡ Refusal.BadDay) × (accepted number date ≡ false)) }
 {
     let zone = TimeZone::try_from(number)?;
     if is_in_ledger(date) {
         Ok(zone)
     } else {
-        Err(BadDay)
+        Err(Refusal::BadDay)
     }
 }
 
-// The day of a date in a zone.
-pub fn day_of(zone: u8, year: u16, month: u8, day: u8) -> Day
+// The day of a date in a zone, from its start up to its end.
+pub fn day_of(zone: u8, year: u16, month: u8, day: u8) -> Result<Bounds, Refusal>
     ensures { result ≡ day_of zone year month day }
 {
     let date = Date { year, month, day };
-    match accepted_zone(zone, date) {
-        Ok(there) => {
-            let start = midnight_of(there, date);
-            let end = midnight_of(there, calendar::next(date));
-            Day::Span(start, end)
-        }
-        Err(BadDay) => Day::Refused(BAD_DAY),
-    }
+    let there = accepted_zone(zone, date)?;
+    let start = midnight_of(there, date);
+    let end = midnight_of(there, calendar::next(date));
+    Ok(Bounds { start, end })
 }
 
 // A day as C and Rust see it.
-impl From<Day> for LogDay {
+impl From<Result<Bounds, Refusal>> for LogDay {
     ghost from_gives = { λ d r. r ≡ day_in_c d };
 
-    fn from(d: Day) -> LogDay {
+    fn from(d: Result<Bounds, Refusal>) -> LogDay {
         match d {
-            Day::Span(start, end) => LogDay {
+            Ok(Bounds { start, end }) => LogDay {
                 answer: DONE,
                 start,
                 end,
             },
-            Day::Refused(n) => LogDay {
-                answer: n,
+            Err(why) => LogDay {
+                answer: why.number(),
                 start: 0,
                 end: 0,
             },
