@@ -27,7 +27,7 @@ use Rattle.lookup.proofs.Places.{nth, Exactly, exactly_inside, missed_free, meet
 use Rattle.outcomes.proofs.Formed.{good}
 use Rattle.lookup.proofs.Returns.{as_many, nth_place, the_first_range, rising, placed_at, placed_none, met_empty, met_yes, met_no, exactly_met, part_empty, part_none, part_some}
 use Rattle.std.specs.Prelude.{Ok, Some, None}
-use Rattle.outcomes.specs.Answered.{Found, entry, part}
+use Rattle.outcomes.specs.Answered.{Found, entry, places_from}
 
 -- is something held
 abbrev pub is_held : Option ℕ → Bool
@@ -191,19 +191,19 @@ module _ {kind : Kind} {m : Stored} (sound : Sound kind m) where
       exactly = exactly_met sound s e h reach walk
 
     -- OVERLAPPING: the places of the part that is answered meet the query, and no other place does
-    pub part_means : {p n : ℕ} → overlapping_sound kind m s e ≡ Ok (part p n) → Meets kind m q p n
+    pub part_means : {p n : ℕ} → overlapping_sound kind m s e ≡ Ok (places_from p n) → Meets kind m q p n
     part_means {p} {n} a = elim (dec_lt q.lo q.hi) [
       | yes h ↦ elim (dec_lt from to) [
         | yes l ↦
             let r = part_some sound s e h reach (walk h) l in
-            let x : part from (to - from) ≡ part p n = cc in
+            let x : places_from from (to - from) ≡ places_from p n = cc in
             let u = ap (λ (y : Part). y.place) x in
             let v = ap (λ (y : Part). y.count) x in
             record { within = omega (arith, (walk h).within); only = λ j i. exactly_inside (exactly h) j i ∙ in_same (omega arith) (omega arith) }
         | no l ↦
             let z : to ≡ from = omega (arith, in_order h) in
             let r = part_none sound s e h reach (walk h) z in
-            let x : part 0 0 ≡ part p n = cc in
+            let x : places_from 0 0 ≡ places_from p n = cc in
             let u = ap (λ (y : Part). y.place) x in
             let v = ap (λ (y : Part). y.count) x in
             record { within = omega arith; only = λ j i. exactly_inside (exactly h) j i ∙ in_same (omega arith) (omega arith) }

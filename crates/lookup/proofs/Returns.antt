@@ -25,7 +25,7 @@ use Rattle.lookup.proofs.Places.{nth, First, Exactly, exactly_first, first_as, e
 use Rattle.std.specs.Prelude.{Option, Ok, Err, Some, None, cond, ltb}
 use Rattle.std.specs.Option.{is_some}
 use Rattle.answers.specs.declared.Refusal.TheVariants.{EmptyRange}
-use Rattle.outcomes.specs.Answered.{entry, part}
+use Rattle.outcomes.specs.Answered.{entry, places_from}
 
 -- the place of the range that holds a key, as code answers it
 abbrev pub place_in : Kind → Stored → ℤ → Option ℕ
@@ -148,11 +148,11 @@ module _ {kind : Kind} {m : Stored} (sound : Sound kind m) where
         many : n - p ≡ how_many (spans_overlap q) (ranges kind m)
         many = how_many_lem (spans_overlap q) (ranges kind m) p n (rw as_many (exactly_as (λ j i. ap (spans_overlap q) (nth_place j i)) exactly_met))
 
-        pub part_none : n ≡ p → Ok (part 0 0) ≡ overlapping_sound kind m s e
+        pub part_none : n ≡ p → Ok (places_from 0 0) ≡ overlapping_sound kind m s e
         unfolding overlapping_sound part_of
         part_none z = rw (lt-leb q.hi q.lo h, eq-eqb (how_many (spans_overlap q) (ranges kind m)) 0 (omega (arith, many)))
 
-        pub part_some : p < n → Ok (part p (n - p)) ≡ overlapping_sound kind m s e
+        pub part_some : p < n → Ok (places_from p (n - p)) ≡ overlapping_sound kind m s e
         unfolding overlapping_sound part_of
         part_some i =
             rw (lt-leb q.hi q.lo h, ne_eqb (how_many (spans_overlap q) (ranges kind m)) 0 (λ z. omega (arith, many)), ← many, ← first_range (exactly_first i exactly_met))

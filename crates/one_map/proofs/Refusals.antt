@@ -30,7 +30,7 @@ use Rattle.outcomes.specs.Outcomes.{yes_no, compared_by, is_equal, first_place, 
 use Rattle.outcomes.specs.Outcomes.{range_at_sound, lookup_sound, overlaps_sound, overlapping_sound, into_lists, gaps_sound, order_sound, edit_sound, formed}
 use Rattle.outcomes.specs.Outcomes.{range_at, lookup, overlaps, overlapping, gaps, order, equal, edit, bulk_insert}
 use Rattle.outcomes.specs.Sets.{plain, total_is, intersection_sound, union_sound, total_sound, formed_set, intersection, union, total_of}
-use Rattle.outcomes.specs.Answered.{Asked, Counted, Found, Placed, Compared, Totalled, part}
+use Rattle.outcomes.specs.Answered.{Asked, Counted, Found, Located, Compared, Totalled, places_from}
 use Rattle.byte_form.specs.Layout.{rm01}
 use Rattle.byte_form.specs.Form.{form_of, Output, output, map_in, is_form, read}
 use Rattle.byte_form.specs.Form as Form
@@ -54,7 +54,7 @@ range_zero (Ok None) n = (refl, refl, refl)
 range_zero (Err why) n = (refl, refl, refl)
 
 -- a part of the places
-pub stretch_zero : (a : Placed) → ((part_in_c a).answer ≡ 0 → ⊥) → ((part_in_c a).place ≡ 0) × ((part_in_c a).count ≡ 0)
+pub stretch_zero : (a : Located) → ((part_in_c a).answer ≡ 0 → ⊥) → ((part_in_c a).place ≡ 0) × ((part_in_c a).count ≡ 0)
 stretch_zero (Ok p) n = absurd (n refl)
 stretch_zero (Err why) n = (refl, refl)
 
@@ -279,7 +279,7 @@ part_done : (p : Span → Bool) (xs : List Span) → (part_in_c (part_of p xs)).
 unfolding part_of
 part_done p xs = go (eqb (how_many p xs) 0)
   where
-    go : (t : Bool) → (part_in_c (cond t (Ok (part 0 0)) (Ok (part (first_place p xs) (how_many p xs))))).answer ≡ 0
+    go : (t : Bool) → (part_in_c (cond t (Ok (places_from 0 0)) (Ok (places_from (first_place p xs) (how_many p xs))))).answer ≡ 0
     go true = refl
     go false = refl
 
@@ -292,7 +292,7 @@ abbrev pub found_number : Found → ℕ
 found_number a = (Numbers.found_in_c a).answer
 
 -- of a part of the places
-abbrev pub part_number : Placed → ℕ
+abbrev pub part_number : Located → ℕ
 part_number a = (part_in_c a).answer
 
 -- of a comparison

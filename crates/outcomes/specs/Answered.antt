@@ -10,8 +10,8 @@ abbrev pub entry : ℤ → ℤ → ℕ → Entry
 entry s e v = record { start = s; end = e; value = v }
 
 -- a part of the places: the first, and how many
-abbrev pub part : ℕ → ℕ → Part
-part i n = record { place = i; count = n }
+abbrev pub places_from : ℕ → ℕ → Part
+places_from i n = record { place = i; count = n }
 
 -- yes or no
 abbrev pub Asked : Type 0
@@ -26,8 +26,8 @@ abbrev pub Found : Type 0
 Found = Result (Option Entry) Refusal
 
 -- a part of the places
-abbrev pub Placed : Type 0
-Placed = Result Part Refusal
+abbrev pub Located : Type 0
+Located = Result Part Refusal
 
 -- how two maps compare
 abbrev pub Compared : Type 0

@@ -3,7 +3,7 @@ use Rattle.std.specs.Prelude.{true, false, pos, negsuc, Ok, Err, Some, None}
 use Rattle.answers.specs.Answers.{done, none_there}
 use Rattle.answers.specs.Refusals.{number}
 use Rattle.std.specs.declared.cmp.Ordering.TheVariants.{Less, Equal, Greater}
-use Rattle.outcomes.specs.Answered.{Asked, Counted, Found, Placed, Compared, Totalled}
+use Rattle.outcomes.specs.Answered.{Asked, Counted, Found, Located, Compared, Totalled}
 use Rattle.outcomes.specs.declared.Told.{Told}
 use Rattle.outcomes.specs.declared.Count.{Count}
 use Rattle.outcomes.specs.declared.Range.{Range}
@@ -24,7 +24,7 @@ found_in_c (Ok (Some x)) = record { answer = done; start = x.start; end = x.end;
 found_in_c (Ok None) = record { answer = none_there; start = pos 0; end = pos 0; value = 0 }
 found_in_c (Err why) = record { answer = number why; start = pos 0; end = pos 0; value = 0 }
 
-abbrev pub part_in_c : Placed → Stretch
+abbrev pub part_in_c : Located → Stretch
 part_in_c (Ok p) = record { answer = done; place = p.place; count = p.count }
 part_in_c (Err why) = record { answer = number why; place = 0; count = 0 }
 

@@ -17,7 +17,7 @@ use Rattle.outcomes.specs.Stored.{places, ranges, storing, well_formed}
 use Rattle.outcomes.specs.declared.Stored.{Stored}
 use Rattle.key.specs.declared.Entry.{Entry}
 use Rattle.outcomes.specs.Answered.{entry}
-use Rattle.outcomes.specs.Answered.{Asked, Counted, Found, Placed, Compared, part}
+use Rattle.outcomes.specs.Answered.{Asked, Counted, Found, Located, Compared, places_from}
 use Rattle.outcomes.specs.declared.Applied.{Applied}
 use Rattle.outcomes.specs.declared.Count.{Count}
 use Rattle.outcomes.specs.Numbers.{counted_in_c}
@@ -47,8 +47,8 @@ how_many p [] = 0
 how_many p (x ∷ xs) = cond (p x) (suc (how_many p xs)) (how_many p xs)
 
 -- the part that passes a test: no part is place 0, count 0
-unfoldable pub part_of : (Span → Bool) → List Span → Placed
-part_of p xs = let n = how_many p xs in cond (eqb n 0) (Ok (part 0 0)) (Ok (part (first_place p xs) n))
+unfoldable pub part_of : (Span → Bool) → List Span → Located
+part_of p xs = let n = how_many p xs in cond (eqb n 0) (Ok (places_from 0 0)) (Ok (places_from (first_place p xs) n))
 
 -- the entries of three lent lists: as many as the shortest has
 unfoldable pub entries : List ℤ → List ℤ → List ℕ → List Entry
@@ -123,7 +123,7 @@ module _ (kind : Kind) where
   overlaps_sound m s e = let q = span_of kind s e 0 in cond (empty q) (Err EmptyRange) (yes_no (any (spans_overlap q) (ranges kind m)))
 
   -- which consecutive stored part meets the query
-  unfoldable pub overlapping_sound : Stored → ℤ → ℤ → Placed
+  unfoldable pub overlapping_sound : Stored → ℤ → ℤ → Located
   overlapping_sound m s e = let q = span_of kind s e 0 in cond (empty q) (Err EmptyRange) (part_of (spans_overlap q) (ranges kind m))
 
   -- ranges into the first places of two lent lists, if these are long enough: they are as long as the shorter one
@@ -200,7 +200,7 @@ module _ (kind : Kind) where
   overlaps m s e = cond (formed m) (overlaps_sound m s e) (Err NotFormed)
 
   -- OVERLAPPING
-  unfoldable pub overlapping : Stored → ℤ → ℤ → Placed
+  unfoldable pub overlapping : Stored → ℤ → ℤ → Located
   overlapping m s e = cond (formed m) (overlapping_sound m s e) (Err NotFormed)
 
   -- GAPS

@@ -15,7 +15,7 @@ use Rattle.outcomes.specs.Outcomes.{Change, Written, into_lists, yes_no, compare
 use Rattle.outcomes.specs.Outcomes.{is_empty, count_of, range_at, first_of, last_of, lookup, contains, overlaps, overlapping, gaps, equal, order}
 use Rattle.outcomes.specs.Sets.{SoundSet, intersection, union}
 use Rattle.outcomes.specs.declared.Part.{Part}
-use Rattle.outcomes.specs.Answered.{Placed}
+use Rattle.outcomes.specs.Answered.{Located}
 use Rattle.rust_algorithm.specs.Btree.{nth}
 use Rattle.rust_algorithm.specs.Map.{map_first, map_last, map_len, map_is_empty}
 use Rattle.rust_algorithm.specs.Answers.{Functions, related_by, common_by, rust_found, rust_run}
@@ -26,7 +26,7 @@ pub record LentMap (kind : Kind) (m : Stored) : Type 0 where
   pub full_size : length m.starts ≡ places
 
 -- a part of a map's places: those are the entries that the Rust gives
-pub record PartGiven (xs : List Span) (answer : Placed) (given : List Span) : Type 0 where
+pub record PartGiven (xs : List Span) (answer : Located) (given : List Span) : Type 0 where
   pub part : Part
   pub told : answer ≡ Ok part
   pub same : take part.count (drop part.place xs) ≡ given

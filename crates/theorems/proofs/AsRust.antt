@@ -31,7 +31,7 @@ use Rattle.outcomes.specs.Answered.{Asked}
 use Rattle.outcomes.specs.declared.Count.{Count}
 use Rattle.outcomes.specs.Answered.{Counted}
 use Rattle.outcomes.specs.Answered.{Found}
-use Rattle.outcomes.specs.Answered.{Placed}
+use Rattle.outcomes.specs.Answered.{Located}
 use Rattle.rust_algorithm.specs.Answers.{Functions, rust_edited, rust_run}
 use Rattle.rust_algorithm.specs.Equal.{LentMap, ListGiven, EqualToTheRust, entry_spans}
 use Rattle.one_map.specs.Events.{Proper}
@@ -77,7 +77,7 @@ record StructAnswers : Type 0 where
   get : ℤ → Found
   contains : ℤ → Asked
   overlaps : ℤ → ℤ → Asked
-  overlapping : ℤ → ℤ → Placed
+  overlapping : ℤ → ℤ → Located
   gaps : ℤ → ℤ → List ℤ → List ℤ → Written
 
 -- THE LAW, for any struct: its answers, as C has them, are the Rust's on the ranges of m

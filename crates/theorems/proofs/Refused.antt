@@ -17,7 +17,7 @@ use Rattle.outcomes.specs.Answered.{Counted}
 use Rattle.outcomes.specs.declared.Count.{Count}
 use Rattle.outcomes.specs.Answered.{Found}
 use Rattle.outcomes.specs.declared.Range.{Range}
-use Rattle.outcomes.specs.Answered.{Placed}
+use Rattle.outcomes.specs.Answered.{Located}
 use Rattle.outcomes.specs.declared.Stretch.{Stretch}
 use Rattle.outcomes.specs.Answered.{Compared}
 use Rattle.outcomes.specs.declared.Order.{Order}
@@ -48,7 +48,7 @@ pub range_refused : (a : Found) (r : Range) → r ≡ found_in_c a → Refuses r
 range_refused a r q n = rw q (range_zero a (subst (λ (x : Range). Refuses x.answer) q n))
 
 -- a part of the places
-pub stretch_refused : (a : Placed) (r : Stretch) → r ≡ part_in_c a → Refuses r.answer → (r.place ≡ 0) × (r.count ≡ 0)
+pub stretch_refused : (a : Located) (r : Stretch) → r ≡ part_in_c a → Refuses r.answer → (r.place ≡ 0) × (r.count ≡ 0)
 stretch_refused a r q n = rw q (stretch_zero a (subst (λ (x : Stretch). Refuses x.answer) q n))
 
 -- an order
