@@ -44,6 +44,7 @@ pub fn put_clock(out: &mut [u8], at: usize, width: usize, n: u64) -> usize
 }
 
 // The nearest ten-thousandths of an hour of some seconds.
+#[tactic(auto, unfolding(crate::specs::Times::ten_thousandths))]
 fn ten_thousandths(n: u64) -> u64
     requires { n < 3600 }
     ensures { result ≡ ten_thousandths n }
@@ -108,23 +109,18 @@ pub fn put_name_column(out: &mut [u8], at: usize, name: &[u8]) -> usize
 }
 
 // The name of a row.
+#[tactic(auto, unfolding(crate::specs::Rows::row_name))]
 pub fn put_name(out: &mut [u8], at: usize, row: usize) -> usize
     requires { (row < row_count) × (at + name_room ≤ length out.old) }
     ensures { AddsWithin name_room (row_name row) out.old at out.new result }
 {
-    if row == 0 {
-        return put(out, at, b"off duty");
+    match row {
+        0 => put(out, at, b"off duty"),
+        1 => put(out, at, b"sleeper berth"),
+        2 => put(out, at, b"driving"),
+        3 => put(out, at, b"on duty"),
+        _ => put(out, at, b"unrecorded"),
     }
-    if row == 1 {
-        return put(out, at, b"sleeper berth");
-    }
-    if row == 2 {
-        return put(out, at, b"driving");
-    }
-    if row == 3 {
-        return put(out, at, b"on duty");
-    }
-    put(out, at, b"unrecorded")
 }
 
 // The name of a row in its columns.
@@ -137,34 +133,31 @@ pub fn put_row_column(out: &mut [u8], at: usize, row: usize) -> usize
 }
 
 // The seconds of a row.
+#[tactic(auto, unfolding(crate::specs::Rows::row_of))]
 pub fn seconds_of(t: Totals, row: usize) -> u32
     requires { row < row_count }
     ensures { result ≡ row_of t row }
 {
-    if row == 0 {
-        return t.off_duty;
-    }
-    if row == 1 {
-        return t.sleeper_berth;
-    }
-    if row == 2 {
-        return t.driving;
-    }
-    if row == 3 {
-        return t.on_duty;
-    }
-    t.unrecorded
+    let seconds = [
+        t.off_duty,
+        t.sleeper_berth,
+        t.driving,
+        t.on_duty,
+        t.unrecorded,
+    ];
+    seconds[row]
 }
 
 // All five added up.
+#[tactic(auto, unfolding(crate::specs::Rows::sum_seconds))]
 pub fn sum_of(t: Totals) -> u64
     ensures { result ≡ sum_seconds t }
 {
-    t.off_duty as u64
-        + t.sleeper_berth as u64
-        + t.driving as u64
-        + t.on_duty as u64
-        + t.unrecorded as u64
+    u64::from(t.off_duty)
+        + u64::from(t.sleeper_berth)
+        + u64::from(t.driving)
+        + u64::from(t.on_duty)
+        + u64::from(t.unrecorded)
 }
 
 // The seconds from the start of a range up to its end: none if that lies before. A difference of ranks never wraps.
@@ -173,10 +166,7 @@ pub fn seconds_between(range: Bounds) -> u64
 {
     let from = key::rank_of(range.start);
     let to = key::rank_of(range.end);
-    if from < to {
-        return to - from;
-    }
-    0
+    to.saturating_sub(from)
 }
 
 // The line of a key.
@@ -204,7 +194,7 @@ fn put_row_line(out: &mut [u8], at: usize, row: usize, n: u32) -> usize
     ensures { AddsWithin report_line_room (seconds_line (row_name row) n) out.old at out.new result }
 {
     let to = put_row_column(out, at, row);
-    put_times(out, to, n as u64)
+    put_times(out, to, u64::from(n))
 }
 
 // The lines of the five rows.
@@ -213,10 +203,8 @@ fn put_rows(out: &mut [u8], at: usize, t: Totals) -> usize
     ensures { AddsWithin (row_count * report_line_room) (row_lines t) out.old at out.new result }
 {
     let mut to = at;
-    let mut row = 0;
-    while row < ROWS {
+    for row in 0..ROWS {
         to = put_row_line(out, to, row, seconds_of(t, row));
-        row += 1;
     }
     to
 }
