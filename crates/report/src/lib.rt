@@ -16,7 +16,7 @@ use outcomes::Stored;
 use store::check::well_formed;
 
 // A day that is reported: its start and end, and the seconds of each duty in it.
-#[derive(Clone, Copy)]
+#[derive(Clone, Copy, Debug, PartialEq, Eq)]
 pub struct DayTotals {
     pub day: Bounds,
     pub totals: Totals,
