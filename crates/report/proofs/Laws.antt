@@ -8,14 +8,15 @@ use mathlib.Core.Bool.{Bool, true, false, cond}
 use mathlib.Core.List.{List}
 use mathlib.Core.Option.{some, none}
 use lib.IntN.{ℤ}
-use Rattle.std.specs.Prelude.{Ok, Err}
-use Rattle.answers.specs.Answers.{bad_status}
+use Rattle.std.specs.Prelude.{Result, Ok, Err}
+use Rattle.answers.specs.declared.Refusal.{Refusal}
 use Rattle.answers.specs.declared.Refusal.TheVariants.{NotFormed, BadDay, BadStatus}
 use Rattle.span.specs.Span.{Span, inside, at, Ordered}
 use Rattle.span.specs.Labels.{through, passed}
 use Rattle.span.specs.Operations.{count, unless}
 use Rattle.key.specs.Rank.{rank}
 use Rattle.key.specs.Range.{half_open}
+use Rattle.key.specs.declared.Bounds.{Bounds}
 use Rattle.outcomes.specs.Stored.{places, ranges}
 use Rattle.outcomes.specs.declared.Stored.{Stored}
 use Rattle.outcomes.specs.Outcomes.{formed}
@@ -24,11 +25,10 @@ use Rattle.hours.specs.Hours.{hours_of, Nearest}
 use Rattle.hours.proofs.Near.{hours_nearest}
 use Rattle.duty.specs.Duty.{is_off_duty, is_sleeper_berth, is_driving, is_on_duty, seconds_of, unrecorded_of, strange, totals_of, tally_sound}
 use Rattle.duty.specs.declared.Totals.{Totals}
-use Rattle.duty.specs.declared.Tallied.{Tallied}
 use Rattle.duty.proofs.Instants.{seconds_instants, unrecorded_instants}
 use Rattle.duty.proofs.Sums.{duties_sum, unrecorded_free, free_unrecorded}
-use Rattle.log_day.specs.Days.{day_of}
-use Rattle.log_day.specs.declared.Day.{Day}
+use Rattle.log_day.specs.Days.{bounds, day_of}
+use Rattle.log_day.proofs.Spans.{refused_is}
 use Rattle.report.specs.Report.{day_totals, with_keys, day_report_sound, day_report}
 use Rattle.report.specs.declared.DayTotals.{DayTotals}
 use Rattle.report.proofs.Returns.{Window, day_window}
@@ -36,13 +36,13 @@ use Rattle.report.proofs.Returns.{Window, day_window}
 -- a report that is no refusal: the map is well formed, the day is the date's, no strange status is in it, and its seconds are counted
 pub record Told (m : Stored) (z y mo d : ℕ) (s e : ℤ) (t : Totals) : Type 0 where
   pub well : formed half_open m ≡ true
-  pub day : day_of z y mo d ≡ Day.Span s e
+  pub day : day_of z y mo d ≡ Ok (bounds s e)
   pub calm : strange (rank s) (rank e) (ranges half_open m) ≡ false
   pub totals : t ≡ totals_of (rank s) (rank e) (ranges half_open m)
 
 module _ (m : Stored) (z y mo d : ℕ) {s e : ℤ} {t : Totals} where
-  of_tally : (b : Bool) (s' e' : ℤ) → formed half_open m ≡ true → day_of z y mo d ≡ Day.Span s' e' → strange (rank s') (rank e') (ranges half_open m) ≡ b
-      → with_keys s' e' (cond b (Tallied.Refused bad_status) (Tallied.Seconds (totals_of (rank s') (rank e') (ranges half_open m)))) ≡ Ok (day_totals s e t) → Told m z y mo d s e t
+  of_tally : (b : Bool) (s' e' : ℤ) → formed half_open m ≡ true → day_of z y mo d ≡ Ok (bounds s' e') → strange (rank s') (rank e') (ranges half_open m) ≡ b
+      → with_keys s' e' (cond b (Err BadStatus) (Ok (totals_of (rank s') (rank e') (ranges half_open m)))) ≡ Ok (day_totals s e t) → Told m z y mo d s e t
   of_tally true s' e' w h c q = cc
   of_tally false s' e' w h c q =
       let r : day_totals s' e' (totals_of (rank s') (rank e') (ranges half_open m)) ≡ day_totals s e t = cc in
@@ -51,10 +51,10 @@ module _ (m : Stored) (z y mo d : ℕ) {s e : ℤ} {t : Totals} where
       let u : totals_of (rank s') (rank e') (ranges half_open m) ≡ t = ap (λ (x : DayTotals). x.totals) r in
       record { well = w; day = rw (← a, ← b) h; calm = rw (← a, ← b) c; totals = sym (rw (a, b) at u) }
 
-  of_day : (x : Day) → formed half_open m ≡ true → day_of z y mo d ≡ x → day_report_sound m x ≡ Ok (day_totals s e t) → Told m z y mo d s e t
+  of_day : (x : Result Bounds Refusal) → formed half_open m ≡ true → day_of z y mo d ≡ x → day_report_sound m x ≡ Ok (day_totals s e t) → Told m z y mo d s e t
   unfolding tally_sound
-  of_day (Day.Span s' e') w h q = of_tally (strange (rank s') (rank e') (ranges half_open m)) s' e' w h refl q
-  of_day (Day.Refused n) w h q = cc
+  of_day (Ok b) w h q = of_tally (strange (rank b.start) (rank b.end) (ranges half_open m)) b.start b.end w h refl q
+  of_day (Err why) w h q = cc
 
   pub told : day_report m z y mo d ≡ Ok (day_totals s e t) → Told m z y mo d s e t
   unfolding day_report
@@ -69,11 +69,11 @@ pub not_formed_lem : (m : Stored) (z y mo d : ℕ) → formed half_open m ≡ fa
 unfolding day_report
 not_formed_lem m z y mo d h = rw h
 
-pub no_day_lem : (m : Stored) (z y mo d n : ℕ) → formed half_open m ≡ true → day_of z y mo d ≡ Day.Refused n → day_report m z y mo d ≡ Err BadDay
+pub no_day_lem : (m : Stored) (z y mo d : ℕ) {why : Refusal} → formed half_open m ≡ true → day_of z y mo d ≡ Err why → day_report m z y mo d ≡ Err BadDay
 unfolding day_report
-no_day_lem m z y mo d n h q = rw (h, q)
+no_day_lem m z y mo d h q = rw (h, q, refused_is z y mo d q)
 
-pub strange_day : (m : Stored) (z y mo d : ℕ) (s e : ℤ) → formed half_open m ≡ true → day_of z y mo d ≡ Day.Span s e → strange (rank s) (rank e) (ranges half_open m) ≡ true
+pub strange_day : (m : Stored) (z y mo d : ℕ) (s e : ℤ) → formed half_open m ≡ true → day_of z y mo d ≡ Ok (bounds s e) → strange (rank s) (rank e) (ranges half_open m) ≡ true
     → day_report m z y mo d ≡ Err BadStatus
 unfolding day_report tally_sound
 strange_day m z y mo d s e h q c = rw (h, q, c)

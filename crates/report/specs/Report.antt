@@ -4,16 +4,15 @@ use Rattle.std.specs.Prelude.{ℕ, cond, Result, Ok, Err, ℤ, pos}
 use Rattle.answers.specs.Answers.{done}
 use Rattle.answers.specs.Refusals.{number}
 use Rattle.answers.specs.declared.Refusal.{Refusal}
-use Rattle.answers.specs.declared.Refusal.TheVariants.{NotFormed, BadDay, BadStatus}
+use Rattle.answers.specs.declared.Refusal.TheVariants.{NotFormed}
 use Rattle.key.specs.Range.{half_open}
+use Rattle.key.specs.declared.Bounds.{Bounds}
 use Rattle.outcomes.specs.declared.Stored.{Stored}
 use Rattle.outcomes.specs.Outcomes.{formed}
 use Rattle.hours.specs.Hours.{hours_of}
 use Rattle.duty.specs.Duty.{tally_sound}
 use Rattle.duty.specs.declared.Totals.{Totals}
-use Rattle.duty.specs.declared.Tallied.{Tallied}
 use Rattle.log_day.specs.Days.{day_of}
-use Rattle.log_day.specs.declared.Day.{Day}
 use Rattle.report.specs.declared.DayTotals.{DayTotals}
 use Rattle.report.specs.declared.DayReport.{DayReport}
 
@@ -25,15 +24,15 @@ day_totals s e t = record { day = record { start = s; end = e }; totals = t }
 abbrev pub Reported : Type 0
 Reported = Result DayTotals Refusal
 
--- the seconds between two keys, with the keys. What is refused there is a status
-abbrev pub with_keys : ℤ → ℤ → Tallied → Reported
-with_keys s e (Tallied.Seconds t) = Ok (day_totals s e t)
-with_keys s e (Tallied.Refused n) = Err BadStatus
+-- the seconds between two keys, with the keys
+abbrev pub with_keys : ℤ → ℤ → Result Totals Refusal → Reported
+with_keys s e (Ok t) = Ok (day_totals s e t)
+with_keys s e (Err why) = Err why
 
 -- of a well-formed map and a day
-abbrev pub day_report_sound : Stored → Day → Reported
-day_report_sound m (Day.Span s e) = with_keys s e (tally_sound m s e)
-day_report_sound m (Day.Refused n) = Err BadDay
+abbrev pub day_report_sound : Stored → Result Bounds Refusal → Reported
+day_report_sound m (Ok day) = with_keys day.start day.end (tally_sound m day.start day.end)
+day_report_sound m (Err why) = Err why
 
 -- A DAY'S REPORT of any map, zone and date
 unfoldable pub day_report : Stored → ℕ → ℕ → ℕ → ℕ → Reported

@@ -5,13 +5,12 @@ ghost use Rattle.std.specs.Prelude.{◌≡◌};
 ghost use Rattle.key.specs.Range.{half_open};
 ghost use Rattle.outcomes.specs.Stored.{Sound};
 ghost use Rattle.log_day.specs.Days.{day_of};
-ghost use Rattle.report.specs.Report.{with_keys, day_report_sound, day_report, reported_in_c};
+ghost use Rattle.report.specs.Report.{day_report_sound, day_report, reported_in_c};
 
 use answers::{DONE, Refusal};
-use duty::{Tallied, Totals};
+use duty::Totals;
 use hours::hours;
 use key::{Bounds, RangeKind};
-use log_day::Day;
 use outcomes::Stored;
 use store::check::well_formed;
 
@@ -82,31 +81,17 @@ impl From<Result<DayTotals, Refusal>> for DayReport {
     }
 }
 
-// The seconds of a window, with its keys.
-fn with_keys(window: Bounds, t: Tallied) -> Result<DayTotals, Refusal>
-    ensures { result ≡ with_keys window.start window.end t }
-{
-    match t {
-        Tallied::Seconds(totals) => Ok(DayTotals {
-            day: window,
-            totals,
-        }),
-        Tallied::Refused(_) => Err(Refusal::BadStatus),
-    }
-}
-
 // The report of a well-formed map. The caller answers for the check.
 pub fn unchecked(m: &Stored, zone: u8, year: u16, month: u8, day: u8) -> Result<DayTotals, Refusal>
     requires { Sound half_open m.now }
     ensures { result ≡ day_report_sound m.now (day_of zone year month day) }
 {
-    match log_day::day_of(zone, year, month, day) {
-        Day::Span(start, end) => {
-            let window = Bounds { start, end };
-            with_keys(window, duty::between(m, window))
-        }
-        Day::Refused(_) => Err(Refusal::BadDay),
-    }
+    let bounds = log_day::day_of(zone, year, month, day)?;
+    let totals = duty::between(m, bounds)?;
+    Ok(DayTotals {
+        day: bounds,
+        totals,
+    })
 }
 
 // The report of any map, over all its fields.
