@@ -1,9 +1,7 @@
 -- THE TWO ENTRIES AGREE: the answer for one instant is whether the written ranges, read back from the lent lists, cover it.
 -- And what is written is the result: the true instants of the window in maximal ranges, the only list of that kind.
 use Prim.Native.Nat.{ℕ, min}
-use native.Mathlib.Omega.{arith}
 use mathlib.Core.Path.{◌≡◌, ap, subst}
-use mathlib.Core.Bool.{Bool, true, false}
 use mathlib.Core.List.{List}
 use lib.ListN.{length}
 use lib.IntN.{ℤ}
@@ -32,24 +30,22 @@ use Rattle.query.specs.Answers.{result_of, query_ranges_sound, query_at_sound, q
 use Rattle.query.proofs.ReadBack.{read_back}
 use Rattle.query.proofs.ByCases.{Asks, is_in, Answered, refusal, shown, queried_answers, querying_answers}
 use Rattle.std.specs.Prelude.{Ok, Err}
+use Rattle.answers.specs.declared.Refusal.{Refusal}
+use Rattle.answers.specs.declared.Refusal.TheVariants.{TooShort}
 
 -- the ranges in the first n places of the two lists
 abbrev pub written_ranges : ℕ → Written → List Span
 written_ranges n w = column_rows half_open w.starts w.ends n
 
--- a refusal is no count, and yes or no is no refusal
-pub refused_counted : {A : Type 0} {m n : ℕ} → Err m ≡ Ok n → A
-refused_counted e = absurd (let z : ◌≡◌ {A = ℕ} 0 1 = cc in omega arith)
-
-told_refused : {A : Type 0} (t : Bool) {n : ℕ} → yes_no t ≡ Err n → A
-told_refused true e = absurd (let z : ◌≡◌ {A = ℕ} 0 1 = cc in omega arith)
-told_refused false e = absurd (let z : ◌≡◌ {A = ℕ} 0 1 = cc in omega arith)
+-- a refusal is no count
+pub refused_counted : {A : Type 0} {why : Refusal} {n : ℕ} → ◌≡◌ {A = Counted} (Err why) (Ok n) → A
+refused_counted e = absurd cc
 
 -- a list that is not written is too long
-pub writing_refused : (xs : List Span) (os oe : List ℤ) (n : ℕ) → (into_lists half_open xs os oe).answer ≡ Err n → n ≡ 3
+pub writing_refused : (xs : List Span) (os oe : List ℤ) (why : Refusal) → (into_lists half_open xs os oe).answer ≡ Err why → why ≡ TooShort
 unfolding into_lists
-writing_refused xs os oe n = lt_cases (min (length os) (length oe)) (length xs) (λ (w : Written). w.answer ≡ Err n → n ≡ 3)
-    (λ h e. cc) (λ h e. absurd (let z : ◌≡◌ {A = ℕ} 0 1 = cc in omega arith))
+writing_refused xs os oe why = lt_cases (min (length os) (length oe)) (length xs) (λ (w : Written). w.answer ≡ Err why → why ≡ TooShort)
+    (λ h e. cc) (λ h e. cc)
 
 module _ {a b : Stored} {s e : ℤ} {bytes : List ℕ} {q : Query} (asks : Asks a b s e bytes q) where
   -- the result is a list that can be written and read back
@@ -105,15 +101,15 @@ module _ {a b : Stored} {s e : ℤ} {bytes : List ℕ} {os oe : List ℤ} {k : �
   answered_agree (shown q asks) n c = rw (comes_back asks os oe n c, covers_where asks k)
 
   -- what refuses the instant refuses the list
-  pub answered_at : {w : Written} {t : Asked} → Answered a b s e bytes os oe k w t → (n : ℕ) → t ≡ Err n → w ≡ not_written n os oe
-  answered_at (refusal m r) n c = let same : m ≡ n = cc in ap (λ (i : ℕ). not_written i os oe) same
-  answered_at (shown q asks) n c = told_refused (is_in a b s e q k) c
+  pub answered_at : {w : Written} {t : Asked} → Answered a b s e bytes os oe k w t → (why : Refusal) → t ≡ Err why → w ≡ not_written why os oe
+  answered_at (refusal m r) why c = let same : m ≡ why = cc in ap (λ (i : Refusal). not_written i os oe) same
+  answered_at (shown q asks) why c = cc
 
   -- what refuses the list refuses the instant, but for want of room
-  pub answered_list : {w : Written} {t : Asked} → Answered a b s e bytes os oe k w t → (n : ℕ) → (n ≡ 3 → ⊥)
-      → w.answer ≡ Err n → t ≡ Err n
-  answered_list (refusal m r) n other c = let same : m ≡ n = cc in ap (λ (i : ℕ). Err i) same
-  answered_list (shown q asks) n other c = absurd (other (writing_refused (result_of a b s e q) os oe n c))
+  pub answered_list : {w : Written} {t : Asked} → Answered a b s e bytes os oe k w t → (why : Refusal) → (why ≡ TooShort → ⊥)
+      → w.answer ≡ Err why → t ≡ Err why
+  answered_list (refusal m r) why other c = cc
+  answered_list (shown q asks) why other c = absurd (other (writing_refused (result_of a b s e q) os oe why c))
 
 -- OF ANY MAPS
 module _ (a b : Stored) (s e : ℤ) (bytes : List ℕ) (os oe : List ℤ) where
@@ -128,10 +124,11 @@ module _ (a b : Stored) (s e : ℤ) (bytes : List ℕ) (os oe : List ℤ) where
       → query_at a b s e bytes k ≡ yes_no (covers (written_ranges n (query_ranges a b s e bytes os oe)) (rank k))
   entries_agree k = answered_agree (querying_answers a b s e bytes os oe k)
 
-  pub refused_at : (k : ℤ) (n : ℕ) → query_at a b s e bytes k ≡ Err n → query_ranges a b s e bytes os oe ≡ not_written n os oe
+  pub refused_at : (k : ℤ) (why : Refusal) → query_at a b s e bytes k ≡ Err why → query_ranges a b s e bytes os oe ≡ not_written why os oe
   refused_at k = answered_at (querying_answers a b s e bytes os oe k)
 
-  pub refused_list : (k : ℤ) (n : ℕ) → (n ≡ 3 → ⊥) → (query_ranges a b s e bytes os oe).answer ≡ Err n → query_at a b s e bytes k ≡ Err n
+  pub refused_list : (k : ℤ) (why : Refusal) → (why ≡ TooShort → ⊥) → (query_ranges a b s e bytes os oe).answer ≡ Err why
+      → query_at a b s e bytes k ≡ Err why
   refused_list k = answered_list (querying_answers a b s e bytes os oe k)
 
 -- OF WELL-FORMED MAPS: what the unchecked doors promise

@@ -6,7 +6,6 @@ use mathlib.Core.Bool.{◌&&◌}
 use mathlib.Core.List.{List}
 use lib.ListN.{length, length-take}
 use lib.IntN.{ℤ}
-use Rattle.answers.specs.Answers.{too_short, not_formed}
 use Rattle.span.specs.Span.{Span}
 use Rattle.span.proofs.Tests.{both, cases, lt_cases}
 use Rattle.key.specs.Rank.{rank}
@@ -44,7 +43,7 @@ module _ (xs : List Span) (os oe : List ℤ) where
   writing_room : length xs ≤ length os → length xs ≤ length oe → (into_lists half_open xs os oe).answer ≡ Err TooShort → ⊥
   unfolding into_lists
   writing_room p q = lt_cases (min (length os) (length oe)) (length xs) (λ (w : Written). w.answer ≡ Err TooShort → ⊥)
-      (λ h c. omega arith) (λ h c. let z : ◌≡◌ {A = ℕ} 0 1 = cc in omega arith)
+      (λ h c. omega arith) (λ h c. cc)
 
 -- of either door
 module _ {a b : Stored} {s e : ℤ} {bytes : List ℕ} {os oe : List ℤ} {k : ℤ} where
@@ -54,7 +53,7 @@ module _ {a b : Stored} {s e : ℤ} {bytes : List ℕ} {os oe : List ℤ} {k : �
 
   pub answered_room : {w : Written} {t : Asked} → Answered a b s e bytes os oe k w t → a.count + b.count + 1 ≤ length os → a.count + b.count + 1 ≤ length oe
       → w.answer ≡ Err TooShort → ⊥
-  answered_room (refusal m r) p q c = r.not_short cc
+  answered_room (refusal m r) p q c = r cc
   answered_room (shown x asks) p q c = writing_room (result_of a b s e x) os oe (omega (arith, result_few asks)) (omega (arith, result_few asks)) c
 
 -- of any maps
@@ -69,10 +68,10 @@ module _ (a b : Stored) (s e : ℤ) (bytes : List ℕ) (os oe : List ℤ) where
 
   pub written_few : (n : ℕ) → (query_ranges a b s e bytes os oe).answer ≡ Ok n → n ≤ 2 * places + 1
   written_few n c =
-      let (x, y) = not_refused (λ r. let z : ◌≡◌ {A = ℕ} 0 1 = cc in omega arith) in
+      let (x, y) = not_refused (λ r. cc) in
       omega (arith, answered_few (querying_answers a b s e bytes os oe s) n c)
 
   pub room_enough : 2 * places + 1 ≤ length os → 2 * places + 1 ≤ length oe → (query_ranges a b s e bytes os oe).answer ≡ Err TooShort → ⊥
   room_enough p q c =
-      let (x, y) = not_refused (λ r. let z : ◌≡◌ {A = ℕ} 3 4 = cc in omega arith) in
+      let (x, y) = not_refused (λ r. cc) in
       answered_room (querying_answers a b s e bytes os oe s) (omega arith) (omega arith) c

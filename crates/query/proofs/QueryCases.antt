@@ -6,7 +6,6 @@ use mathlib.Core.Path.{◌≡◌, refl, sym, ap, ◌∙◌}
 use mathlib.Core.Bool.{Bool, true, false}
 use mathlib.Core.List.{List, [], ◌∷◌, map}
 use lib.IntN.{ℤ, pos, negsuc}
-use Rattle.answers.specs.Answers.{empty_range, too_short, not_formed, bad_query}
 use Rattle.span.specs.Span.{inside, at, keep, before, after, joins, tidy, push, joined, given, history}
 use Rattle.span.specs.Labels.{relabelled}
 use Rattle.span.specs.Operations.{puts, cuts, uncovered, laid_over, within, common_parts, common, chosen}

@@ -6,7 +6,6 @@ use mathlib.Core.List.{List}
 use borrow.Author.Tests.{ltb-true}
 use lib.Dec.{ltb}
 use lib.IntN.{ℤ}
-use Rattle.answers.specs.Answers.{empty_range, not_formed}
 use Rattle.span.specs.Span.{Span, Tidy, at}
 use Rattle.span.specs.Operations.{laid_over, span_total}
 use Rattle.span.proofs.Tests as tests

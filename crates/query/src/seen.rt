@@ -1,13 +1,13 @@
 // What one map holds from a key on, as a walk along the instants sees it.
-ghost use Rattle.std.specs.Prelude.{◌≡◌, ◌≤◌, ◌<◌, min};
+ghost use Rattle.std.specs.Prelude.{◌≡◌, ◌<◌, min};
 ghost use Rattle.key.specs.Rank.{rank};
 ghost use Rattle.key.specs.Range.{half_open};
 ghost use Rattle.outcomes.specs.Stored.{Sound};
-ghost use Rattle.query.specs.InnerColumns.{columns, spans_of};
+ghost use Rattle.query.specs.InnerColumns.{spans_of};
 ghost use Rattle.query.specs.InnerSeen.{Trails, Standing, Sees};
 
-use outcomes::Stored;
 use key::Value;
+use outcomes::Stored;
 
 // The class of a value over 9, and of nothing held.
 const OTHER: usize = 10;
@@ -23,38 +23,28 @@ pub struct Seen {
 fn class_of(value: Value) -> usize
     ensures { result ≡ min value 10 }
 {
-    if value < 10 { value as usize } else { OTHER }
+    (value as usize).min(OTHER)
 }
 
 // The first place whose range ends after a key. The ranges before `place` do not.
-fn caught_up(
-    m: &Stored,
-    place: usize,
-    key: i64,
-) -> usize
-    requires { Sound half_open (columns count m.now.starts m.now.ends m.now.values) × Trails (spans_of count m.now.starts m.now.ends m.now.values) place (rank key) }
-    ensures { Standing (spans_of count m.now.starts m.now.ends m.now.values) result (rank key) }
+#[tactic(auto, using(crate::proofs::Looks::held))]
+fn caught_up(m: &Stored, place: usize, key: i64) -> usize
+    requires { Sound half_open m.now × Trails (spans_of m.now) place (rank key) }
+    ensures { Standing (spans_of m.now) result (rank key) }
 {
-    let mut here = place;
-    while here < m.count {
+    for here in place..m.count {
         if key < m.ends[here] {
             return here;
         }
-        here += 1;
     }
-    here
+    m.count
 }
 
 // What a map holds from a key on, as far as that goes on before `end`. `place` is the first place whose range ends after the key.
-fn seen_at(
-    m: &Stored,
-    place: usize,
-    key: i64,
-    end: i64,
-) -> Seen
-    requires { Sound half_open (columns count m.now.starts m.now.ends m.now.values)
-        × Standing (spans_of count m.now.starts m.now.ends m.now.values) place (rank key) × (rank key < rank end) }
-    ensures { Sees (spans_of count m.now.starts m.now.ends m.now.values) (rank key) (rank end) (rank result.until) result.class result.place }
+#[tactic(auto, using(crate::proofs::Looks::held))]
+fn seen_at(m: &Stored, place: usize, key: i64, end: i64) -> Seen
+    requires { Sound half_open m.now × Standing (spans_of m.now) place (rank key) × (rank key < rank end) }
+    ensures { Sees (spans_of m.now) (rank key) (rank end) (rank result.until) result.class result.place }
 {
     if place >= m.count {
         return Seen {
@@ -79,15 +69,9 @@ fn seen_at(
 }
 
 // The same from a place that trails the key.
-pub fn look(
-    m: &Stored,
-    place: usize,
-    key: i64,
-    end: i64,
-) -> Seen
-    requires { Sound half_open (columns count m.now.starts m.now.ends m.now.values)
-        × Trails (spans_of count m.now.starts m.now.ends m.now.values) place (rank key) × (rank key < rank end) }
-    ensures { Sees (spans_of count m.now.starts m.now.ends m.now.values) (rank key) (rank end) (rank result.until) result.class result.place }
+pub fn look(m: &Stored, place: usize, key: i64, end: i64) -> Seen
+    requires { Sound half_open m.now × Trails (spans_of m.now) place (rank key) × (rank key < rank end) }
+    ensures { Sees (spans_of m.now) (rank key) (rank end) (rank result.until) result.class result.place }
 {
     let here = caught_up(m, place, key);
     seen_at(m, here, key, end)

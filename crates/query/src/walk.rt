@@ -1,13 +1,11 @@
 // THE WALK along the instants of two half-open maps: where it stands, and where the query changes between true and false.
 ghost use Rattle.std.specs.Prelude.{◌≡◌, true, ◌≤◌, ◌<◌};
 ghost use Rattle.key.specs.Rank.{rank};
-ghost use Rattle.key.specs.Range.{half_open};
-ghost use Rattle.outcomes.specs.Stored.{Sound};
-ghost use Rattle.query.specs.InnerColumns.{columns, spans_of};
-ghost use Rattle.query.specs.InnerWalk.{NoBits, Silent, Stands, Begins, Cells, Edges};
+ghost use Rattle.query.specs.InnerColumns.{spans_of};
+ghost use Rattle.query.specs.InnerWalk.{NoBits, Silent, Walks, Begins, Cells, Edges};
 
-use outcomes::Stored;
 use crate::seen::look;
+use outcomes::Stored;
 use query_text::truth::Truth;
 
 // Where a walk is: a key, and in each map a place that trails it, so that a walk need not look at both.
@@ -45,32 +43,17 @@ fn is_silent(t: Truth, class: usize) -> bool
     requires { class ≤ 10 }
     ensures { result ≡ true → Silent t class }
 {
-    if class < 5 {
-        return is_clear(t.low, 11 * class);
+    match class {
+        0..=4 => is_clear(t.low, 11 * class),
+        5 => t.high % 4 == 0 && is_clear(t.low, 55),
+        _ => is_clear(t.high, 11 * class - 64),
     }
-    if class > 5 {
-        return is_clear(t.high, 11 * class - 64);
-    }
-    if t.high % 4 == 0 {
-        return is_clear(t.low, 55);
-    }
-    false
 }
 
 // The cell at a walk.
-pub fn cell_at(
-    a: &Stored,
-    b: &Stored,
-    t: Truth,
-    w: Walk,
-    end: i64,
-) -> Cell
-    requires { Sound half_open (columns count_a a.now.starts a.now.ends a.now.values)
-        × Sound half_open (columns count_b b.now.starts b.now.ends b.now.values)
-        × Stands (spans_of count_a a.now.starts a.now.ends a.now.values)
-        (spans_of count_b b.now.starts b.now.ends b.now.values) w × (rank w.key < rank end) }
-    ensures { Cells t (spans_of count_a a.now.starts a.now.ends a.now.values)
-        (spans_of count_b b.now.starts b.now.ends b.now.values) (rank w.key) (rank end) result }
+pub fn cell_at(a: &Stored, b: &Stored, t: Truth, w: Walk, end: i64) -> Cell
+    requires { Walks a.now b.now w × (rank w.key < rank end) }
+    ensures { Cells t (spans_of a.now) (spans_of b.now) (rank w.key) (rank end) result }
 {
     let x = look(a, w.a, w.key, end);
     let y = look(b, w.b, w.key, end);
@@ -88,19 +71,9 @@ pub fn cell_at(
 
 // The same, but where the table is silent the cell goes on as long as the first map holds the same, without a look at the second.
 // For the writing alone: a function that is called in one place is compiled into it, and each step then stays in registers.
-pub fn quick_cell(
-    a: &Stored,
-    b: &Stored,
-    t: Truth,
-    w: Walk,
-    end: i64,
-) -> Cell
-    requires { Sound half_open (columns count_a a.now.starts a.now.ends a.now.values)
-        × Sound half_open (columns count_b b.now.starts b.now.ends b.now.values)
-        × Stands (spans_of count_a a.now.starts a.now.ends a.now.values)
-        (spans_of count_b b.now.starts b.now.ends b.now.values) w × (rank w.key < rank end) }
-    ensures { Cells t (spans_of count_a a.now.starts a.now.ends a.now.values)
-        (spans_of count_b b.now.starts b.now.ends b.now.values) (rank w.key) (rank end) result }
+pub fn quick_cell(a: &Stored, b: &Stored, t: Truth, w: Walk, end: i64) -> Cell
+    requires { Walks a.now b.now w × (rank w.key < rank end) }
+    ensures { Cells t (spans_of a.now) (spans_of b.now) (rank w.key) (rank end) result }
 {
     let x = look(a, w.a, w.key, end);
     if is_silent(t, x.class) {
@@ -125,26 +98,13 @@ pub fn quick_cell(
 }
 
 // THE EDGE: the first key from the walk on, before `end`, where the table says `so`; `end` if there is none.
-pub fn edge(
-    a: &Stored,
-    b: &Stored,
-    t: Truth,
-    w: Walk,
-    end: i64,
-    so: bool,
-) -> Walk
-    requires { Sound half_open (columns count_a a.now.starts a.now.ends a.now.values)
-        × Sound half_open (columns count_b b.now.starts b.now.ends b.now.values)
-        × Stands (spans_of count_a a.now.starts a.now.ends a.now.values)
-        (spans_of count_b b.now.starts b.now.ends b.now.values) w × (rank w.key ≤ rank end) }
-    ensures { Edges t (spans_of count_a a.now.starts a.now.ends a.now.values)
-        (spans_of count_b b.now.starts b.now.ends b.now.values) (rank w.key) (rank end) so result }
+pub fn edge(a: &Stored, b: &Stored, t: Truth, w: Walk, end: i64, so: bool) -> Walk
+    requires { Walks a.now b.now w × (rank w.key ≤ rank end) }
+    ensures { Edges t (spans_of a.now) (spans_of b.now) (rank w.key) (rank end) so result }
 {
     let mut here = w;
     while here.key < end {
-        let c = cell_at(
-            a, b, t, here, end,
-        );
+        let c = cell_at(a, b, t, here, end);
         if c.yes == so {
             return here;
         }

@@ -1,78 +1,37 @@
 // The ranges of true instants from a walk on: whether there is room for them, and their writing.
 ghost use Rattle.std.specs.Prelude.{◌≡◌, false, ◌≤◌, ◌<◌, length};
 ghost use Rattle.key.specs.Rank.{rank};
-ghost use Rattle.key.specs.Range.{half_open};
-ghost use Rattle.outcomes.specs.Stored.{Sound};
-ghost use Rattle.query.specs.InnerColumns.{columns, spans_of};
-ghost use Rattle.query.specs.InnerWalk.{Stands};
+ghost use Rattle.query.specs.InnerColumns.{spans_of};
+ghost use Rattle.query.specs.InnerWalk.{Walks};
 ghost use Rattle.query.specs.InnerWritten.{Counts, Bounded, Measures, HasRoom, Shuts, Writes};
 
-use outcomes::Stored;
 use crate::walk::{Walk, edge, quick_cell};
+use outcomes::Stored;
 use query_text::truth::Truth;
 use range_list::put;
 use two_sets::{pick, roomy};
 
 // How many ranges there are from the walk on, before `end`.
-fn count(
-    a: &Stored,
-    b: &Stored,
-    t: Truth,
-    w: Walk,
-    end: i64,
-) -> usize
-    requires { Sound half_open (columns count_a a.now.starts a.now.ends a.now.values)
-        × Sound half_open (columns count_b b.now.starts b.now.ends b.now.values)
-        × Stands (spans_of count_a a.now.starts a.now.ends a.now.values)
-        (spans_of count_b b.now.starts b.now.ends b.now.values) w × (rank w.key ≤ rank end) }
-    ensures { Counts t (spans_of count_a a.now.starts a.now.ends a.now.values)
-        (spans_of count_b b.now.starts b.now.ends b.now.values) (rank w.key) (rank end) result }
+fn count(a: &Stored, b: &Stored, t: Truth, w: Walk, end: i64) -> usize
+    requires { Walks a.now b.now w × (rank w.key ≤ rank end) }
+    ensures { Counts t (spans_of a.now) (spans_of b.now) (rank w.key) (rank end) result }
 {
     let mut n = 0;
-    let mut s = edge(
-        a, b, t, w, end, true,
-    );
+    let mut s = edge(a, b, t, w, end, true);
     while s.key < end {
-        let e = edge(
-            a, b, t, s, end,
-            false,
-        );
+        let e = edge(a, b, t, s, end, false);
         n += 1;
-        s = edge(
-            a, b, t, e, end,
-            true,
-        );
+        s = edge(a, b, t, e, end, true);
     }
     n
 }
 
 // Whether `room` places are enough. There is at most one range more than the maps have together, so mostly none is counted.
-pub fn fits(
-    a: &Stored,
-    b: &Stored,
-    t: Truth,
-    w: Walk,
-    end: i64,
-    room: usize,
-) -> bool
-    requires { Sound half_open (columns count_a a.now.starts a.now.ends a.now.values)
-        × Sound half_open (columns count_b b.now.starts b.now.ends b.now.values)
-        × Stands (spans_of count_a a.now.starts a.now.ends a.now.values)
-        (spans_of count_b b.now.starts b.now.ends b.now.values) w × (rank w.key ≤ rank end)
-        × Bounded t (columns count_a a.now.starts a.now.ends a.now.values) (columns count_b b.now.starts b.now.ends b.now.values) w.key end }
-    ensures { Measures t (spans_of count_a a.now.starts a.now.ends a.now.values)
-        (spans_of count_b b.now.starts b.now.ends b.now.values) (rank w.key) (rank end) room result }
+pub fn fits(a: &Stored, b: &Stored, t: Truth, w: Walk, end: i64, room: usize) -> bool
+    requires { Walks a.now b.now w × (rank w.key ≤ rank end) × Bounded t a.now b.now w.key end }
+    ensures { Measures t (spans_of a.now) (spans_of b.now) (rank w.key) (rank end) room result }
 {
-    if roomy(a.count + 1, b.count, room) {
-        return true;
-    }
-    let n = count(
-        a, b, t, w, end,
-    );
-    if room < n {
-        return false;
-    }
-    true
+    roomy(a.count + 1, b.count, room) || count(a, b, t, w, end) <= room
 }
 
 // Writes the range from `start` up to `key`, if there is one and it does not go on. Answers the place for the next.
@@ -87,10 +46,7 @@ fn shut(
     requires { on ≡ false → rank start < rank key → (n < length out_starts.old) × (n < length out_ends.old) }
     ensures { Shuts on n (rank start) (rank key) out_starts.old out_ends.old result out_starts.new out_ends.new }
 {
-    if key <= start {
-        return n;
-    }
-    if on {
+    if key <= start || on {
         return n;
     }
     put(out_starts, out_ends, n, start, key);
@@ -107,23 +63,16 @@ pub fn write(
     out_starts: &mut [i64],
     out_ends: &mut [i64],
 ) -> usize
-    requires { Sound half_open (columns count_a a.now.starts a.now.ends a.now.values)
-        × Sound half_open (columns count_b b.now.starts b.now.ends b.now.values)
-        × Stands (spans_of count_a a.now.starts a.now.ends a.now.values)
-        (spans_of count_b b.now.starts b.now.ends b.now.values) w × (rank w.key ≤ rank end)
-        × HasRoom t (spans_of count_a a.now.starts a.now.ends a.now.values)
-        (spans_of count_b b.now.starts b.now.ends b.now.values) (rank w.key) (rank end) 0 out_starts.old out_ends.old }
-    ensures { Writes t (spans_of count_a a.now.starts a.now.ends a.now.values)
-        (spans_of count_b b.now.starts b.now.ends b.now.values)
+    requires { Walks a.now b.now w × (rank w.key ≤ rank end)
+        × HasRoom t (spans_of a.now) (spans_of b.now) (rank w.key) (rank end) 0 out_starts.old out_ends.old }
+    ensures { Writes t (spans_of a.now) (spans_of b.now)
         (rank w.key) (rank end) 0 out_starts.old out_ends.old result out_starts.new out_ends.new }
 {
     let mut n = 0;
     let mut start = w.key;
     let mut here = w;
     while here.key < end {
-        let c = quick_cell(
-            a, b, t, here, end,
-        );
+        let c = quick_cell(a, b, t, here, end);
         n = shut(out_starts, out_ends, n, c.yes, start, here.key);
         start = pick(c.yes, start, c.next.key);
         here = c.next;

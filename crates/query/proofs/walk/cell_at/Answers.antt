@@ -18,5 +18,5 @@ returns c =
     let vx = simp rank_back at c.look-x.ensures in
     let vy = simp rank_back at c.look-y.ensures in
     rw (to_z-of_z f)
-    (cell_made s.t _ _ s.w (rank s.end) c.requires.2 x.until y.until c.min-key.result x.class y.class
+    (cell_made s.t _ _ s.w (rank s.end) c.requires.0.stands x.until y.until c.min-key.result x.class y.class
     x.place y.place c.says.result vx vy k c.says.ensures)

@@ -2,17 +2,17 @@ use native.Mathlib.Omega.{arith}
 use mir.Facts.{to_z-of_z}
 use Rattle.key.specs.Rank.{rank}
 use Rattle.key.proofs.Laws.{tests}
-use Rattle.query.proofs.Edges.{sought_first, sought_on, edge_here, edge_end, same_yes, same_no}
+use Rattle.query.proofs.Edges.{stands_on, sought_first, sought_on, edge_here, edge_end, same_yes, same_no}
 use Rattle.query.proofs.walk.edge.Goals as goal
 
 pub loop-here-init : goal.loop-here-init
 loop-here-init c =
     let s = c.args in
-    rw (to_z-of_z c.ranges.end) (sought_first s.t _ _ (rank s.end) s.so s.w c.requires.2 c.requires.3)
+    rw (to_z-of_z c.ranges.end) (sought_first s.t _ _ (rank s.end) s.so s.w c.requires.0.stands c.requires.1)
 
 pub cell_at-c-requires : goal.cell_at-c-requires
 cell_at-c-requires c =
-    rw (to_z-of_z c.ranges.end) (c.requires.0, c.requires.1, c.loop-here.invariant.stands, omega (arith, tests))
+    rw (to_z-of_z c.ranges.end) (stands_on c.requires.0 c.loop-here.invariant.stands, omega (arith, tests))
 
 pub returns-then-c-so : goal.returns-then-c-so
 returns-then-c-so c =

@@ -6,7 +6,7 @@ use Rattle.query.proofs.walk.edge.Given as goal
 
 abbrev pub invariant-loop-here : goal.invariant-loop-here
 invariant-loop-here l =
-    Sought l.t (spans_of l.count_a l.starts_a l.ends_a l.values_a) (spans_of l.count_b l.starts_b l.ends_b l.values_b) (rank l.initial.here.key)
+    Sought l.t (spans_of l.a) (spans_of l.b) (rank l.initial.here.key)
     (rank l.end) l.so l.here
 
 abbrev pub decreases-loop-here : goal.decreases-loop-here

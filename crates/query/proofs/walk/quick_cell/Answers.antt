@@ -18,7 +18,7 @@ returns-then-is_silent c =
     let vx = simp rank_back at c.look-x.ensures in
     let f : SFits w64 c.look-x.result.until = search rules in
     rw (to_z-of_z f)
-    (cell_silent s.t _ _ s.w (rank s.end) c.requires.2 x.until x.class x.place vx
+    (cell_silent s.t _ _ s.w (rank s.end) c.requires.0.stands x.until x.class x.place vx
     (c.is_silent.ensures c.if-is_silent.true))
 
 pub returns : goal.returns
@@ -31,5 +31,5 @@ returns c =
     let vx = simp rank_back at c.look-x.ensures in
     let vy = simp rank_back at c.look-y.ensures in
     rw (to_z-of_z f)
-    (cell_made s.t _ _ s.w (rank s.end) c.requires.2 x.until y.until c.min-until.result x.class y.class
+    (cell_made s.t _ _ s.w (rank s.end) c.requires.0.stands x.until y.until c.min-until.result x.class y.class
     x.place y.place c.says-yes.result vx vy k c.says-yes.ensures)

@@ -5,6 +5,7 @@ use mir.Val.{of_z}
 use mir.Syntax.{w64}
 use Rattle.key.specs.Rank.{rank}
 use Rattle.key.proofs.Laws.{tests, rank_below}
+use Rattle.query.proofs.Edges.{stands_on}
 use Rattle.query.proofs.Counting.{counts_to, counted_first, counted_on, counted_all, grows}
 use Rattle.query.proofs.written.count.Goals as goal
 
@@ -20,7 +21,7 @@ loop-s-init c =
 pub edge-e-requires : goal.edge-e-requires
 edge-e-requires c =
     let v = rw (to_z-of_z c.ranges.end) at c.loop-s.invariant in
-    rw (to_z-of_z c.ranges.end) (c.requires.0, c.requires.1, v.edge.stands, v.edge.within)
+    rw (to_z-of_z c.ranges.end) (stands_on c.requires.0 v.edge.stands, v.edge.within)
 
 pub overflow_add-n : goal.overflow_add-n
 overflow_add-n c =
@@ -32,7 +33,7 @@ overflow_add-n c =
 pub edge-s-requires-in-loop-s : goal.edge-s-requires-in-loop-s
 edge-s-requires-in-loop-s c =
     let g = rw (to_z-of_z c.ranges.end) at c.edge-e.ensures in
-    rw (to_z-of_z c.ranges.end) (c.requires.0, c.requires.1, g.stands, g.within)
+    rw (to_z-of_z c.ranges.end) (stands_on c.requires.0 g.stands, g.within)
 
 pub loop-s-smaller : goal.loop-s-smaller
 loop-s-smaller c =

@@ -6,7 +6,7 @@ use Rattle.query.proofs.written.count.Given as goal
 
 abbrev pub invariant-loop-s : goal.invariant-loop-s
 invariant-loop-s l =
-    CountedSoFar l.t (spans_of l.count_a l.starts_a l.ends_a l.values_a) (spans_of l.count_b l.starts_b l.ends_b l.values_b) (rank l.initial.s.key)
+    CountedSoFar l.t (spans_of l.a) (spans_of l.b) (rank l.initial.s.key)
     (rank l.end) l.n l.s
 
 abbrev pub decreases-loop-s : goal.decreases-loop-s

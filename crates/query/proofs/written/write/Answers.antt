@@ -3,6 +3,7 @@ use mathlib.Core.Path.{◌∙◌}
 use mir.Facts.{to_z-of_z}
 use Rattle.key.specs.Rank.{rank}
 use Rattle.key.proofs.Laws.{tests, rank_back}
+use Rattle.query.proofs.Edges.{stands_on}
 use Rattle.query.proofs.Writing.{opened_first, opened_on, underway_first, underway_on, underway_all, place_for}
 use Rattle.query.proofs.written.write.Goals as goal
 
@@ -10,13 +11,13 @@ pub loop-here-init : goal.loop-here-init
 loop-here-init c =
     let s = c.args in
     simp rank_back (
-      underway_first s.t _ _ (rank s.end) (rank s.w.key) s.out_starts.now s.out_ends.now c.requires.4,
-      opened_first s.t _ _ (rank s.end) s.w c.requires.2 c.requires.3,
+      underway_first s.t _ _ (rank s.end) (rank s.w.key) s.out_starts.now s.out_ends.now c.requires.2,
+      opened_first s.t _ _ (rank s.end) s.w c.requires.0.stands c.requires.1,
     )
 
 pub quick_cell-c-requires : goal.quick_cell-c-requires
 quick_cell-c-requires c =
-    rw (to_z-of_z c.ranges.end) (c.requires.0, c.requires.1, c.loop-here.invariant.1.stands, omega (arith, tests))
+    rw (to_z-of_z c.ranges.end) (stands_on c.requires.0 c.loop-here.invariant.1.stands, omega (arith, tests))
 
 pub shut-n-requires : goal.shut-n-requires
 shut-n-requires c =

@@ -6,9 +6,9 @@ use Rattle.query.proofs.written.write.Given as goal
 
 abbrev pub invariant-loop-here : goal.invariant-loop-here
 invariant-loop-here l =
-    Underway l.t (spans_of l.count_a l.starts_a l.ends_a l.values_a) (spans_of l.count_b l.starts_b l.ends_b l.values_b) (rank l.initial.here.key)
+    Underway l.t (spans_of l.a) (spans_of l.b) (rank l.initial.here.key)
     (rank l.end) l.initial.out_starts l.initial.out_ends l.out_starts l.out_ends l.n (rank l.start)
-    × Opened l.t (spans_of l.count_a l.starts_a l.ends_a l.values_a) (spans_of l.count_b l.starts_b l.ends_b l.values_b) (rank l.end)
+    × Opened l.t (spans_of l.a) (spans_of l.b) (rank l.end)
     (rank l.start) l.here
 
 abbrev pub decreases-loop-here : goal.decreases-loop-here
