@@ -108,27 +108,21 @@ pub fn range_inclusive_map_gaps(
 ) -> Count
     ensures { RangeInclusiveMapGaps m.now start end out_starts.old out_starts.new out_ends.old out_ends.new result }
 {
-    map_abi::gaps(
-        KIND, &m.stored, start, end, out_starts, out_ends,
-    )
+    map_abi::gaps(KIND, &m.stored, start, end, out_starts, out_ends)
 }
 
 // Whether two maps hold the same ranges with the same values.
 pub fn range_inclusive_map_eq(a: &RangeInclusiveMap, b: &RangeInclusiveMap) -> Told
     ensures { RangeInclusiveMapEq a.now b.now result }
 {
-    map_abi::eq(
-        KIND, &a.stored, &b.stored,
-    )
+    map_abi::eq(KIND, &a.stored, &b.stored)
 }
 
 // Which of two maps comes first: -1, 0 or 1.
 pub fn range_inclusive_map_cmp(a: &RangeInclusiveMap, b: &RangeInclusiveMap) -> Order
     ensures { RangeInclusiveMapCmp a.now b.now result }
 {
-    map_abi::cmp(
-        KIND, &a.stored, &b.stored,
-    )
+    map_abi::cmp(KIND, &a.stored, &b.stored)
 }
 
 // Gives the value to each instant of start..=end and to no other.
@@ -140,25 +134,14 @@ pub fn range_inclusive_map_insert(
 ) -> u8
     ensures { RangeInclusiveMapInsert m.old m.new start end value result }
 {
-    map_abi::insert(
-        KIND,
-        &mut m.stored,
-        start,
-        end,
-        value,
-    )
+    map_abi::insert(KIND, &mut m.stored, start, end, value)
 }
 
 // Uncovers exactly the instants of start..=end.
 pub fn range_inclusive_map_remove(m: &mut RangeInclusiveMap, start: i64, end: i64) -> u8
     ensures { RangeInclusiveMapRemove m.old m.new start end result }
 {
-    map_abi::remove(
-        KIND,
-        &mut m.stored,
-        start,
-        end,
-    )
+    map_abi::remove(KIND, &mut m.stored, start, end)
 }
 
 // Leaves nothing held, whatever the map was.
@@ -177,13 +160,7 @@ pub fn range_inclusive_map_extend(
 ) -> Applied
     ensures { RangeInclusiveMapExtend m.old m.new starts.now ends.now values.now result }
 {
-    map_ops::change::bulk::extend(
-        KIND,
-        &mut m.stored,
-        starts,
-        ends,
-        values,
-    )
+    map_ops::change::bulk::extend(KIND, &mut m.stored, starts, ends, values)
 }
 
 // Whether a map is well formed.
@@ -212,9 +189,7 @@ pub fn range_inclusive_map_gaps_unchecked(
     requires { Sound inclusive (held m.now) }
     ensures { RangeInclusiveMapGapsUnchecked m.now start end out_starts.old out_starts.new out_ends.old out_ends.new result }
 {
-    map_abi::gaps_unchecked(
-        KIND, &m.stored, start, end, out_starts, out_ends,
-    )
+    map_abi::gaps_unchecked(KIND, &m.stored, start, end, out_starts, out_ends)
 }
 
 // Insert through the unchecked door: the map must be well formed.
@@ -227,13 +202,7 @@ pub fn range_inclusive_map_insert_unchecked(
     requires { Sound inclusive (held m.old) }
     ensures { RangeInclusiveMapInsertUnchecked m.old m.new start end value result }
 {
-    map_abi::insert_unchecked(
-        KIND,
-        &mut m.stored,
-        start,
-        end,
-        value,
-    )
+    map_abi::insert_unchecked(KIND, &mut m.stored, start, end, value)
 }
 
 // Remove through the unchecked door: the map must be well formed.
@@ -241,10 +210,5 @@ pub fn range_inclusive_map_remove_unchecked(m: &mut RangeInclusiveMap, start: i6
     requires { Sound inclusive (held m.old) }
     ensures { RangeInclusiveMapRemoveUnchecked m.old m.new start end result }
 {
-    map_abi::remove_unchecked(
-        KIND,
-        &mut m.stored,
-        start,
-        end,
-    )
+    map_abi::remove_unchecked(KIND, &mut m.stored, start, end)
 }

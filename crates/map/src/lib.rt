@@ -105,52 +105,35 @@ pub fn range_map_gaps(
 ) -> Count
     ensures { RangeMapGaps m.now start end out_starts.old out_starts.new out_ends.old out_ends.new result }
 {
-    map_abi::gaps(
-        KIND, &m.stored, start, end, out_starts, out_ends,
-    )
+    map_abi::gaps(KIND, &m.stored, start, end, out_starts, out_ends)
 }
 
 // Whether two maps hold the same ranges with the same values.
 pub fn range_map_eq(a: &RangeMap, b: &RangeMap) -> Told
     ensures { RangeMapEq a.now b.now result }
 {
-    map_abi::eq(
-        KIND, &a.stored, &b.stored,
-    )
+    map_abi::eq(KIND, &a.stored, &b.stored)
 }
 
 // Which of two maps comes first: -1, 0 or 1.
 pub fn range_map_cmp(a: &RangeMap, b: &RangeMap) -> Order
     ensures { RangeMapCmp a.now b.now result }
 {
-    map_abi::cmp(
-        KIND, &a.stored, &b.stored,
-    )
+    map_abi::cmp(KIND, &a.stored, &b.stored)
 }
 
 // Gives the value to each instant of start..end and to no other.
 pub fn range_map_insert(m: &mut RangeMap, start: i64, end: i64, value: Value) -> u8
     ensures { RangeMapInsert m.old m.new start end value result }
 {
-    map_abi::insert(
-        KIND,
-        &mut m.stored,
-        start,
-        end,
-        value,
-    )
+    map_abi::insert(KIND, &mut m.stored, start, end, value)
 }
 
 // Uncovers exactly the instants of start..end.
 pub fn range_map_remove(m: &mut RangeMap, start: i64, end: i64) -> u8
     ensures { RangeMapRemove m.old m.new start end result }
 {
-    map_abi::remove(
-        KIND,
-        &mut m.stored,
-        start,
-        end,
-    )
+    map_abi::remove(KIND, &mut m.stored, start, end)
 }
 
 // Leaves nothing held, whatever the map was.
@@ -164,13 +147,7 @@ pub fn range_map_clear(m: &mut RangeMap)
 pub fn range_map_extend(m: &mut RangeMap, starts: &[i64], ends: &[i64], values: &[Value]) -> Applied
     ensures { RangeMapExtend m.old m.new starts.now ends.now values.now result }
 {
-    map_ops::change::bulk::extend(
-        KIND,
-        &mut m.stored,
-        starts,
-        ends,
-        values,
-    )
+    map_ops::change::bulk::extend(KIND, &mut m.stored, starts, ends, values)
 }
 
 // Whether a map is well formed.
@@ -199,9 +176,7 @@ pub fn range_map_gaps_unchecked(
     requires { Sound half_open (held m.now) }
     ensures { RangeMapGapsUnchecked m.now start end out_starts.old out_starts.new out_ends.old out_ends.new result }
 {
-    map_abi::gaps_unchecked(
-        KIND, &m.stored, start, end, out_starts, out_ends,
-    )
+    map_abi::gaps_unchecked(KIND, &m.stored, start, end, out_starts, out_ends)
 }
 
 // Insert through the unchecked door: the map must be well formed.
@@ -209,13 +184,7 @@ pub fn range_map_insert_unchecked(m: &mut RangeMap, start: i64, end: i64, value:
     requires { Sound half_open (held m.old) }
     ensures { RangeMapInsertUnchecked m.old m.new start end value result }
 {
-    map_abi::insert_unchecked(
-        KIND,
-        &mut m.stored,
-        start,
-        end,
-        value,
-    )
+    map_abi::insert_unchecked(KIND, &mut m.stored, start, end, value)
 }
 
 // Remove through the unchecked door: the map must be well formed.
@@ -223,10 +192,5 @@ pub fn range_map_remove_unchecked(m: &mut RangeMap, start: i64, end: i64) -> u8
     requires { Sound half_open (held m.old) }
     ensures { RangeMapRemoveUnchecked m.old m.new start end result }
 {
-    map_abi::remove_unchecked(
-        KIND,
-        &mut m.stored,
-        start,
-        end,
-    )
+    map_abi::remove_unchecked(KIND, &mut m.stored, start, end)
 }
