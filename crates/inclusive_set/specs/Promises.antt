@@ -91,7 +91,7 @@ RangeInclusiveSetClear m m' = held m' ≡ clear inclusive
 
 -- `range_inclusive_set_well_formed`: whether a set is well formed. Where it is, it is what an unchecked door requires, and has all its places.
 abbrev pub RangeInclusiveSetWellFormed : RangeInclusiveSet → Bool → Type 0
-RangeInclusiveSetWellFormed m r = (r ≡ formed_set inclusive (held m)) × (r ≡ true → SoundSet inclusive (held m) × (length m.starts ≡ places))
+RangeInclusiveSetWellFormed m r = (r ≡ formed_set inclusive (held m)) × (r ≡ true → SoundSet inclusive (held m) × (length m.stored.starts ≡ places))
 
 -- `range_inclusive_set_intersection`: the common points of two sets as maximal ranges, into the first places of two lent lists.
 abbrev pub RangeInclusiveSetIntersection : RangeInclusiveSet → RangeInclusiveSet → List ℤ → List ℤ → List ℤ → List ℤ → Count → Type 0

@@ -91,7 +91,7 @@ RangeSetClear m m' = held m' ≡ clear half_open
 
 -- `range_set_well_formed`: whether a set is well formed. Where it is, it is what an unchecked door requires, and has all its places.
 abbrev pub RangeSetWellFormed : RangeSet → Bool → Type 0
-RangeSetWellFormed m r = (r ≡ formed_set half_open (held m)) × (r ≡ true → SoundSet half_open (held m) × (length m.starts ≡ places))
+RangeSetWellFormed m r = (r ≡ formed_set half_open (held m)) × (r ≡ true → SoundSet half_open (held m) × (length m.stored.starts ≡ places))
 
 -- `range_set_intersection`: the common points of two sets as maximal ranges, into the first places of two lent lists.
 abbrev pub RangeSetIntersection : RangeSet → RangeSet → List ℤ → List ℤ → List ℤ → List ℤ → Count → Type 0
