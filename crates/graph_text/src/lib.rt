@@ -13,7 +13,7 @@ ghost use Rattle.graph_text.specs.InnerRoom.{most_quarters, most_hours, graph_li
 
 use outcomes::Stored;
 use decimal::put_u64;
-use duty::{Tallied, Totals};
+use duty::Totals;
 use key::Bounds;
 use report_text::{
     ROWS, put_clock_column, put_name_column, put_row_column, seconds_between, seconds_of, sum_of,
@@ -69,10 +69,9 @@ pub fn is_marked(
         start: quarter_start(start, q),
         end: quarter_start(start, q + 1),
     };
-    let t = duty::between(m, quarter);
-    match t {
-        Tallied::Seconds(totals) => 0 < seconds_of(totals, row),
-        Tallied::Refused(_) => false,
+    match duty::between(m, quarter) {
+        Ok(totals) => 0 < seconds_of(totals, row),
+        Err(_) => false,
     }
 }
 

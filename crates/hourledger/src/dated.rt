@@ -8,9 +8,8 @@ use crate::output::{print, refuse};
 use command::View;
 use duty::Totals;
 use graph_text::{GRAPH_ROOM, graph_text};
-use log_day::Day;
 use outcomes::Stored;
-use report::Reported;
+use report::DayTotals;
 use report_text::{REPORT_ROOM, report_text};
 use svg_text::{SVG_ROOM, svg_text};
 
@@ -50,8 +49,8 @@ fn of_map(rt: &HostRuntime, view: View, m: &Stored, zone: u8, year: u16, month: 
     requires { Sound half_open m.now }
 {
     match report::checked(m, zone, year, month, day) {
-        Reported::Totals(start, end, t) => show(rt, view, m, start, end, t),
-        Reported::Refused(why) => refuse(rt, why),
+        Ok(DayTotals { day, totals }) => show(rt, view, m, day.start, day.end, totals),
+        Err(why) => refuse(rt, why),
     }
 }
 
@@ -65,8 +64,8 @@ fn of_form(rt: &HostRuntime, form: &[u8], view: View, zone: u8, year: u16, month
 
 pub fn run(rt: &HostRuntime, view: View, zone: u8, year: u16, month: u8, day: u8) {
     match log_day::day_of(zone, year, month, day) {
-        Day::Refused(n) => refuse(rt, n),
-        Day::Span(_, _) => {
+        Err(why) => refuse(rt, why),
+        Ok(_) => {
             let mut bytes = [0u8; ROOM];
             let n = read_form(&mut rt.stdin(), &mut bytes);
             of_form(rt, &bytes[..n], view, zone, year, month, day);

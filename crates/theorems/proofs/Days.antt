@@ -5,8 +5,10 @@ use mathlib.Core.Path.{◌≡◌, refl, sym, ap, subst, ◌∙◌}
 use mathlib.Core.Bool.{Bool, true, false, cond}
 use lib.Dec.{lt→ltb}
 use lib.IntN.{ℤ, pos}
-use Rattle.std.specs.Prelude.{Ok, Err}
+use Rattle.std.specs.Prelude.{Result, Ok, Err}
 use Rattle.answers.specs.Answers.{done}
+use Rattle.answers.specs.declared.Refusal.{Refusal}
+use Rattle.answers.specs.Refusals.{number}
 use Rattle.answers.specs.declared.Refusal.TheVariants.{NotFormed, BadStatus}
 use Rattle.key.specs.Rank.{rank}
 use Rattle.key.specs.Range.{half_open}
@@ -17,9 +19,9 @@ use Rattle.outcomes.specs.Outcomes.{formed}
 use Rattle.duty.specs.Duty.{strange, totals_of, tally_sound}
 use Rattle.duty.specs.declared.Totals.{Totals}
 use Rattle.calendar.specs.Calendar.{date, next_date}
-use Rattle.log_day.specs.Days.{day_of, day_in_c}
+use Rattle.log_day.specs.Days.{bounds, day_of, day_in_c}
 use Rattle.log_day.specs.Promises.{LogDayPromise}
-use Rattle.log_day.specs.declared.Day.{Day}
+use Rattle.key.specs.declared.Bounds.{Bounds}
 use Rattle.log_day.specs.declared.LogDay.{LogDay}
 use Rattle.log_day.proofs.Spans.{Length, refused_is, meet}
 use Rattle.log_day.proofs.Spans as Spans
@@ -43,10 +45,10 @@ module _ (m : Stored) (z y mo d : ℕ) where
   of_tally s e true u h = absurd (omega arith)
   of_tally s e false u h = record { totals = day_totals s e u; is = refl }
 
-  of_day : (x : Day) → day_of z y mo d ≡ x → (reported_in_c (day_report_sound m x)).answer ≡ 0 → Totalled (day_report_sound m x)
+  of_day : (x : Result Bounds Refusal) → day_of z y mo d ≡ x → (reported_in_c (day_report_sound m x)).answer ≡ 0 → Totalled (day_report_sound m x)
   unfolding tally_sound
-  of_day (Day.Span s e) q h = of_tally s e (strange (rank s) (rank e) (ranges half_open m)) (totals_of (rank s) (rank e) (ranges half_open m)) h
-  of_day (Day.Refused n) q h = absurd (omega (arith, refused_is z y mo d q))
+  of_day (Ok b) q h = of_tally b.start b.end (strange (rank b.start) (rank b.end) (ranges half_open m)) (totals_of (rank b.start) (rank b.end) (ranges half_open m)) h
+  of_day (Err why) q h = absurd (omega (arith, ap number (refused_is z y mo d q), h))
 
   of_map_lem : (t : Bool) → (reported_in_c (cond t (day_report_sound m (day_of z y mo d)) (Err NotFormed))).answer ≡ 0
       → Totalled (cond t (day_report_sound m (day_of z y mo d)) (Err NotFormed))
@@ -67,18 +69,18 @@ pub record DayLength (z y mo d : ℕ) (start end : ℤ) : Type 0 where
   pub below : to < 2 ^ 40
   pub length_is : Length z (date y mo d) (to - from)
 
-day_length : (z y mo d : ℕ) {s e : ℤ} → day_of z y mo d ≡ Day.Span s e → DayLength z y mo d s e
+day_length : (z y mo d : ℕ) {s e : ℤ} → day_of z y mo d ≡ Ok (bounds s e) → DayLength z y mo d s e
 day_length z y mo d q =
     let k = Spans.held z y mo d q in
     record { from = k.from; to = k.to; start_is = k.start_is; end_is = k.end_is; ordered = k.ordered; below = k.below; length_is = k.length_is }
 
 -- what `log_day` tells with answer 0 is the date's day
-pub log_day_is : (z y mo d : ℕ) (day : LogDay) → LogDayPromise z y mo d day → day.answer ≡ done → day_of z y mo d ≡ Day.Span day.start day.end
+pub log_day_is : (z y mo d : ℕ) (day : LogDay) → LogDayPromise z y mo d day → day.answer ≡ done → day_of z y mo d ≡ Ok (bounds day.start day.end)
 log_day_is z y mo d day p h = go (day_of z y mo d) refl p
   where
-    go : (x : Day) → day_of z y mo d ≡ x → day ≡ day_in_c x → day_of z y mo d ≡ Day.Span day.start day.end
-    go (Day.Span s e) q p = q ∙ sym (ap (λ (t : LogDay). Day.Span t.start t.end) p)
-    go (Day.Refused n) q p = absurd (omega (arith, refused_is z y mo d q, ap (λ (t : LogDay). t.answer) p))
+    go : (x : Result Bounds Refusal) → day_of z y mo d ≡ x → day ≡ day_in_c x → day_of z y mo d ≡ Ok (bounds day.start day.end)
+    go (Ok b) q p = q ∙ sym (ap (λ (t : LogDay). Ok (bounds t.start t.end)) p)
+    go (Err why) q p = absurd (omega (arith, ap number (refused_is z y mo d q), h, ap (λ (t : LogDay). t.answer) p))
 
 -- so it is that long
 pub log_day_length : (z y mo d : ℕ) (day : LogDay) → LogDayPromise z y mo d day → day.answer ≡ done → DayLength z y mo d day.start day.end
@@ -109,10 +111,10 @@ module _ (m : RangeMap) (z y mo d : ℕ) (r : DayReport) (q : RangeMapDayReport 
   as_told = q ∙ ap reported_in_c seconds.is
 
   -- the day of the report is the date's
-  day_is : day_of z y mo d ≡ Day.Span r.start r.end
+  day_is : day_of z y mo d ≡ Ok (bounds r.start r.end)
   day_is =
       (told (held m) z y mo d seconds.is).day
-      ∙ sym (ap (λ (x : DayReport). Day.Span x.start x.end) as_told)
+      ∙ sym (ap (λ (x : DayReport). Ok (bounds x.start x.end)) as_told)
 
   -- THE SUM of an accepted day, and its length
   pub day_adds_up : AddsUp z y mo d r
@@ -127,7 +129,7 @@ module _ (m : RangeMap) (z y mo d : ℕ) (r : DayReport) (q : RangeMapDayReport 
   -- the report's day is what `log_day` answers
   pub day_is_log_day : (t : LogDay) → LogDayPromise z y mo d t → (t.answer ≡ done) × (t.start ≡ r.start) × (t.end ≡ r.end)
   day_is_log_day t p =
-      let is : t ≡ day_in_c (Day.Span r.start r.end) = p ∙ ap day_in_c day_is in
+      let is : t ≡ day_in_c (Ok (bounds r.start r.end)) = p ∙ ap day_in_c day_is in
       (ap (λ (x : LogDay). x.answer) is, ap (λ (x : LogDay). x.start) is, ap (λ (x : LogDay). x.end) is)
 
 -- DAYS MEET: the report of the next date starts where this one ends, whatever maps they are of

@@ -6,11 +6,14 @@ use mathlib.Core.List.{List, [], ◌∷◌}
 use lib.Dec.{ltb}
 use lib.ListN.{length}
 use lib.IntN.{ℤ}
-use Rattle.std.specs.Prelude.{Ok, Err}
+use Rattle.std.specs.Prelude.{Result, Ok, Err}
 use Rattle.answers.specs.Answers.{empty_range, too_short, bad_query, bad_day, bad_status}
+use Rattle.answers.specs.declared.Refusal.{Refusal}
+use Rattle.answers.specs.Refusals.{number}
 use Rattle.answers.specs.declared.Refusal.TheVariants.{BadQuery, BadStatus}
 use Rattle.key.specs.Rank.{rank}
 use Rattle.key.specs.Range.{half_open}
+use Rattle.key.specs.declared.Bounds.{Bounds}
 use Rattle.outcomes.specs.Stored.{ranges}
 use Rattle.outcomes.specs.Outcomes.{not_written, formed, into_lists, yes_no}
 use Rattle.outcomes.specs.declared.Count.{Count}
@@ -18,7 +21,6 @@ use Rattle.outcomes.specs.declared.Told.{Told}
 use Rattle.one_map.proofs.Refusals.{Reason, refuse, first_number, unformed, both_pass, lets_pass, told_number, told_done, list_number, writing_order}
 use Rattle.duty.specs.Duty.{strange, totals_of, tally_sound}
 use Rattle.log_day.specs.Days.{day_of}
-use Rattle.log_day.specs.declared.Day.{Day}
 use Rattle.log_day.proofs.Spans.{refused_is}
 use Rattle.report.specs.Report.{Reported, with_keys, day_report_sound, day_report, reported_in_c}
 use Rattle.report.specs.declared.DayReport.{DayReport}
@@ -30,9 +32,9 @@ use Rattle.map_report.specs.Promises.{RangeMapDayReport}
 use Rattle.map_query.specs.Promises.{RangeMapQuery, RangeMapQueryAt}
 
 -- what a day's keys give, and else another
-abbrev pub by_day : {A : Type 0} → Day → (ℤ → ℤ → A) → A → A
-by_day (Day.Span s e) f other = f s e
-by_day (Day.Refused n) f other = other
+abbrev pub by_day : {A : Type 0} → Result Bounds Refusal → (ℤ → ℤ → A) → A → A
+by_day (Ok day) f other = f day.start day.end
+by_day (Err why) f other = other
 
 -- the number of a report
 abbrev report_number : Reported → ℕ
@@ -96,13 +98,13 @@ unfolding day_report tally_sound
 report_order m z y mo d r q =
     ap (λ (x : DayReport). x.answer) q ∙ lets_pass report_number (formed half_open (held m)) refl (of_day (day_of z y mo d) refl)
   where
-    of_day : (x : Day) → day_of z y mo d ≡ x → report_number (day_report_sound (held m) x)
+    of_day : (x : Result Bounds Refusal) → day_of z y mo d ≡ x → report_number (day_report_sound (held m) x)
         ≡ cond (by_day x (λ s e. false) true) bad_day (cond (by_day x (λ s e. strange (rank s) (rank e) (ranges half_open (held m))) false) bad_status 0)
-    of_day (Day.Span s e) h = of_strange (strange (rank s) (rank e) (ranges half_open (held m)))
+    of_day (Ok b) h = of_strange (strange (rank b.start) (rank b.end) (ranges half_open (held m)))
       where
         of_strange : (t : Bool)
-            → report_number (with_keys s e (cond t (Err BadStatus) (Ok (totals_of (rank s) (rank e) (ranges half_open (held m))))))
+            → report_number (with_keys b.start b.end (cond t (Err BadStatus) (Ok (totals_of (rank b.start) (rank b.end) (ranges half_open (held m))))))
             ≡ cond t bad_status 0
         of_strange true = refl
         of_strange false = refl
-    of_day (Day.Refused n) h = refused_is z y mo d h
+    of_day (Err why) h = ap number (refused_is z y mo d h)

@@ -6,7 +6,7 @@ use mathlib.Core.Bool.{false}
 use mathlib.Core.List.{List}
 use lib.ListN.{get_or}
 use lib.IntN.{ℤ, pos}
-use Rattle.std.specs.Prelude.{Ok, Err}
+use Rattle.std.specs.Prelude.{Result, Ok, Err}
 use Rattle.answers.specs.Answers.{done}
 use Rattle.answers.specs.declared.Refusal.{Refusal}
 use Rattle.outcomes.specs.Numbers.{asked_in_c, counted_in_c, found_in_c, part_in_c, compared_in_c, totalled_in_c}
@@ -25,7 +25,7 @@ use Rattle.outcomes.specs.Answered.{Totalled}
 use Rattle.outcomes.specs.declared.Total.{Total}
 use Rattle.byte_form.specs.Form.{Output, Wrote}
 use Rattle.log_day.specs.Days.{day_in_c}
-use Rattle.log_day.specs.declared.Day.{Day}
+use Rattle.key.specs.declared.Bounds.{Bounds}
 use Rattle.log_day.specs.declared.LogDay.{LogDay}
 use Rattle.report.specs.Report.{Reported, reported_in_c}
 use Rattle.report.specs.declared.DayReport.{DayReport}
@@ -60,9 +60,9 @@ pub total_refused : (a : Totalled) (r : Total) → r ≡ totalled_in_c a → Ref
 total_refused a r q n = rw q (total_zero a (subst (λ (x : Total). Refuses x.answer) q n))
 
 -- a day
-pub day_refused : (a : Day) (r : LogDay) → r ≡ day_in_c a → Refuses r.answer → (r.start ≡ pos 0) × (r.end ≡ pos 0)
-day_refused (Day.Span s e) r q n = absurd (n (ap (λ (x : LogDay). x.answer) q))
-day_refused (Day.Refused k) r q n = (ap (λ (x : LogDay). x.start) q, ap (λ (x : LogDay). x.end) q)
+pub day_refused : (a : Result Bounds Refusal) (r : LogDay) → r ≡ day_in_c a → Refuses r.answer → (r.start ≡ pos 0) × (r.end ≡ pos 0)
+day_refused (Ok day) r q n = absurd (n (ap (λ (x : LogDay). x.answer) q))
+day_refused (Err why) r q n = (ap (λ (x : LogDay). x.start) q, ap (λ (x : LogDay). x.end) q)
 
 -- a report: all of it is 0 but its number
 pub report_refused : (a : Reported) (r : DayReport) → r ≡ reported_in_c a → Refuses r.answer → (why : Refusal) × (r ≡ reported_in_c (Err why))
