@@ -19,7 +19,6 @@ use Rattle.outcomes.specs.Stored.{ranges}
 use Rattle.outcomes.specs.declared.Stored.{Stored}
 use Rattle.duty.specs.Duty.{is_status, strange, tally_sound}
 use Rattle.duty.specs.declared.Totals.{Totals}
-use Rattle.answers.specs.declared.Refusal.{Refusal}
 use Rattle.std.specs.Prelude.{Result, Ok}
 use Rattle.duty.proofs.Laws.{within_cons, strange_cons, strange_alike, strange_none}
 use Rattle.report_text.specs.Rows.{row_of}
@@ -93,7 +92,7 @@ unfolding tally_sound in_quarter
 quarter_totals a b d p r = rw (p, r, d.calm)
 
 -- and its mark
-pub marked_is : (m : List Span) (s : ℤ) (j q : ℕ) {t : Totals} {n : ℕ} → ◌≡◌ {A = Result Totals Refusal} (Ok t) (Ok (in_quarter m s q)) → n ≡ row_of t j
+pub marked_is : (m : List Span) (s : ℤ) (j q : ℕ) {E : Type 0} {t : Totals} {n : ℕ} → ◌≡◌ {A = Result Totals E} (Ok t) (Ok (in_quarter m s q)) → n ≡ row_of t j
     → ltb 0 n ≡ is_marked m s j q
 unfolding is_marked
 marked_is m s j q {t} e r = let u : t ≡ in_quarter m s q = cc in rw (r, u)
