@@ -5,7 +5,7 @@ ghost use Rattle.key.specs.Rank.{rank};
 ghost use Rattle.key.specs.Range.{half_open, inclusive, kind_of};
 ghost use Rattle.outcomes.specs.Stored.{places, Sound, Spare, stored};
 ghost use Rattle.outcomes.specs.Outcomes.{formed};
-ghost use Rattle.store.specs.InnerCheck.{Checked, Follows, Steps, Keys, Unused};
+ghost use Rattle.store.specs.InnerCheck.{check, Follows, Steps, Keys, Unused};
 
 use answers::Refusal;
 use key::{RangeKind, Value};
@@ -168,7 +168,9 @@ pub fn well_formed(
 
 // The same as a result: a map that is not well formed is refused, and one that is sound and has all its places is let pass.
 pub fn checked(kind: RangeKind, m: &Stored) -> Result<(), Refusal>
-    ensures { Checked (kind_of kind) m.now result }
+    ensures value { result ≡ check (kind_of kind) m.now }
+    ensures sound { formed (kind_of kind) m.now ≡ true → Sound (kind_of kind) m.now }
+    ensures starts_len { formed (kind_of kind) m.now ≡ true → length m.now.starts ≡ places }
 {
     if well_formed(kind, m) {
         Ok(())
