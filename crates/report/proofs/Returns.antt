@@ -7,6 +7,7 @@ use lib.Dec.{lt→ltb}
 use lib.Ieee.{binary64, of_bits}
 use Rattle.std.specs.Prelude.{Ok}
 use Rattle.key.specs.Rank.{rank}
+use Rattle.key.specs.declared.Bounds.{Bounds}
 use Rattle.key.proofs.Laws.{rank_pos}
 use Rattle.hours.specs.Hours.{hours_of}
 use Rattle.duty.specs.InnerWalk.{u32_limit}
@@ -35,5 +36,6 @@ day_window z y m d {s} {e} q =
       | plain n c i ↦ record { real = omega (arith, a, b); at_least = omega (arith, a, b); at_most = omega (arith, a, b) }
     ]
 
-pub window_short : {s e : ℤ} → Window s e → rank e - rank s < u32_limit
-window_short w = omega (arith, w.at_most)
+-- so its seconds can be counted
+pub countable : (z y m d : ℕ) {x : Bounds} → day_of z y m d ≡ Ok x → (rank x.start < rank x.end) × (rank x.end - rank x.start < u32_limit)
+countable z y m d q = let w = day_window z y m d q in (w.real, omega (arith, w.at_most))

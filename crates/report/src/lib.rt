@@ -82,6 +82,7 @@ impl From<Result<DayTotals, Refusal>> for DayReport {
 }
 
 // The report of a well-formed map. The caller answers for the check.
+#[tactic(auto, using(crate::proofs::Returns::countable))]
 pub fn unchecked(m: &Stored, zone: u8, year: u16, month: u8, day: u8) -> Result<DayTotals, Refusal>
     requires { Sound half_open m.now }
     ensures { result ≡ day_report_sound m.now (day_of zone year month day) }
