@@ -1,5 +1,6 @@
 -- WHAT EACH EXPORTED FUNCTION OF A SET OF INCLUSIVE RANGES PROMISES, in document 01's order.
 -- Each is over what a caller sees: what is lent, at entry and (with a prime) at exit; the other arguments; and last the answer as C and Rust have it.
+use Rattle.answers.specs.Refusals.{number}
 use Rattle.std.specs.Prelude.{ℕ, ◌≡◌, List, Bool, true, length, ℤ}
 use Rattle.key.specs.Range.{inclusive}
 use Rattle.outcomes.specs.Outcomes.{not_written}
@@ -62,7 +63,7 @@ RangeInclusiveSetOverlapping m start end r = r ≡ part_in_c (if_set (held m) (o
 -- `range_inclusive_set_gaps`: the maximal uncovered ranges inside start..=end, into the first places of two lent lists.
 abbrev pub RangeInclusiveSetGaps : RangeInclusiveSet → ℤ → ℤ → List ℤ → List ℤ → List ℤ → List ℤ → Count → Type 0
 RangeInclusiveSetGaps m start end outStarts outStarts' outEnds outEnds' r =
-    Listed r outStarts' outEnds' (if_set (held m) (gaps inclusive (held m) start end outStarts outEnds) (λ n. not_written n outStarts outEnds))
+    Listed r outStarts' outEnds' (if_set (held m) (gaps inclusive (held m) start end outStarts outEnds) (λ why. not_written why outStarts outEnds))
 
 -- `range_inclusive_set_eq`: whether two sets hold the same ranges.
 abbrev pub RangeInclusiveSetEq : RangeInclusiveSet → RangeInclusiveSet → Told → Type 0
@@ -74,16 +75,16 @@ RangeInclusiveSetCmp a b r = r ≡ compared_in_c (if_sets (held a) (held b) (ord
 
 -- `range_inclusive_set_insert`: covers each instant of start..=end, and no other.
 abbrev pub RangeInclusiveSetInsert : RangeInclusiveSet → RangeInclusiveSet → ℤ → ℤ → ℕ → Type 0
-RangeInclusiveSetInsert m m' start end r = leaving r (held m') ≡ if_set (held m) (insert inclusive (held m) start end 0) (λ n. leaving n (held m))
+RangeInclusiveSetInsert m m' start end r = leaving r (held m') ≡ if_set (held m) (insert inclusive (held m) start end 0) (λ why. leaving (number why) (held m))
 
 -- `range_inclusive_set_remove`: uncovers exactly the instants of start..=end.
 abbrev pub RangeInclusiveSetRemove : RangeInclusiveSet → RangeInclusiveSet → ℤ → ℤ → ℕ → Type 0
-RangeInclusiveSetRemove m m' start end r = leaving r (held m') ≡ if_set (held m) (remove inclusive (held m) start end) (λ n. leaving n (held m))
+RangeInclusiveSetRemove m m' start end r = leaving r (held m') ≡ if_set (held m) (remove inclusive (held m) start end) (λ why. leaving (number why) (held m))
 
 -- `range_inclusive_set_extend`: inserts the ranges of two lent lists in order, up to the first refusal.
 abbrev pub RangeInclusiveSetExtend : RangeInclusiveSet → RangeInclusiveSet → List ℤ → List ℤ → Applied → Type 0
 RangeInclusiveSetExtend m m' starts ends r =
-    extended r (held m') ≡ if_set (held m) (bulk_insert inclusive (held m) (pairs starts ends)) (λ n. extended (record { answer = n; applied = 0 }) (held m))
+    extended r (held m') ≡ if_set (held m) (bulk_insert inclusive (held m) (pairs starts ends)) (λ why. extended (record { answer = number why; applied = 0 }) (held m))
 
 -- `range_inclusive_set_clear`: leaves nothing covered, whatever the set was.
 abbrev pub RangeInclusiveSetClear : RangeInclusiveSet → RangeInclusiveSet → Type 0

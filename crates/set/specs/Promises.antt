@@ -1,5 +1,6 @@
 -- WHAT EACH EXPORTED FUNCTION OF A SET OF HALF-OPEN RANGES PROMISES, in document 01's order.
 -- Each is over what a caller sees: what is lent, at entry and (with a prime) at exit; the other arguments; and last the answer as C and Rust have it.
+use Rattle.answers.specs.Refusals.{number}
 use Rattle.std.specs.Prelude.{ℕ, ◌≡◌, List, Bool, true, length, ℤ}
 use Rattle.key.specs.Range.{half_open}
 use Rattle.outcomes.specs.Outcomes.{not_written}
@@ -62,7 +63,7 @@ RangeSetOverlapping m start end r = r ≡ part_in_c (if_set (held m) (overlappin
 -- `range_set_gaps`: the maximal uncovered ranges inside start..end, into the first places of two lent lists.
 abbrev pub RangeSetGaps : RangeSet → ℤ → ℤ → List ℤ → List ℤ → List ℤ → List ℤ → Count → Type 0
 RangeSetGaps m start end outStarts outStarts' outEnds outEnds' r =
-    Listed r outStarts' outEnds' (if_set (held m) (gaps half_open (held m) start end outStarts outEnds) (λ n. not_written n outStarts outEnds))
+    Listed r outStarts' outEnds' (if_set (held m) (gaps half_open (held m) start end outStarts outEnds) (λ why. not_written why outStarts outEnds))
 
 -- `range_set_eq`: whether two sets hold the same ranges.
 abbrev pub RangeSetEq : RangeSet → RangeSet → Told → Type 0
@@ -74,16 +75,16 @@ RangeSetCmp a b r = r ≡ compared_in_c (if_sets (held a) (held b) (order half_o
 
 -- `range_set_insert`: covers each instant of start..end, and no other.
 abbrev pub RangeSetInsert : RangeSet → RangeSet → ℤ → ℤ → ℕ → Type 0
-RangeSetInsert m m' start end r = leaving r (held m') ≡ if_set (held m) (insert half_open (held m) start end 0) (λ n. leaving n (held m))
+RangeSetInsert m m' start end r = leaving r (held m') ≡ if_set (held m) (insert half_open (held m) start end 0) (λ why. leaving (number why) (held m))
 
 -- `range_set_remove`: uncovers exactly the instants of start..end.
 abbrev pub RangeSetRemove : RangeSet → RangeSet → ℤ → ℤ → ℕ → Type 0
-RangeSetRemove m m' start end r = leaving r (held m') ≡ if_set (held m) (remove half_open (held m) start end) (λ n. leaving n (held m))
+RangeSetRemove m m' start end r = leaving r (held m') ≡ if_set (held m) (remove half_open (held m) start end) (λ why. leaving (number why) (held m))
 
 -- `range_set_extend`: inserts the ranges of two lent lists in order, up to the first refusal.
 abbrev pub RangeSetExtend : RangeSet → RangeSet → List ℤ → List ℤ → Applied → Type 0
 RangeSetExtend m m' starts ends r =
-    extended r (held m') ≡ if_set (held m) (bulk_insert half_open (held m) (pairs starts ends)) (λ n. extended (record { answer = n; applied = 0 }) (held m))
+    extended r (held m') ≡ if_set (held m) (bulk_insert half_open (held m) (pairs starts ends)) (λ why. extended (record { answer = number why; applied = 0 }) (held m))
 
 -- `range_set_clear`: leaves nothing covered, whatever the set was.
 abbrev pub RangeSetClear : RangeSet → RangeSet → Type 0

@@ -2,6 +2,7 @@
 // `set` and `inclusive_set` name their kind and lend all the fields of their set to these.
 #![tactic(auto)]
 
+ghost use Rattle.answers.specs.Refusals.{number};
 ghost use Rattle.std.specs.Prelude.{◌≡◌, true, length};
 ghost use Rattle.key.specs.Range.{kind_of};
 ghost use Rattle.outcomes.specs.Stored.{places, stored};
@@ -10,11 +11,6 @@ ghost use Rattle.outcomes.specs.Outcomes.{not_written};
 ghost use Rattle.outcomes.specs.Outcomes.{Listed, leaving, is_empty, count_of, range_at, first_of, last_of, lookup, contains, overlaps, overlapping, gaps};
 ghost use Rattle.outcomes.specs.Outcomes.{equal, order, insert, remove};
 ghost use Rattle.outcomes.specs.Sets.{if_set, if_sets, formed_set, SoundSet, total_of};
-ghost use Rattle.outcomes.specs.declared.Asked.TheVariants as Asked;
-ghost use Rattle.outcomes.specs.declared.Compared.TheVariants as Compared;
-ghost use Rattle.outcomes.specs.declared.Counted.TheVariants as Counted;
-ghost use Rattle.outcomes.specs.declared.Found.TheVariants as Found;
-ghost use Rattle.outcomes.specs.declared.Part.TheVariants as Part;
 ghost use Rattle.operations.specs.InnerOperation.{combined_any};
 
 use key::RangeKind;
@@ -26,7 +22,7 @@ pub fn is_empty(
     m: &Stored,
 ) -> Told
     ensures { result ≡ asked_in_c (if_set m.now
-        (is_empty (kind_of kind) m.now) Asked.Refused) }
+        (is_empty (kind_of kind) m.now) Err) }
 {
     Told::from(set_ops::stored::is_empty(kind, m))
 }
@@ -36,7 +32,7 @@ pub fn len(
     m: &Stored,
 ) -> Count
     ensures { result ≡ counted_in_c (if_set m.now
-        (count_of (kind_of kind) m.now) Counted.Refused) }
+        (count_of (kind_of kind) m.now) Err) }
 {
     Count::from(set_ops::stored::len(kind, m))
 }
@@ -47,7 +43,7 @@ pub fn range_at(
     place: usize,
 ) -> Range
     ensures { result ≡ found_in_c (if_set m.now
-        (range_at (kind_of kind) m.now place) Found.Refused) }
+        (range_at (kind_of kind) m.now place) Err) }
 {
     Range::from(set_ops::stored::range_at(kind, m, place))
 }
@@ -57,7 +53,7 @@ pub fn first(
     m: &Stored,
 ) -> Range
     ensures { result ≡ found_in_c (if_set m.now
-        (first_of (kind_of kind) m.now) Found.Refused) }
+        (first_of (kind_of kind) m.now) Err) }
 {
     Range::from(set_ops::stored::first(kind, m))
 }
@@ -67,7 +63,7 @@ pub fn last(
     m: &Stored,
 ) -> Range
     ensures { result ≡ found_in_c (if_set m.now
-        (last_of (kind_of kind) m.now) Found.Refused) }
+        (last_of (kind_of kind) m.now) Err) }
 {
     Range::from(set_ops::stored::last(kind, m))
 }
@@ -78,7 +74,7 @@ pub fn get(
     key: i64,
 ) -> Range
     ensures { result ≡ found_in_c (if_set m.now
-        (lookup (kind_of kind) m.now key) Found.Refused) }
+        (lookup (kind_of kind) m.now key) Err) }
 {
     Range::from(set_ops::found::get(kind, m, key))
 }
@@ -89,7 +85,7 @@ pub fn contains(
     key: i64,
 ) -> Told
     ensures { result ≡ asked_in_c (if_set m.now
-        (contains (kind_of kind) m.now key) Asked.Refused) }
+        (contains (kind_of kind) m.now key) Err) }
 {
     Told::from(set_ops::found::contains(kind, m, key))
 }
@@ -101,7 +97,7 @@ pub fn overlaps(
     end: i64,
 ) -> Told
     ensures { result ≡ asked_in_c (if_set m.now
-        (overlaps (kind_of kind) m.now start end) Asked.Refused) }
+        (overlaps (kind_of kind) m.now start end) Err) }
 {
     Told::from(set_ops::found::overlaps(kind, m, start, end))
 }
@@ -113,7 +109,7 @@ pub fn overlapping(
     end: i64,
 ) -> Stretch
     ensures { result ≡ part_in_c (if_set m.now
-        (overlapping (kind_of kind) m.now start end) Part.Refused) }
+        (overlapping (kind_of kind) m.now start end) Err) }
 {
     Stretch::from(set_ops::found::overlapping(kind, m, start, end))
 }
@@ -129,7 +125,7 @@ pub fn gaps(
     ensures { Listed result out_starts.new out_ends.new
         (if_set m.now
         (gaps (kind_of kind) m.now start end out_starts.old out_ends.old)
-        (λ n. not_written n out_starts.old out_ends.old)) }
+        (λ why. not_written why out_starts.old out_ends.old)) }
 {
     Count::from(set_ops::found::gaps(
         kind, m, start, end, out_starts, out_ends,
@@ -142,7 +138,7 @@ pub fn eq(
     other: &Stored,
 ) -> Told
     ensures { result ≡ asked_in_c (if_sets m.now other.now
-        (equal (kind_of kind) m.now other.now) Asked.Refused) }
+        (equal (kind_of kind) m.now other.now) Err) }
 {
     Told::from(set_ops::stored::eq(
         kind, m, other,
@@ -155,7 +151,7 @@ pub fn cmp(
     other: &Stored,
 ) -> Order
     ensures { result ≡ compared_in_c (if_sets m.now other.now
-        (order (kind_of kind) m.now other.now) Compared.Refused) }
+        (order (kind_of kind) m.now other.now) Err) }
 {
     Order::from(set_ops::stored::cmp(
         kind, m, other,
@@ -170,7 +166,7 @@ pub fn insert(
 ) -> u8
     ensures { leaving result m.new
         ≡ if_set m.old (insert (kind_of kind) m.old start end 0)
-        (λ n. leaving n m.old) }
+        (λ why. leaving (number why) m.old) }
 {
     number_of(set_ops::changed::insert(kind, m, start, end))
 }
@@ -183,7 +179,7 @@ pub fn remove(
 ) -> u8
     ensures { leaving result m.new
         ≡ if_set m.old (remove (kind_of kind) m.old start end)
-        (λ n. leaving n m.old) }
+        (λ why. leaving (number why) m.old) }
 {
     number_of(set_ops::changed::remove(kind, m, start, end))
 }

@@ -1,75 +1,49 @@
 // What a set holds at a key and over a range.
-ghost use Rattle.std.specs.Prelude.{◌≡◌};
+ghost use Rattle.std.specs.Prelude.{◌≡◌, Err};
 ghost use Rattle.key.specs.Range.{kind_of};
 ghost use Rattle.outcomes.specs.Stored.{stored};
 ghost use Rattle.outcomes.specs.Outcomes.{not_written, contains, gaps, lookup, overlaps, overlapping};
 ghost use Rattle.outcomes.specs.Sets.{if_set};
 ghost use Rattle.range_list.specs.InnerLists.{wrote};
 
+use crate::plain_set;
 use answers::Refusal;
 use key::{Entry, RangeKind};
-use outcomes::{Asked, Found, Part, Stored};
-use store::plain::plain;
+use outcomes::{Part, Stored};
 
 // The range that holds the key.
-pub fn get(
-    kind: RangeKind,
-    m: &Stored,
-    key: i64,
-) -> Result<Option<Entry>, Refusal>
+pub fn get(kind: RangeKind, m: &Stored, key: i64) -> Result<Option<Entry>, Refusal>
     ensures { result ≡ if_set m.now
-        (lookup (kind_of kind) m.now key) Found.Refused }
+        (lookup (kind_of kind) m.now key) Err }
 {
-    if !plain(&m.values) {
-        return Err(Refusal::NotFormed);
-    }
+    plain_set(m)?;
     map_ops::find::get_key_value(kind, m, key)
 }
 
 // Whether some range holds the key.
-pub fn contains(
-    kind: RangeKind,
-    m: &Stored,
-    key: i64,
-) -> Result<bool, Refusal>
+pub fn contains(kind: RangeKind, m: &Stored, key: i64) -> Result<bool, Refusal>
     ensures { result ≡ if_set m.now
-        (contains (kind_of kind) m.now key) Asked.Refused }
+        (contains (kind_of kind) m.now key) Err }
 {
-    if !plain(&m.values) {
-        return Err(Refusal::NotFormed);
-    }
+    plain_set(m)?;
     map_ops::find::contains_key(kind, m, key)
 }
 
 // Whether some range has a key of the query.
-pub fn overlaps(
-    kind: RangeKind,
-    m: &Stored,
-    start: i64,
-    end: i64,
-) -> Result<bool, Refusal>
+pub fn overlaps(kind: RangeKind, m: &Stored, start: i64, end: i64) -> Result<bool, Refusal>
     ensures { result ≡ if_set m.now
-        (overlaps (kind_of kind) m.now start end) Asked.Refused }
+        (overlaps (kind_of kind) m.now start end) Err }
 {
-    if !plain(&m.values) {
-        return Err(Refusal::NotFormed);
-    }
+    plain_set(m)?;
     map_ops::find::overlaps(kind, m, start, end)
 }
 
 // Which consecutive stored part meets the query.
-pub fn overlapping(
-    kind: RangeKind,
-    m: &Stored,
-    start: i64,
-    end: i64,
-) -> Result<Part, Refusal>
+pub fn overlapping(kind: RangeKind, m: &Stored, start: i64, end: i64) -> Result<Part, Refusal>
     ensures { result ≡ if_set m.now
-        (overlapping (kind_of kind) m.now start end) Part.Refused }
+        (overlapping (kind_of kind) m.now start end) Err }
 {
-    if !plain(&m.values) {
-        return Err(Refusal::NotFormed);
-    }
+    plain_set(m)?;
     map_ops::find::overlapping(kind, m, start, end)
 }
 
@@ -85,12 +59,8 @@ pub fn gaps(
     ensures { wrote result out_starts.new out_ends.new
         ≡ if_set m.now
         (gaps (kind_of kind) m.now start end out_starts.old out_ends.old)
-        (λ n. not_written n out_starts.old out_ends.old) }
+        (λ why. not_written why out_starts.old out_ends.old) }
 {
-    if !plain(&m.values) {
-        return Err(Refusal::NotFormed);
-    }
-    map_ops::find::gaps(
-        kind, m, start, end, out_starts, out_ends,
-    )
+    plain_set(m)?;
+    map_ops::find::gaps(kind, m, start, end, out_starts, out_ends)
 }

@@ -1,123 +1,77 @@
 // What a set holds as a list: a set is a map whose values are all 0, so the answer is the map's.
-ghost use Rattle.std.specs.Prelude.{◌≡◌};
+ghost use Rattle.std.specs.Prelude.{◌≡◌, Err};
 ghost use Rattle.key.specs.Range.{kind_of};
 ghost use Rattle.outcomes.specs.Stored.{stored};
 ghost use Rattle.outcomes.specs.Outcomes.{count_of, equal, first_of, is_empty, last_of, order, range_at};
 ghost use Rattle.outcomes.specs.Sets.{if_set, if_sets};
 
-use std::cmp::Ordering;
+use crate::plain_set;
 use answers::Refusal;
 use key::{Entry, RangeKind};
-use outcomes::{Asked, Compared, Counted, Found, Stored};
-use store::plain::plain;
+use outcomes::Stored;
+use std::cmp::Ordering;
 
 // Whether nothing is held.
-pub fn is_empty(
-    kind: RangeKind,
-    m: &Stored,
-) -> Result<bool, Refusal>
+pub fn is_empty(kind: RangeKind, m: &Stored) -> Result<bool, Refusal>
     ensures { result ≡ if_set m.now
-        (is_empty (kind_of kind) m.now) Asked.Refused }
+        (is_empty (kind_of kind) m.now) Err }
 {
-    if !plain(&m.values) {
-        return Err(Refusal::NotFormed);
-    }
+    plain_set(m)?;
     map_ops::list::is_empty(kind, m)
 }
 
 // How many ranges are held.
-pub fn len(
-    kind: RangeKind,
-    m: &Stored,
-) -> Result<usize, Refusal>
+pub fn len(kind: RangeKind, m: &Stored) -> Result<usize, Refusal>
     ensures { result ≡ if_set m.now
-        (count_of (kind_of kind) m.now) Counted.Refused }
+        (count_of (kind_of kind) m.now) Err }
 {
-    if !plain(&m.values) {
-        return Err(Refusal::NotFormed);
-    }
+    plain_set(m)?;
     map_ops::list::len(kind, m)
 }
 
 // The range at a place.
-pub fn range_at(
-    kind: RangeKind,
-    m: &Stored,
-    place: usize,
-) -> Result<Option<Entry>, Refusal>
+pub fn range_at(kind: RangeKind, m: &Stored, place: usize) -> Result<Option<Entry>, Refusal>
     ensures { result ≡ if_set m.now
-        (range_at (kind_of kind) m.now place) Found.Refused }
+        (range_at (kind_of kind) m.now place) Err }
 {
-    if !plain(&m.values) {
-        return Err(Refusal::NotFormed);
-    }
+    plain_set(m)?;
     map_ops::list::range_at(kind, m, place)
 }
 
 // The first range.
-pub fn first(
-    kind: RangeKind,
-    m: &Stored,
-) -> Result<Option<Entry>, Refusal>
+pub fn first(kind: RangeKind, m: &Stored) -> Result<Option<Entry>, Refusal>
     ensures { result ≡ if_set m.now
-        (first_of (kind_of kind) m.now) Found.Refused }
+        (first_of (kind_of kind) m.now) Err }
 {
-    if !plain(&m.values) {
-        return Err(Refusal::NotFormed);
-    }
+    plain_set(m)?;
     map_ops::list::first_range_value(kind, m)
 }
 
 // The last range.
-pub fn last(
-    kind: RangeKind,
-    m: &Stored,
-) -> Result<Option<Entry>, Refusal>
+pub fn last(kind: RangeKind, m: &Stored) -> Result<Option<Entry>, Refusal>
     ensures { result ≡ if_set m.now
-        (last_of (kind_of kind) m.now) Found.Refused }
+        (last_of (kind_of kind) m.now) Err }
 {
-    if !plain(&m.values) {
-        return Err(Refusal::NotFormed);
-    }
+    plain_set(m)?;
     map_ops::list::last_range_value(kind, m)
 }
 
 // Which of two sets comes first.
-pub fn cmp(
-    kind: RangeKind,
-    m: &Stored,
-    other: &Stored,
-) -> Result<Ordering, Refusal>
+pub fn cmp(kind: RangeKind, m: &Stored, other: &Stored) -> Result<Ordering, Refusal>
     ensures { result ≡ if_sets m.now other.now
-        (order (kind_of kind) m.now other.now) Compared.Refused }
+        (order (kind_of kind) m.now other.now) Err }
 {
-    if !plain(&m.values) {
-        return Err(Refusal::NotFormed);
-    }
-    if !plain(&other.values) {
-        return Err(Refusal::NotFormed);
-    }
-    map_ops::list::cmp(
-        kind, m, other,
-    )
+    plain_set(m)?;
+    plain_set(other)?;
+    map_ops::list::cmp(kind, m, other)
 }
 
 // Whether two sets hold the same ranges.
-pub fn eq(
-    kind: RangeKind,
-    m: &Stored,
-    other: &Stored,
-) -> Result<bool, Refusal>
+pub fn eq(kind: RangeKind, m: &Stored, other: &Stored) -> Result<bool, Refusal>
     ensures { result ≡ if_sets m.now other.now
-        (equal (kind_of kind) m.now other.now) Asked.Refused }
+        (equal (kind_of kind) m.now other.now) Err }
 {
-    if !plain(&m.values) {
-        return Err(Refusal::NotFormed);
-    }
-    if !plain(&other.values) {
-        return Err(Refusal::NotFormed);
-    }
-    map_ops::list::eq(
-        kind, m, other,
-    )
+    plain_set(m)?;
+    plain_set(other)?;
+    map_ops::list::eq(kind, m, other)
 }
