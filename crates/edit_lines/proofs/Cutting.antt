@@ -14,14 +14,14 @@ use Rattle.std.proofs.lemmas.Slice.Eq.{bytes_eq-Decides}
 use lib.ListN.{length, take, drop, length-drop, drop_of_length-le}
 use lib.Seq.{take-length, take_all}
 use Rattle.std.specs.List.{position, position_or_len}
-use Rattle.std.specs.Prelude.{Some, None}
+use Rattle.std.specs.Prelude.{Some, None, Result, Ok, Err}
+use Rattle.std.specs.Result.{OkIff, result_ok}
 use Rattle.std.proofs.lemmas.List.Quantifiers.{position-Some}
 use Rattle.std.proofs.lemmas.List.Sums.{position_or_len_is}
 use Rattle.std.proofs.lemmas.List.Recursion.{is_position_or_len}
 use borrow.Author.Tests.{lt-ltb}
 use Rattle.edit_lines.specs.Making.{words_line}
 use Rattle.edit_lines.specs.InnerStep.{index_of}
-use Rattle.edit_lines.specs.declared.Line.TheVariants as Line
 use Rattle.edit_lines.specs.Parts.{ahead, parts_at, lines_of, words_of}
 
 -- where a byte is, by whether it is the first, and where it is behind that
@@ -126,6 +126,11 @@ module _ (a b : List ℕ) {r : Bool} (compared : r ≡ not (pointwise eqb a b)) 
       turn true h = sym h
       turn false h = refl
 
+-- a value that is a byte
+pub a_byte : {E : Type 0} {n v : ℕ} (r : Result ℕ E) → OkIff r (n < 256) n → Some v ≡ result_ok r → (n < 256) × (v ≡ n)
+a_byte {v = v} (Ok x) s e = let z : v ≡ x = cc in (s.0, z ∙ s.1)
+a_byte {v = v} (Err x) s e = absurd (let z : Some v ≡ None = e in let y : ◌≡◌ {A = ℕ} 0 1 = cc in omega arith)
+
 -- the words of a text in which a space was looked for
 module _ (xs : List ℕ) where
   pub no_space : position (λ x. eqb x 32) xs ≡ None → words_of xs ≡ xs ∷ []
@@ -158,5 +163,5 @@ module _ (xs : List ℕ) where
       lines_more xs h ∙ rw (n, take-length xs, drop_of_length-le xs {i = suc (length xs)} (omega arith))
 
 -- a line of five words or more is no edit
-pub five_words : (w s e v xs : List ℕ) → words_line (w ∷ s ∷ e ∷ v ∷ words_of xs) ≡ Line.Neither
+pub five_words : (w s e v xs : List ℕ) → words_line (w ∷ s ∷ e ∷ v ∷ words_of xs) ≡ None
 five_words w s e v xs = let (p, (ps, is)) = words_some xs in rw is

@@ -18,58 +18,42 @@ fn first_word(text: &[u8]) -> Option<(&[u8], &[u8])>
 }
 
 // A line of three words.
-fn remove_of(word: &[u8], start: &[u8], end: &[u8]) -> Line
+fn remove_of(word: &[u8], start: &[u8], end: &[u8]) -> Option<Line>
     ensures { result ≡ words_line (word.now ∷ start.now ∷ end.now ∷ []) }
 {
     if word != b"remove".as_slice() {
-        return Line::Neither;
+        return None;
     }
-    let Some(s) = decimal::read_i64(start) else {
-        return Line::Neither;
-    };
-    let Some(e) = decimal::read_i64(end) else {
-        return Line::Neither;
-    };
-    Line::Remove(s, e)
+    let s = decimal::read_i64(start)?;
+    let e = decimal::read_i64(end)?;
+    Some(Line::Remove(s, e))
 }
 
 // A line of four words.
-fn insert_of(word: &[u8], start: &[u8], end: &[u8], value: &[u8]) -> Line
+fn insert_of(word: &[u8], start: &[u8], end: &[u8], value: &[u8]) -> Option<Line>
     ensures { result ≡ words_line (word.now ∷ start.now ∷ end.now ∷ value.now ∷ []) }
 {
     if word != b"insert".as_slice() {
-        return Line::Neither;
+        return None;
     }
-    let Some(s) = decimal::read_i64(start) else {
-        return Line::Neither;
-    };
-    let Some(e) = decimal::read_i64(end) else {
-        return Line::Neither;
-    };
-    let Some(v) = decimal::read_u64(value) else {
-        return Line::Neither;
-    };
-    match u8::try_from(v) {
-        Ok(v) => Line::Insert(s, e, v),
-        Err(_) => Line::Neither,
-    }
+    let s = decimal::read_i64(start)?;
+    let e = decimal::read_i64(end)?;
+    let v = decimal::read_u64(value)?;
+    let v = u8::try_from(v).ok()?;
+    Some(Line::Insert(s, e, v))
 }
 
-// What the bytes of a line are.
-pub fn line_of(line: &[u8]) -> Line
+// The edit that the bytes of a line are, if they are one.
+pub fn line_of(line: &[u8]) -> Option<Line>
     ensures { result ≡ line_of line.now }
 {
-    let Some((word, rest)) = first_word(line) else {
-        return Line::Neither;
-    };
-    let Some((start, rest)) = first_word(rest) else {
-        return Line::Neither;
-    };
+    let (word, rest) = first_word(line)?;
+    let (start, rest) = first_word(rest)?;
     let Some((end, value)) = first_word(rest) else {
         return remove_of(word, start, rest);
     };
     match first_word(value) {
         None => insert_of(word, start, end, value),
-        Some(_) => Line::Neither,
+        Some(_) => None,
     }
 }

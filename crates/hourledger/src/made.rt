@@ -4,16 +4,16 @@ ghost use Rattle.hourledger.specs.InnerInput.{Held};
 use crate::input::{NoText, read_all};
 use crate::output::{fail, print, print_error};
 use byte_form::rm01::LONGEST;
-use edit_lines::Made;
+use edit_lines::NotMade;
 use edit_lines::said::{TOLD_ROOM, told_text};
 use outcomes::Stored;
 
 // The most bytes that are taken, and a byte more.
 const ROOM: usize = 1048577;
 
-fn say(rt: &HostRuntime, made: Made) {
+fn say(rt: &HostRuntime, went: Result<(), NotMade>) {
     let mut out = [0u8; TOLD_ROOM];
-    let n = told_text(made, &mut out);
+    let n = told_text(went, &mut out);
     print_error(rt, &out, n);
 }
 
@@ -27,8 +27,8 @@ fn write_form(rt: &HostRuntime, m: &Stored) {
 fn of_text(rt: &HostRuntime, text: &[u8]) {
     let mut m = Stored::new();
     match edit_lines::make(text, &mut m) {
-        Made::Done => write_form(rt, &m),
-        made => say(rt, made),
+        Ok(()) => write_form(rt, &m),
+        went => say(rt, went),
     }
 }
 

@@ -10,6 +10,6 @@ returns-then-ne c = rw (no_word c.args.word.now remove_word (rw c.as_slice.ensur
 pub returns : goal.returns
 returns c =
     let word = is_word c.args.word.now remove_word (rw c.as_slice.ensures at c.ne.ensures) c.if-ne.false in
-    let start = sym c.read_i64.ensures ∙ c.in-Some.is in
-    let end = sym c.read_i64-2.ensures ∙ c.in-Some-read_i64.is in
+    let start = sym c.read_i64.ensures ∙ c.in_ok-s.was in
+    let end = sym c.read_i64-2.ensures ∙ c.in_ok-e.was in
     rw (word, start, end) (search rules)
