@@ -1,6 +1,6 @@
 -- Document 01, Byte form: the mark, count as u32, then range after range; what the writer and the reader answer and leave. All of it is over any layout:
 -- document 01's is `rm01`.
-use Rattle.std.specs.Prelude.{ℕ, zero, suc, ◌≡◌, Bool, true, false, ◌&&◌, cond, List, [], ◌∷◌, ◌++◌, map, eqb, ltb, length, take, drop, pos}
+use Rattle.std.specs.Prelude.{ℕ, zero, suc, ◌≡◌, Bool, true, false, ◌&&◌, cond, List, [], ◌∷◌, ◌++◌, map, eqb, ltb, length, take, drop, pos, Ok, Err}
 use Rattle.answers.specs.Answers.{done, no_map}
 use Rattle.outcomes.specs.Stored.{places, filled}
 use Rattle.outcomes.specs.declared.Stored.{Stored}
@@ -11,7 +11,6 @@ use Rattle.outcomes.specs.declared.Count.{Count}
 use Rattle.outcomes.specs.Answered.{Counted}
 use Rattle.byte_form.specs.Bytes.{u32_size, number_in}
 use Rattle.byte_form.specs.Layout.{Layout, head_of, head_size}
-use Rattle.std.specs.Prelude.{Ok, Err}
 use Rattle.answers.specs.declared.Refusal.TheVariants.{TooShort, NotFormed}
 
 -- the ranges that a map holds, place by place: those of its first `count` places

@@ -27,11 +27,8 @@ use Rattle.outcomes.specs.Outcomes.{edit_sound}
 use Rattle.outcomes.specs.Numbers.{asked_in_c, counted_in_c, found_in_c, part_in_c, compared_in_c}
 use Rattle.outcomes.specs.Sets.{if_set, if_sets, pairs, union, intersection}
 use Rattle.outcomes.specs.declared.Applied.{Applied}
-use Rattle.outcomes.specs.Answered.{Asked}
+use Rattle.outcomes.specs.Answered.{Asked, Counted, Found, Located}
 use Rattle.outcomes.specs.declared.Count.{Count}
-use Rattle.outcomes.specs.Answered.{Counted}
-use Rattle.outcomes.specs.Answered.{Found}
-use Rattle.outcomes.specs.Answered.{Located}
 use Rattle.rust_algorithm.specs.Answers.{Functions, rust_edited, rust_run}
 use Rattle.rust_algorithm.specs.Equal.{LentMap, ListGiven, EqualToTheRust, entry_spans}
 use Rattle.one_map.specs.Events.{Proper}

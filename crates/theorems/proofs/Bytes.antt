@@ -9,7 +9,7 @@ use borrow.Author.Tests.{le-ltb}
 use lib.ListN.{length, take, drop}
 use lib.Seq.{take_at}
 use Rattle.std.specs.Prelude.{Ok, Err}
-use Rattle.answers.specs.Answers.{done, too_short, not_formed}
+use Rattle.answers.specs.Answers.{done}
 use Rattle.answers.specs.declared.Refusal.TheVariants.{TooShort, NotFormed}
 use Rattle.key.specs.Range.{half_open}
 use Rattle.outcomes.specs.declared.Stored.{Stored}

@@ -9,6 +9,7 @@ use lib.IntN.{ℤ}
 use mir.Syntax.{w64}
 use mir.Val.{of_z}
 use mir.Val.{SFits}
+use Rattle.std.specs.Prelude.{Ok}
 use Rattle.answers.specs.Answers.{done}
 use Rattle.span.specs.Span.{at}
 use Rattle.key.specs.Rank.{rank, key_at, keys}
@@ -21,7 +22,6 @@ use Rattle.duty.specs.Duty.{tally_sound}
 use Rattle.duty.proofs.Sums.{same_totals, same_strange}
 use Rattle.log_day.specs.Days.{bounds, day_of}
 use Rattle.log_day.specs.Promises.{LogDayPromise}
-use Rattle.std.specs.Prelude.{Ok}
 use Rattle.log_day.specs.declared.LogDay.{LogDay}
 use Rattle.report.specs.Report.{day_report, reported_in_c}
 use Rattle.report.specs.declared.DayReport.{DayReport}

@@ -1,7 +1,7 @@
 -- ON ANY NUMBER BUT 0 every other field is 0 and all lent memory is as it was; and places past the count are as they were. One law for each shape of promise:
 -- every promise of that shape is its hypothesis.
 use Prim.Native.Nat.{ℕ, ◌≤◌}
-use mathlib.Core.Path.{◌≡◌, sym, ap, subst, ◌∙◌}
+use mathlib.Core.Path.{◌≡◌, ap, subst}
 use mathlib.Core.Bool.{false}
 use mathlib.Core.List.{List}
 use lib.ListN.{get_or}
@@ -11,17 +11,12 @@ use Rattle.answers.specs.Answers.{done}
 use Rattle.answers.specs.declared.Refusal.{Refusal}
 use Rattle.outcomes.specs.Numbers.{asked_in_c, counted_in_c, found_in_c, part_in_c, compared_in_c, totalled_in_c}
 use Rattle.outcomes.specs.Outcomes.{Written, Listed}
-use Rattle.outcomes.specs.Answered.{Asked}
+use Rattle.outcomes.specs.Answered.{Asked, Counted, Found, Located, Compared, Totalled}
 use Rattle.outcomes.specs.declared.Told.{Told}
-use Rattle.outcomes.specs.Answered.{Counted}
 use Rattle.outcomes.specs.declared.Count.{Count}
-use Rattle.outcomes.specs.Answered.{Found}
 use Rattle.outcomes.specs.declared.Range.{Range}
-use Rattle.outcomes.specs.Answered.{Located}
 use Rattle.outcomes.specs.declared.Stretch.{Stretch}
-use Rattle.outcomes.specs.Answered.{Compared}
 use Rattle.outcomes.specs.declared.Order.{Order}
-use Rattle.outcomes.specs.Answered.{Totalled}
 use Rattle.outcomes.specs.declared.Total.{Total}
 use Rattle.byte_form.specs.Form.{Output, Wrote}
 use Rattle.log_day.specs.Days.{day_in_c}

@@ -1,22 +1,22 @@
 -- ONE CALL: what each shape of promise, of a map or of a set of either kind, says of the stored map that is left.
 use Prim.Native.Nat.{ℕ, ◌<◌}
 use mathlib.Core.Path.{◌≡◌, refl, sym, ap, subst, ◌∙◌}
-use mathlib.Core.Bool.{Bool, true, false, cond}
+use mathlib.Core.Bool.{true}
 use mathlib.Core.Logic.{◌⊎◌, inl, inr}
 use mathlib.Core.List.{List, [], ◌∷◌, map}
 use mathlib.Core.Option.{Option, some, none}
-use lib.Dec.{eqb, ltb}
+use lib.Dec.{eqb}
 use borrow.Author.Tests.{eqb-true}
-use lib.ListN.{length, take}
+use lib.ListN.{take}
 use lib.IntN.{ℤ}
-use Rattle.answers.specs.Answers.{done, empty_range, too_many}
+use Rattle.answers.specs.Answers.{done}
 use Rattle.answers.specs.Refusals.{number}
-use Rattle.span.specs.Span.{Span, Ordered, given, Real}
+use Rattle.span.specs.Span.{Ordered, Real}
 use Rattle.span.proofs.Tests.{cases}
 use Rattle.key.specs.Rank.{rank}
-use Rattle.key.specs.Range.{Kind, half_open, span_of, empty}
+use Rattle.key.specs.Range.{Kind, half_open}
 use Rattle.key.proofs.Lawful.{Lawful, half_open_lawful}
-use Rattle.outcomes.specs.Stored.{places, ranges, storing}
+use Rattle.outcomes.specs.Stored.{places}
 use Rattle.outcomes.specs.declared.Stored.{Stored}
 use Rattle.outcomes.specs.Outcomes.{Edited, leaving, Extended, extended, edit_sound, edit, insert, remove, bulk_insert, clear, Change, edits}
 use Rattle.key.specs.declared.Entry.{Entry}

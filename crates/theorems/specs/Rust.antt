@@ -1,8 +1,7 @@
 -- WHAT IS EQUAL TO THE RUST: what a struct answers, by the promise of a function, is what rangemap's own algorithms answer on the ranges that it holds; and
 -- what calls leave is what these hold that made the same changes. m and o are the maps that two structs hold.
-use Rattle.std.specs.Prelude.{ℕ, ◌<◌, ◌≡◌, List, [], take, drop, ℤ}
+use Rattle.std.specs.Prelude.{ℕ, ◌<◌, ◌≡◌, List, [], take, drop, ℤ, Ok}
 use Rattle.std.proofs.Math.Option.{Option, some}
-use Rattle.std.specs.Prelude.{Ok}
 use Rattle.answers.specs.Answers.{done}
 use Rattle.span.specs.Span.{Span}
 use Rattle.key.specs.Rank.{rank}
