@@ -105,51 +105,35 @@ pub fn range_inclusive_set_gaps(
 ) -> Count
     ensures { RangeInclusiveSetGaps m.now start end out_starts.old out_starts.new out_ends.old out_ends.new result }
 {
-    set_abi::gaps(
-        KIND, &m.stored, start, end, out_starts, out_ends,
-    )
+    set_abi::gaps(KIND, &m.stored, start, end, out_starts, out_ends)
 }
 
 // Whether two sets hold the same ranges.
 pub fn range_inclusive_set_eq(a: &RangeInclusiveSet, b: &RangeInclusiveSet) -> Told
     ensures { RangeInclusiveSetEq a.now b.now result }
 {
-    set_abi::eq(
-        KIND, &a.stored, &b.stored,
-    )
+    set_abi::eq(KIND, &a.stored, &b.stored)
 }
 
 // Which of two sets comes first: -1, 0 or 1.
 pub fn range_inclusive_set_cmp(a: &RangeInclusiveSet, b: &RangeInclusiveSet) -> Order
     ensures { RangeInclusiveSetCmp a.now b.now result }
 {
-    set_abi::cmp(
-        KIND, &a.stored, &b.stored,
-    )
+    set_abi::cmp(KIND, &a.stored, &b.stored)
 }
 
 // Covers each instant of start..=end, and no other.
 pub fn range_inclusive_set_insert(m: &mut RangeInclusiveSet, start: i64, end: i64) -> u8
     ensures { RangeInclusiveSetInsert m.old m.new start end result }
 {
-    set_abi::insert(
-        KIND,
-        &mut m.stored,
-        start,
-        end,
-    )
+    set_abi::insert(KIND, &mut m.stored, start, end)
 }
 
 // Uncovers exactly the instants of start..=end.
 pub fn range_inclusive_set_remove(m: &mut RangeInclusiveSet, start: i64, end: i64) -> u8
     ensures { RangeInclusiveSetRemove m.old m.new start end result }
 {
-    set_abi::remove(
-        KIND,
-        &mut m.stored,
-        start,
-        end,
-    )
+    set_abi::remove(KIND, &mut m.stored, start, end)
 }
 
 // Inserts the ranges of two lent lists in order, up to the first refusal.
@@ -160,12 +144,7 @@ pub fn range_inclusive_set_extend(
 ) -> Applied
     ensures { RangeInclusiveSetExtend m.old m.new starts.now ends.now result }
 {
-    set_ops::bulk::extend(
-        KIND,
-        &mut m.stored,
-        starts,
-        ends,
-    )
+    set_ops::bulk::extend(KIND, &mut m.stored, starts, ends)
 }
 
 // Leaves nothing covered, whatever the set was.
