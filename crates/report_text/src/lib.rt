@@ -18,6 +18,9 @@ use text::{put, put_byte, put_left, put_spaces};
 // The rows of a day: the four duties, and unrecorded time.
 pub const ROWS: usize = 5;
 
+// The row of unrecorded time, the last.
+pub const UNRECORDED: usize = ROWS - 1;
+
 // The columns of a name.
 const NAME_ROOM: usize = 14;
 

@@ -5,18 +5,6 @@ use Rattle.key.proofs.Laws.{rank_back}
 use Rattle.graph_text.proofs.Quarters.{quarter_totals, marked_is}
 use Rattle.graph_text.proofs.is_marked.Goals as goal
 
-pub quarter_start-requires : goal.quarter_start-requires
-quarter_start-requires c = simp rank_back (omega arith, omega (arith, c.requires.0.upto))
-
-pub quarter_start-requires-2 : goal.quarter_start-requires-2
-quarter_start-requires-2 c = simp rank_back (omega arith, c.requires.0.upto)
-
-pub between-requires : goal.between-requires
-between-requires c =
-    let p = simp rank_back at c.quarter_start.ensures in
-    let q = simp rank_back at c.quarter_start-2.ensures in
-    simp rank_back (c.requires.0.sound, omega (arith, p, q), omega (arith, p, q))
-
 pub returns-in-Ok : goal.returns-in-Ok
 returns-in-Ok c =
     let p = rank_back _ ∙ simp rank_back at c.quarter_start.ensures in
