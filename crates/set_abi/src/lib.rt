@@ -5,7 +5,7 @@
 ghost use Rattle.answers.specs.Refusals.{number};
 ghost use Rattle.std.specs.Prelude.{◌≡◌, true, length, Err};
 ghost use Rattle.key.specs.Range.{kind_of};
-ghost use Rattle.outcomes.specs.Stored.{places, stored};
+ghost use Rattle.outcomes.specs.Stored.{places};
 ghost use Rattle.outcomes.specs.Numbers.{asked_in_c, counted_in_c, found_in_c, part_in_c, compared_in_c, totalled_in_c};
 ghost use Rattle.outcomes.specs.Outcomes.{not_written};
 ghost use Rattle.outcomes.specs.Outcomes.{Listed, leaving, is_empty, count_of, range_at, first_of, last_of, lookup, contains, overlaps, overlapping, gaps};

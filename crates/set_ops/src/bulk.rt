@@ -1,26 +1,16 @@
 // Bulk insert into a set: in list order, up to the first refusal. The set is checked once.
+// It is not the map's bulk insert with values of 0: nobody lends a list of zeros, and none of any length fits in fixed memory.
+ghost use Rattle.std.specs.Prelude.{◌≡◌};
 ghost use Rattle.answers.specs.Refusals.{number};
-ghost use Rattle.std.specs.Prelude.{◌≡◌, Err, OnOk};
 ghost use Rattle.key.specs.Range.{kind_of};
-ghost use Rattle.outcomes.specs.Stored.{Sound, stored};
+ghost use Rattle.outcomes.specs.Stored.{Sound};
 ghost use Rattle.outcomes.specs.Outcomes.{bulk_insert, bulk_insert_sound, extended};
 ghost use Rattle.outcomes.specs.Sets.{if_set, pairs};
-ghost use Rattle.store.specs.InnerCheck.{check};
 
-use crate::plain_set;
 use answers::{DONE, Refusal};
 use key::RangeKind;
 use outcomes::{Applied, Stored};
-use store::check::checked;
-
-// The check of a lent set: that it is plain is asked first.
-fn checked_set(kind: RangeKind, m: &Stored) -> Result<(), Refusal>
-    ensures value { result ≡ if_set m.now (check (kind_of kind) m.now) Err }
-    ensures sound { OnOk result (Sound (kind_of kind) m.now) }
-{
-    plain_set(m)?;
-    checked(kind, m)
-}
+use store::plain::is_set;
 
 // The ranges of two lent lists, into a set that is well formed.
 fn extend_formed(kind: RangeKind, m: &mut Stored, new_starts: &[i64], new_ends: &[i64]) -> Applied
@@ -45,15 +35,16 @@ fn extend_formed(kind: RangeKind, m: &mut Stored, new_starts: &[i64], new_ends: 
 }
 
 // The same, into any set.
+#[tactic(auto, unfolding(outcomes::specs::Outcomes::bulk_insert))]
 pub fn extend(kind: RangeKind, m: &mut Stored, new_starts: &[i64], new_ends: &[i64]) -> Applied
     ensures { extended result m.new
         ≡ if_set m.old
         (bulk_insert (kind_of kind) m.old (pairs new_starts.now new_ends.now))
         (λ why. extended (record { answer = number why; applied = 0 }) m.old) }
 {
-    if let Err(why) = checked_set(kind, m) {
+    if !is_set(kind, m) {
         return Applied {
-            answer: why.number(),
+            answer: Refusal::NotFormed.number(),
             applied: 0,
         };
     }

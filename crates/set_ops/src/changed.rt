@@ -1,7 +1,6 @@
 // Edits of a set: those of the map, with value 0.
 ghost use Rattle.answers.specs.Refusals.{number};
 ghost use Rattle.key.specs.Range.{kind_of};
-ghost use Rattle.outcomes.specs.Stored.{stored};
 ghost use Rattle.outcomes.specs.Outcomes.{insert, leaving, remove};
 ghost use Rattle.outcomes.specs.Sets.{if_set};
 ghost use Rattle.outcomes.specs.InnerOutcome.{Leaves};

@@ -1,7 +1,6 @@
 // What a set holds at a key and over a range.
 ghost use Rattle.std.specs.Prelude.{◌≡◌, Err};
 ghost use Rattle.key.specs.Range.{kind_of};
-ghost use Rattle.outcomes.specs.Stored.{stored};
 ghost use Rattle.outcomes.specs.Outcomes.{not_written, contains, gaps, lookup, overlaps, overlapping};
 ghost use Rattle.outcomes.specs.Sets.{if_set};
 ghost use Rattle.range_list.specs.InnerLists.{wrote};

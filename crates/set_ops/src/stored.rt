@@ -1,7 +1,6 @@
 // What a set holds as a list: a set is a map whose values are all 0, so the answer is the map's.
 ghost use Rattle.std.specs.Prelude.{◌≡◌, Err};
 ghost use Rattle.key.specs.Range.{kind_of};
-ghost use Rattle.outcomes.specs.Stored.{stored};
 ghost use Rattle.outcomes.specs.Outcomes.{count_of, equal, first_of, is_empty, last_of, order, range_at};
 ghost use Rattle.outcomes.specs.Sets.{if_set, if_sets};
 
