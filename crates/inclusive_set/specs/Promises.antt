@@ -84,7 +84,8 @@ RangeInclusiveSetRemove m m' start end r = leaving r (held m') ≡ if_set (held 
 -- `range_inclusive_set_extend`: inserts the ranges of two lent lists in order, up to the first refusal.
 abbrev pub RangeInclusiveSetExtend : RangeInclusiveSet → RangeInclusiveSet → List ℤ → List ℤ → Applied → Type 0
 RangeInclusiveSetExtend m m' starts ends r =
-    extended r (held m') ≡ if_set (held m) (bulk_insert inclusive (held m) (pairs starts ends)) (λ why. extended (record { answer = number why; applied = 0 }) (held m))
+    extended r (held m') ≡ if_set (held m) (bulk_insert inclusive (held m) (pairs starts ends))
+    (λ why. extended (record { answer = number why; applied = 0 }) (held m))
 
 -- `range_inclusive_set_clear`: leaves nothing covered, whatever the set was.
 abbrev pub RangeInclusiveSetClear : RangeInclusiveSet → RangeInclusiveSet → Type 0

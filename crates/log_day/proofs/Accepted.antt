@@ -15,10 +15,10 @@ use Rattle.calendar.proofs.Numbers.{There, there, Follows, Onward, same_year, ne
 use Rattle.log_day.specs.declared.TimeZone.{TimeZone}
 use Rattle.log_day.specs.declared.TimeZone.TheVariants.{Eastern, Central, Mountain, Pacific, Alaska, Hawaii, MountainFixed}
 use Rattle.log_day.specs.Days.{zones, midnight, accepted, bounds, day_of}
-use Rattle.log_day.specs.InnerZones.{number_of, in_ledger}
+use Rattle.log_day.specs.InnerZones.{zone_number, in_ledger}
 
 -- a zone of the code is there
-pub number_below : (z : TimeZone) → number_of z < zones
+pub number_below : (z : TimeZone) → zone_number z < zones
 number_below Eastern = omega arith
 number_below Central = omega arith
 number_below Mountain = omega arith
@@ -61,8 +61,8 @@ pub good_accepted : (z : ℕ) (d : Date) → Good z d → accepted z d ≡ true
 good_accepted z d g = sym (by_year z d g.from g.to ∙ by_date z d g.zone) ∙ g.is_date_lem
 
 -- the zone that the code finds
-pub good_zone : (z : TimeZone) {n : ℕ} {d : Date} → number_of z ≡ n → accepted n d ≡ true → Good (number_of z) d
-good_zone z {n} {d} e a = good (number_of z) d (ap (λ (k : ℕ). accepted k d) e ∙ a)
+pub good_zone : (z : TimeZone) {n : ℕ} {d : Date} → zone_number z ≡ n → accepted n d ≡ true → Good (zone_number z) d
+good_zone z {n} {d} e a = good (zone_number z) d (ap (λ (k : ℕ). accepted k d) e ∙ a)
 
 -- the next date: at most a year later
 pub next_follows : (z : ℕ) (d : Date) → Good z d → Follows d (next_date d)

@@ -10,18 +10,18 @@ use Rattle.log_day.specs.declared.TimeZone.TheVariants.{Eastern, Central, Mounta
 use Rattle.log_day.specs.Days.{zones}
 
 -- a zone's number, its place in the table
-abbrev pub number_of : TimeZone → ℕ
-number_of Eastern = 0
-number_of Central = 1
-number_of Mountain = 2
-number_of Pacific = 3
-number_of Alaska = 4
-number_of Hawaii = 5
-number_of MountainFixed = 6
+abbrev pub zone_number : TimeZone → ℕ
+zone_number Eastern = 0
+zone_number Central = 1
+zone_number Mountain = 2
+zone_number Pacific = 3
+zone_number Alaska = 4
+zone_number Hawaii = 5
+zone_number MountainFixed = 6
 
 -- what is answered of a number: the zone of that number, where there is one
 abbrev pub IsZone : ℕ → Result TimeZone Refusal → Type 0
-IsZone n r = MatchResult r (λ (z : TimeZone). number_of z ≡ n) (λ (why : Refusal). (why ≡ BadDay) × (zones ≤ n))
+IsZone n r = MatchResult r (λ (z : TimeZone). zone_number z ≡ n) (λ (why : Refusal). (why ≡ BadDay) × (zones ≤ n))
 
 -- is it a date of the years 2007 to 2099
 unfoldable pub in_ledger : Date → Bool

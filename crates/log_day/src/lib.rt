@@ -4,7 +4,7 @@
 ghost use Rattle.std.specs.Prelude.{◌≡◌, false, true, ◌&&◌, ◌*◌, ◌<◌, ◌≤◌, pos, MatchResult};
 ghost use Rattle.calendar.specs.Years.{Known};
 ghost use Rattle.log_day.specs.Days.{standard, changes_clock, daylight, offset, midnight, accepted, day_of, day_in_c};
-ghost use Rattle.log_day.specs.InnerZones.{number_of, IsZone, in_ledger};
+ghost use Rattle.log_day.specs.InnerZones.{zone_number, IsZone, in_ledger};
 ghost use Rattle.log_day.specs.Promises.{LogDayPromise};
 
 use answers::{DONE, Refusal};
@@ -66,7 +66,7 @@ impl TimeZone {
     // Its standard offset, in seconds.
     #[tactic(auto, unfolding(crate::specs::Days::standard))]
     fn standard(self) -> i64
-        ensures { result ≡ standard (number_of self) }
+        ensures { result ≡ standard (zone_number self) }
     {
         match self {
             TimeZone::Eastern => -5 * HOUR,
@@ -81,7 +81,7 @@ impl TimeZone {
     // Whether it changes its clock.
     #[tactic(auto, unfolding(crate::specs::Days::changes_clock))]
     fn changes_clock(self) -> bool
-        ensures { result ≡ changes_clock (number_of self) }
+        ensures { result ≡ changes_clock (zone_number self) }
     {
         !matches!(self, TimeZone::Hawaii | TimeZone::MountainFixed)
     }
@@ -100,7 +100,7 @@ fn is_daylight(date: Date) -> bool
 // Whether a date's midnight has daylight offset in a zone.
 fn has_daylight(zone: TimeZone, date: Date) -> bool
     requires { Known date.year × (1 ≤ date.day) }
-    ensures { result ≡ (changes_clock (number_of zone) && daylight date) }
+    ensures { result ≡ (changes_clock (zone_number zone) && daylight date) }
 {
     zone.changes_clock() && is_daylight(date)
 }
@@ -108,7 +108,7 @@ fn has_daylight(zone: TimeZone, date: Date) -> bool
 // The offset of a date's midnight.
 fn offset_of(zone: TimeZone, date: Date) -> i64
     requires { Known date.year × (1 ≤ date.day) }
-    ensures { result ≡ offset (number_of zone) date }
+    ensures { result ≡ offset (zone_number zone) date }
 {
     let standard = zone.standard();
     if has_daylight(zone, date) {
@@ -129,7 +129,7 @@ fn utc_midnight(n: DayNumber) -> i64
 // The key of a date's midnight.
 fn midnight_of(zone: TimeZone, date: Date) -> i64
     requires { Known date.year × (1 ≤ date.day) }
-    ensures { result ≡ midnight (number_of zone) date }
+    ensures { result ≡ midnight (zone_number zone) date }
 {
     utc_midnight(calendar::day_number(date)) - offset_of(zone, date)
 }
@@ -144,7 +144,8 @@ fn is_in_ledger(date: Date) -> bool
 
 // The zone of a number, where the zone and the date are accepted.
 fn accepted_zone(number: u8, date: Date) -> Result<TimeZone, Refusal>
-    ensures { MatchResult result (λ z. (number_of z ≡ number) × (accepted number date ≡ true)) (λ why. (why ≡ Refusal.BadDay) × (accepted number date ≡ false)) }
+    ensures { MatchResult result (λ z. (zone_number z ≡ number) × (accepted number date ≡ true))
+        (λ why. (why ≡ Refusal.BadDay) × (accepted number date ≡ false)) }
 {
     let zone = TimeZone::try_from(number)?;
     if is_in_ledger(date) {

@@ -84,7 +84,8 @@ RangeSetRemove m m' start end r = leaving r (held m') ≡ if_set (held m) (remov
 -- `range_set_extend`: inserts the ranges of two lent lists in order, up to the first refusal.
 abbrev pub RangeSetExtend : RangeSet → RangeSet → List ℤ → List ℤ → Applied → Type 0
 RangeSetExtend m m' starts ends r =
-    extended r (held m') ≡ if_set (held m) (bulk_insert half_open (held m) (pairs starts ends)) (λ why. extended (record { answer = number why; applied = 0 }) (held m))
+    extended r (held m') ≡ if_set (held m) (bulk_insert half_open (held m) (pairs starts ends))
+    (λ why. extended (record { answer = number why; applied = 0 }) (held m))
 
 -- `range_set_clear`: leaves nothing covered, whatever the set was.
 abbrev pub RangeSetClear : RangeSet → RangeSet → Type 0

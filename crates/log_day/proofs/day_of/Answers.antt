@@ -10,7 +10,7 @@ use Rattle.calendar.specs.declared.Date.{Date}
 use Rattle.calendar.specs.Calendar.{date}
 use Rattle.calendar.specs.Years.{Known}
 use Rattle.log_day.specs.Days.{bounds, midnight}
-use Rattle.log_day.specs.InnerZones.{number_of}
+use Rattle.log_day.specs.InnerZones.{zone_number}
 use Rattle.log_day.proofs.Accepted.{Good, good_zone, next_known, next_follows, accepts, refuses}
 use borrow.Author.Rules.{sfits_of}
 use Rattle.log_day.proofs.day_of.Goals as goal
@@ -27,7 +27,7 @@ next-requires c =
 
 pub midnight_of-end-requires : goal.midnight_of-end-requires
 midnight_of-end-requires c =
-    let z = number_of c.in_ok-there.there in
+    let z = zone_number c.in_ok-there.there in
     let d : Date = date c.args.year c.args.month c.args.day in
     let g : Good z d = good_zone c.in_ok-there.there c.in_ok-there.ensures.0 c.in_ok-there.ensures.1 in
     let e = sym c.next.ensures in
