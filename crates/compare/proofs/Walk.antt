@@ -19,7 +19,7 @@ use Rattle.compare.specs.InnerPlace.{place_of}
 use Rattle.outcomes.proofs.Formed.{Shaped, length_ranges, get_or_ranges}
 use Rattle.std.specs.Prelude.{Ok}
 use Rattle.std.specs.Ordering.{nat_cmp, is_ne}
-use Rattle.std.specs.declared.cmp.Ordering.{Ordering as Told}
+use Rattle.std.specs.declared.cmp.Ordering.{Ordering as Answer}
 use Rattle.std.specs.declared.cmp.Ordering.TheVariants.{Less, Equal, Greater}
 
 -- the first answer, unless it is that both are equal
@@ -114,20 +114,20 @@ module _ (a b : Stored) (h : Columns a) (h' : Columns b) (k : ℕ) (so_far : ord
     both_left : order_sound half_open a b ≡ or_else here (onward a b (k + 1))
     both_left = so_far ∙ rw (some_left a h k l, some_left b h' k l') (order_cons _ _ _ _)
 
-    pub passed : (r : Told) → Ok r ≡ compared_by here → is_ne r ≡ false → order_sound half_open a b ≡ onward a b (k + 1)
+    pub passed : (r : Answer) → Ok r ≡ compared_by here → is_ne r ≡ false → order_sound half_open a b ≡ onward a b (k + 1)
     passed r e f = both_left ∙ go here r e f
       where
-        go : (o : Ordering) (r : Told) → Ok r ≡ compared_by o → is_ne r ≡ false → or_else o (onward a b (k + 1)) ≡ onward a b (k + 1)
+        go : (o : Ordering) (r : Answer) → Ok r ≡ compared_by o → is_ne r ≡ false → or_else o (onward a b (k + 1)) ≡ onward a b (k + 1)
         go Ordering.eq r e f = refl
         go Ordering.lt Equal e f = cc
         go Ordering.gt Equal e f = cc
         go o Less e f = cc
         go o Greater e f = cc
 
-    pub decided : (r : Told) → Ok r ≡ compared_by here → is_ne r ≡ true → Ok r ≡ compared_by (order_sound half_open a b)
+    pub decided : (r : Answer) → Ok r ≡ compared_by here → is_ne r ≡ true → Ok r ≡ compared_by (order_sound half_open a b)
     decided r e f = rw both_left (go here r e f)
       where
-        go : (o : Ordering) (r : Told) → Ok r ≡ compared_by o → is_ne r ≡ true → Ok r ≡ compared_by (or_else o (onward a b (k + 1)))
+        go : (o : Ordering) (r : Answer) → Ok r ≡ compared_by o → is_ne r ≡ true → Ok r ≡ compared_by (or_else o (onward a b (k + 1)))
         go Ordering.lt r e f = e
         go Ordering.gt r e f = e
         go Ordering.eq Less e f = cc

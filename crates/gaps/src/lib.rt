@@ -84,6 +84,7 @@ fn write_before(
 }
 
 // Writes the gaps, and answers how many there are. The cursor goes past a range only where the outer end was seen to lie after it.
+// It has the loop of `counted` again: a closure that puts a gap can be called only while there is room, which one loop would have to promise at each step.
 fn write(
     kind: RangeKind,
     m: &Stored,
