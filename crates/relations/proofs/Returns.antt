@@ -7,6 +7,9 @@ use mathlib.Core.Bool.{Bool, true, false, ◌||◌, ◌&&◌, not}
 use borrow.Author.Tests.{le-leb, lt-leb, lt-ltb, leb-true, ltb-true}
 use lib.Dec.{ltb, leb}
 use lib.IntN.{ℤ}
+use Rattle.std.specs.Prelude.{Ok, Err, Some, None}
+use Rattle.std.specs.Bool.{then_some}
+use Rattle.answers.specs.declared.Refusal.TheVariants.{EmptyRange}
 use Rattle.span.specs.Span.{Span}
 use Rattle.span.specs.Operations.{spans_overlap}
 use Rattle.span.proofs.Tests.{Within, in_yes, in_no, both as both_hold}
@@ -15,8 +18,6 @@ use Rattle.key.specs.Rank.{rank, lesser, greater}
 use Rattle.key.specs.Range.{Kind, span_of, empty}
 use Rattle.key.proofs.Answers.{never, decides_one}
 use Rattle.relations.specs.Relations.{spans_touch, related, range_contains, ranges_overlap, ranges_touch, ranges_intersect}
-use Rattle.relations.specs.declared.Relation.TheVariants.{Yes, Empty}
-use Rattle.relations.specs.declared.Common.TheVariants.{Between, Nothing}
 
 pub empty_yes : (x : Span) → x.hi ≤ x.lo → empty x ≡ true
 empty_yes x h = le-leb x.hi x.lo h
@@ -59,11 +60,11 @@ module _ (kind : Kind) (s e : ℤ) where
   x = span_of kind s e 0
 
   module _ (k : ℤ) where
-    pub contains_empty : x.hi ≤ x.lo → Empty ≡ range_contains kind s e k
+    pub contains_empty : x.hi ≤ x.lo → Err EmptyRange ≡ range_contains kind s e k
     unfolding range_contains
     contains_empty h = rw (empty_yes x h)
 
-    pub contains_yes : x.lo < x.hi → Within x.lo x.hi (rank k) → Yes ≡ range_contains kind s e k
+    pub contains_yes : x.lo < x.hi → Within x.lo x.hi (rank k) → Ok true ≡ range_contains kind s e k
     unfolding range_contains
     contains_yes h w = rw (empty_no x h, in_yes x.lo x.hi (rank k) w)
 
@@ -78,22 +79,22 @@ module _ (kind : Kind) (s e : ℤ) where
     y = span_of kind s' e' 0
 
     -- the two relations ask the same of the ranges first
-    none : (t : Bool) → ((x.lo < x.hi) × (y.lo < y.hi) → ⊥) → Empty ≡ related (empty x || empty y) t
+    none : (t : Bool) → ((x.lo < x.hi) × (y.lo < y.hi) → ⊥) → Err EmptyRange ≡ related (empty x || empty y) t
     none t n = elim (dec_lt x.lo x.hi) [
       | yes h ↦ rw (empty_yes y (not_lt y.lo y.hi (λ i. n (h, i))), or_right (empty x))
       | no h ↦ rw (empty_yes x (not_lt x.lo x.hi h))
     ]
 
-    pub overlaps_empty : ((x.lo < x.hi) × (y.lo < y.hi) → ⊥) → Empty ≡ ranges_overlap kind s e s' e'
+    pub overlaps_empty : ((x.lo < x.hi) × (y.lo < y.hi) → ⊥) → Err EmptyRange ≡ ranges_overlap kind s e s' e'
     unfolding ranges_overlap
     overlaps_empty n = none (spans_overlap x y) n
 
-    pub touches_empty : ((x.lo < x.hi) × (y.lo < y.hi) → ⊥) → Empty ≡ ranges_touch kind s e s' e'
+    pub touches_empty : ((x.lo < x.hi) × (y.lo < y.hi) → ⊥) → Err EmptyRange ≡ ranges_touch kind s e s' e'
     unfolding ranges_touch
     touches_empty n = none (spans_touch x y) n
 
     module _ (h : x.lo < x.hi) (i : y.lo < y.hi) where
-      pub overlaps_yes : x.lo < y.hi → y.lo < x.hi → Yes ≡ ranges_overlap kind s e s' e'
+      pub overlaps_yes : x.lo < y.hi → y.lo < x.hi → Ok true ≡ ranges_overlap kind s e s' e'
       unfolding ranges_overlap spans_overlap
       overlaps_yes p q = rw (empty_no x h, empty_no y i, lt-ltb x.lo y.hi p, lt-ltb y.lo x.hi q)
 
@@ -101,7 +102,7 @@ module _ (kind : Kind) (s e : ℤ) where
       unfolding ranges_overlap spans_overlap
       overlaps_told t d = rw (empty_no x h, empty_no y i, decides_one d (lt_both x.lo y.hi y.lo x.hi))
 
-      pub touches_yes : x.lo ≤ y.hi → y.lo ≤ x.hi → Yes ≡ ranges_touch kind s e s' e'
+      pub touches_yes : x.lo ≤ y.hi → y.lo ≤ x.hi → Ok true ≡ ranges_touch kind s e s' e'
       unfolding ranges_touch spans_touch
       touches_yes p q = rw (empty_no x h, empty_no y i, le-leb x.lo y.hi p, le-leb y.lo x.hi q)
 
@@ -112,10 +113,15 @@ module _ (kind : Kind) (s e : ℤ) where
     abbrev both : Span
     both = span_of kind (greater s s') (lesser e e') 0
 
-    pub intersect_none : both.hi ≤ both.lo → Nothing ≡ ranges_intersect kind s e s' e'
+    pub intersect_none : both.hi ≤ both.lo → None ≡ ranges_intersect kind s e s' e'
     unfolding ranges_intersect
     intersect_none h = rw (empty_yes both h)
 
-    pub intersect_some : both.lo < both.hi → Between (greater s s') (lesser e e') ≡ ranges_intersect kind s e s' e'
+    pub intersect_some : both.lo < both.hi → Some (record { start = greater s s'; end = lesser e e' }) ≡ ranges_intersect kind s e s' e'
     unfolding ranges_intersect
     intersect_some h = rw (empty_no both h)
+
+    -- what a test of the ends says
+    pub intersect_told : (t : Bool) → Decides t (both.lo < both.hi) → then_some t (record { start = greater s s'; end = lesser e e' }) ≡ ranges_intersect kind s e s' e'
+    intersect_told true d = intersect_some (d.right refl)
+    intersect_told false d = intersect_none (not_lt both.lo both.hi (d.wrong refl))

@@ -5,38 +5,14 @@
 pub mod half_open;
 pub mod inclusive;
 
-ghost use Rattle.std.specs.Prelude.{◌≡◌, ◌<◌, false};
+ghost use Rattle.std.specs.Prelude.{◌≡◌, ◌<◌};
 ghost use Rattle.key.specs.InnerDecides.{Decides};
 ghost use Rattle.key.specs.Rank.{rank};
 ghost use Rattle.key.specs.Range.{kind_of};
-ghost use Rattle.relations.specs.Relations.{range_contains, ranges_overlap, ranges_touch, ranges_intersect, related, relation_in_c, common_in_c};
+ghost use Rattle.relations.specs.Relations.{range_contains, ranges_overlap, ranges_touch, ranges_intersect, relation_in_c, common_in_c};
 
-use answers::{DONE, EMPTY_RANGE, NONE_THERE};
+use answers::{DONE, NONE_THERE, Refusal};
 use key::{Bounds, RangeKind, full};
-
-// Whether two ranges are related; there is no answer for a range that is empty or reversed. The specs here and in rust_algorithm speak of its three cases.
-#[derive(Clone, Copy)]
-pub enum Relation {
-    Yes,
-    No,
-    Empty,
-}
-
-// Yes or no, of two ranges that are not empty.
-impl From<bool> for Relation {
-    fn from(held: bool) -> Relation
-        ensures { result ≡ related false held }
-    {
-        if held { Relation::Yes } else { Relation::No }
-    }
-}
-
-// What two ranges have in common. It stays an enum of its own, since the specs here and in rust_algorithm speak of its two cases.
-#[derive(Clone, Copy)]
-pub enum Common {
-    Between(i64, i64),
-    Nothing,
-}
 
 // A relation as C and Rust see it: answer 0 with yes or no, or 1. A number beside the value, since that is the layout in C.
 #[repr(C)]
@@ -63,13 +39,13 @@ fn starts_before(kind: RangeKind, range: Bounds, other: Bounds) -> bool
 }
 
 // Whether the key is in the range: not before its start, and before its end.
-pub fn contains(kind: RangeKind, range: Bounds, key: i64) -> Relation
+pub fn contains(kind: RangeKind, range: Bounds, key: i64) -> Result<bool, Refusal>
     ensures { result ≡ range_contains (kind_of kind) range.start range.end key }
 {
     if !starts_before(kind, range, range) {
-        return Relation::Empty;
+        return Err(Refusal::EmptyRange);
     }
-    Relation::from(range.start <= key && full(kind, key, range.end))
+    Ok(range.start <= key && full(kind, key, range.end))
 }
 
 // Whether each of two ranges has a key: it starts before its own end.
@@ -80,13 +56,13 @@ fn both_full(kind: RangeKind, range: Bounds, other: Bounds) -> bool
 }
 
 // Whether some key is in both ranges: each starts before the other's end.
-pub fn overlaps(kind: RangeKind, range: Bounds, other: Bounds) -> Relation
+pub fn overlaps(kind: RangeKind, range: Bounds, other: Bounds) -> Result<bool, Refusal>
     ensures { result ≡ ranges_overlap (kind_of kind) range.start range.end other.start other.end }
 {
     if !both_full(kind, range, other) {
-        return Relation::Empty;
+        return Err(Refusal::EmptyRange);
     }
-    Relation::from(starts_before(kind, range, other) && starts_before(kind, other, range))
+    Ok(starts_before(kind, range, other) && starts_before(kind, other, range))
 }
 
 // Whether some key lies past a range and before another. One is added to an end only where a later key was seen, so the greatest key is an
@@ -104,60 +80,49 @@ fn apart(kind: RangeKind, range: Bounds, other: Bounds) -> bool
 }
 
 // Whether nothing lies between the ranges: they overlap, or one begins right where the other ends.
-pub fn touches(kind: RangeKind, range: Bounds, other: Bounds) -> Relation
+pub fn touches(kind: RangeKind, range: Bounds, other: Bounds) -> Result<bool, Refusal>
     ensures { result ≡ ranges_touch (kind_of kind) range.start range.end other.start other.end }
 {
     if !both_full(kind, range, other) {
-        return Relation::Empty;
+        return Err(Refusal::EmptyRange);
     }
-    Relation::from(!apart(kind, other, range) && !apart(kind, range, other))
+    Ok(!apart(kind, other, range) && !apart(kind, range, other))
 }
 
 // What both ranges have: from the greater start to the lesser end, if a key is left. Any pair is taken.
-pub fn intersect(kind: RangeKind, range: Bounds, other: Bounds) -> Common
+pub fn intersect(kind: RangeKind, range: Bounds, other: Bounds) -> Option<Bounds>
     ensures { result ≡ ranges_intersect (kind_of kind) range.start range.end other.start other.end }
 {
-    let s = key::max(range.start, other.start);
-    let e = key::min(range.end, other.end);
-    if full(kind, s, e) {
-        Common::Between(s, e)
-    } else {
-        Common::Nothing
-    }
+    let start = key::max(range.start, other.start);
+    let end = key::min(range.end, other.end);
+    full(kind, start, end).then_some(Bounds { start, end })
 }
 
-impl From<Relation> for Related {
-    fn from(relation: Relation) -> Related
+impl From<Result<bool, Refusal>> for Related {
+    fn from(relation: Result<bool, Refusal>) -> Related
         ensures { result ≡ relation_in_c relation }
     {
         match relation {
-            Relation::Yes => Related {
-                answer: DONE,
-                yes: true,
-            },
-            Relation::No => Related {
-                answer: DONE,
-                yes: false,
-            },
-            Relation::Empty => Related {
-                answer: EMPTY_RANGE,
+            Ok(yes) => Related { answer: DONE, yes },
+            Err(why) => Related {
+                answer: why.number(),
                 yes: false,
             },
         }
     }
 }
 
-impl From<Common> for Intersected {
-    fn from(common: Common) -> Intersected
+impl From<Option<Bounds>> for Intersected {
+    fn from(common: Option<Bounds>) -> Intersected
         ensures { result ≡ common_in_c common }
     {
         match common {
-            Common::Between(start, end) => Intersected {
+            Some(Bounds { start, end }) => Intersected {
                 answer: DONE,
                 start,
                 end,
             },
-            Common::Nothing => Intersected {
+            None => Intersected {
                 answer: NONE_THERE,
                 start: 0,
                 end: 0,

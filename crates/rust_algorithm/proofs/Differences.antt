@@ -24,7 +24,6 @@ use Rattle.key.specs.Range.{Kind}
 use Rattle.key.specs.declared.Entry.{Entry}
 use Rattle.key.proofs.Laws.{rank_below}
 use Rattle.relations.specs.Relations as relations
-use Rattle.relations.specs.declared.Relation.TheVariants.{Empty}
 use Rattle.outcomes.specs.Stored.{places, ranges, storing, well_formed}
 use Rattle.outcomes.specs.declared.Stored.{Stored}
 use Rattle.outcomes.specs.Outcomes.{not_written, Edited, leaving, edit_sound, edit, overlaps_sound, overlaps, overlapping_sound, overlapping, gaps_sound, gaps}
@@ -58,15 +57,15 @@ inclusive_overlaps_says_no a b c d h = lt-leb (max a c) (min b d) (omega arith)
 -- an empty or reversed range
 module _ (kind : Kind) (s e : ℤ) (empty : kind.past e ≤ rank s) where
   -- the ledger refuses
-  pub contains_refused : (k : ℤ) → relations.range_contains kind s e k ≡ Empty
+  pub contains_refused : (k : ℤ) → relations.range_contains kind s e k ≡ Err EmptyRange
   unfolding relations.range_contains
   contains_refused k = rw (le-leb (kind.past e) (rank s) empty)
 
-  pub overlaps_refused : (s' e' : ℤ) → relations.ranges_overlap kind s e s' e' ≡ Empty
+  pub overlaps_refused : (s' e' : ℤ) → relations.ranges_overlap kind s e s' e' ≡ Err EmptyRange
   unfolding relations.ranges_overlap
   overlaps_refused s' e' = rw (le-leb (kind.past e) (rank s) empty)
 
-  pub touches_refused : (s' e' : ℤ) → relations.ranges_touch kind s e s' e' ≡ Empty
+  pub touches_refused : (s' e' : ℤ) → relations.ranges_touch kind s e s' e' ≡ Err EmptyRange
   unfolding relations.ranges_touch
   touches_refused s' e' = rw (le-leb (kind.past e) (rank s) empty)
 

@@ -26,7 +26,7 @@ use Rattle.key.specs.declared.Entry.{Entry}
 use Rattle.key.proofs.Laws.{key_at_rank, rank_greater, lesser_fits, greater_fits}
 use Rattle.key.proofs.Lawful.{Lawful}
 use Rattle.relations.specs.Relations as relations
-use Rattle.relations.specs.declared.Common.{Common}
+use Rattle.relations.specs.Relations.{Common}
 use Rattle.outcomes.specs.Stored.{places, ranges, storing, well_formed}
 use Rattle.outcomes.specs.declared.Stored.{Stored}
 use Rattle.outcomes.specs.Outcomes.{Edited, leaving, edit_sound, edit, clear, Change, edits, span_edits, first_place, range_at_sound}
