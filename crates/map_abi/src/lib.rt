@@ -1,5 +1,5 @@
-// The functions of a map of either kind, over its fields, with their answers as structs of numbers: what C and Rust see. The functions of
-// `map` and `inclusive_map` name their kind and lend all the fields of their map to these.
+// The functions of a map of either kind with their answers as structs of numbers: what C and Rust see. The functions of
+// `map` and `inclusive_map` name their kind and lend the map that their struct holds to these.
 #![tactic(auto)]
 
 ghost use Rattle.std.specs.Prelude.{◌≡◌, true, length};

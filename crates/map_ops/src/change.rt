@@ -1,4 +1,4 @@
-// Edits of a map, over all its fields, for either kind: the check of the lent map, and then the unchecked door of its kind. Any map is taken.
+// Edits of a map, for either kind: the check of the lent map, and then the unchecked door of its kind. Any map is taken.
 use answers::Refusal;
 use key::{RangeKind, Value};
 use outcomes::Stored;

@@ -1,4 +1,4 @@
-// What a map holds at a key and over a range, over all its fields, for either kind: the check of the lent map, and then the unchecked door.
+// What a map holds at a key and over a range, for either kind: the check of the lent map, and then the unchecked door.
 // Any map is taken.
 ghost use Rattle.std.specs.Prelude.{◌≡◌};
 ghost use Rattle.key.specs.Range.{kind_of};

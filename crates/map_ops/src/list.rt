@@ -1,4 +1,4 @@
-// What a map holds as a list, over all its fields, for either kind: the check of the lent map, and then the answer. Any map is taken.
+// What a map holds as a list, for either kind: the check of the lent map, and then the answer. Any map is taken.
 ghost use Rattle.std.specs.Prelude.{◌≡◌, ◌-◌};
 ghost use Rattle.key.specs.Range.{kind_of};
 ghost use Rattle.outcomes.specs.Stored.{stored};

@@ -95,7 +95,7 @@ pub fn unchecked(m: &Stored, zone: u8, year: u16, month: u8, day: u8) -> Result<
     })
 }
 
-// The report of any map, over all its fields.
+// The report of any map.
 #[tactic(auto, unfolding(crate::specs::Report::day_report))]
 pub fn checked(m: &Stored, zone: u8, year: u16, month: u8, day: u8) -> Result<DayTotals, Refusal>
     ensures { result ≡ day_report m.now zone year month day }

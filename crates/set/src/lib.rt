@@ -1,5 +1,5 @@
-// Module 5: the half-open set, from set.rs of rangemap. Its functions, which `hourledger_c` exports for C and Rust: each lends all the
-// fields of its set to a function of `set_abi`, which answers in numbers, or of `set_ops` or `map_ops` where these do. Rattle callers use `set_ops`.
+// Module 5: the half-open set, from set.rs of rangemap. Its functions, which `hourledger_c` exports for C and Rust: each lends
+// the set that its struct holds to a function of `set_abi`, which answers in numbers, or of `set_ops` or `map_ops` where these do. Rattle callers use `set_ops`.
 #![tactic(auto)]
 
 ghost use Rattle.set.specs.Promises.{RangeSetNew, RangeSetIsEmpty, RangeSetLen, RangeSetRangeAt, RangeSetFirst, RangeSetLast, RangeSetGet};

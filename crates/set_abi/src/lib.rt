@@ -1,5 +1,5 @@
-// The functions of a set of either kind, over its fields, with their answers as structs of numbers: what C and Rust see. The functions of
-// `set` and `inclusive_set` name their kind and lend all the fields of their set to these.
+// The functions of a set of either kind with their answers as structs of numbers: what C and Rust see. The functions of
+// `set` and `inclusive_set` name their kind and lend the set that their struct holds to these.
 #![tactic(auto)]
 
 ghost use Rattle.answers.specs.Refusals.{number};
