@@ -13,7 +13,7 @@ ghost use Rattle.report_text.specs.InnerRoom.{name_room, clock_room, report_line
 use decimal::{put_digits, put_i64_right, put_u64_right};
 use duty::Totals;
 use key::Bounds;
-use text::{put, put_byte, put_left, put_spaces};
+use text::{put, put_byte, put_left};
 
 // The rows of a day: the four duties, and unrecorded time.
 pub const ROWS: usize = 5;
@@ -113,26 +113,34 @@ pub fn put_name_column(out: &mut [u8], at: usize, name: &[u8]) -> usize
 
 // The name of a row.
 #[tactic(auto, unfolding(crate::specs::Rows::row_name))]
+pub fn name_of(row: usize) -> &'static [u8]
+    requires { row < row_count }
+    ensures name { result.now ≡ row_name row }
+    ensures short { length result.now ≤ name_room }
+{
+    match row {
+        0 => b"off duty",
+        1 => b"sleeper berth",
+        2 => b"driving",
+        3 => b"on duty",
+        _ => b"unrecorded",
+    }
+}
+
+// The same in lent bytes.
 pub fn put_name(out: &mut [u8], at: usize, row: usize) -> usize
     requires { (row < row_count) × (at + name_room ≤ length out.old) }
     ensures { AddsWithin name_room (row_name row) out.old at out.new result }
 {
-    match row {
-        0 => put(out, at, b"off duty"),
-        1 => put(out, at, b"sleeper berth"),
-        2 => put(out, at, b"driving"),
-        3 => put(out, at, b"on duty"),
-        _ => put(out, at, b"unrecorded"),
-    }
+    put(out, at, name_of(row))
 }
 
-// The name of a row in its columns.
+// The same in its columns.
 pub fn put_row_column(out: &mut [u8], at: usize, row: usize) -> usize
     requires { (row < row_count) × (at + name_room ≤ length out.old) }
     ensures { AddsWithin name_room (name_column (row_name row)) out.old at out.new result }
 {
-    let to = put_name(out, at, row);
-    put_spaces(out, to, at + NAME_ROOM - to)
+    put_name_column(out, at, name_of(row))
 }
 
 // The seconds of a row.
@@ -191,15 +199,6 @@ fn put_seconds_line(out: &mut [u8], at: usize, name: &[u8], n: u64) -> usize
     put_times(out, to, n)
 }
 
-// The line of a row.
-fn put_row_line(out: &mut [u8], at: usize, row: usize, n: u32) -> usize
-    requires { (row < row_count) × (at + report_line_room ≤ length out.old) }
-    ensures { AddsWithin report_line_room (seconds_line (row_name row) n) out.old at out.new result }
-{
-    let to = put_row_column(out, at, row);
-    put_times(out, to, u64::from(n))
-}
-
 // The lines of the five rows.
 fn put_rows(out: &mut [u8], at: usize, t: Totals) -> usize
     requires { at + row_count * report_line_room ≤ length out.old }
@@ -207,7 +206,7 @@ fn put_rows(out: &mut [u8], at: usize, t: Totals) -> usize
 {
     let mut to = at;
     for row in 0..ROWS {
-        to = put_row_line(out, to, row, seconds_of(t, row));
+        to = put_seconds_line(out, to, name_of(row), u64::from(seconds_of(t, row)));
     }
     to
 }

@@ -11,7 +11,7 @@ loop-row-init c = series_none _ _ _
 pub loop-row-preserved : goal.loop-row-preserved
 loop-row-preserved c =
     let l = c.loop-row in
-    let b = rw c.seconds_of.ensures at c.put_row_line-to.ensures in
+    let b = rw (c.name_of.ensures.name, c.from.ensures, c.seconds_of.ensures) at c.put_seconds_line-to.ensures in
     as_within refl (omega arith) (series_more (λ j. seconds_line (row_name j) (row_of c.args.t j)) l.row l.invariant b)
 
 pub returns : goal.returns
