@@ -9,8 +9,8 @@
 use key::RangeKind;
 use outcomes::{Applied, Count, Order, PLACES, Range, Stored, Stretch, Told};
 use test_print::{
-    Ends, print, print_field, print_key, print_list, print_number, print_range, print_told,
-    read_byte,
+    Ends, print, print_colon, print_field, print_key, print_list, print_number, print_range,
+    print_told, read_byte, read_letter,
 };
 
 // As many places as the lists of a step have at most.
@@ -53,12 +53,6 @@ fn echo_line() {
             return;
         }
     }
-}
-
-// A space and the letter behind it.
-fn read_letter() -> u8 {
-    read_byte();
-    read_byte()
 }
 
 // The rest of a step, and the end of its line.
@@ -119,12 +113,6 @@ fn ends_of(s: Step) -> Ends {
 }
 
 // ---- printing
-
-// What stands between a question and its answer.
-fn print_colon() {
-    print(b':');
-    print(b' ');
-}
 
 // The number of an answer.
 fn print_answer(answer: u8) {

@@ -6,7 +6,10 @@
 
 use key::{Entry, GREATEST, LEAST, RangeKind};
 use outcomes::{Count, PLACES, Stored, Told};
-use test_print::{print, print_key, print_list, print_number, print_range, print_told, read_byte};
+use test_print::{
+    print, print_colon, print_key, print_list, print_number, print_range, print_told, read_byte,
+    read_letter,
+};
 
 // No question has a longer query.
 const MOST: usize = 80;
@@ -119,12 +122,6 @@ fn key_of(letter: u8) -> i64 {
     }
 }
 
-// A space and the letter behind it.
-fn read_letter() -> u8 {
-    read_byte();
-    read_byte()
-}
-
 // The rest of a question, up to the space before its query.
 fn read_question(a: u8) -> Question {
     let b = read_letter();
@@ -158,11 +155,6 @@ fn read_text(bytes: &mut [u8]) -> &[u8] {
 }
 
 // ---- asking
-
-fn print_colon() {
-    print(b':');
-    print(b' ');
-}
 
 fn print_count(r: Count) {
     print_number(r.answer as u64);
