@@ -14,7 +14,6 @@ ghost use Rattle.operations.specs.InnerOperation.{found_by, combined, combined_a
 use answers::Refusal;
 use key::RangeKind;
 use outcomes::Stored;
-use range_list::shorter;
 use two_sets::{are_sets, roomy};
 
 // The operations: what two sets have in common, and what either has.
@@ -76,7 +75,7 @@ pub fn combine_unchecked(
     requires { SoundSet (kind_of kind) a.now × SoundSet (kind_of kind) b.now }
     ensures { wrote result out_starts.new out_ends.new ≡ combined operation (kind_of kind) a.now b.now out_starts.old out_ends.old }
 {
-    let room = shorter(out_starts.len(), out_ends.len());
+    let room = out_starts.len().min(out_ends.len());
     if !fits(kind, operation, a, b, room) {
         return Err(Refusal::TooShort);
     }

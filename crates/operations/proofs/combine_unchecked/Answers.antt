@@ -15,22 +15,22 @@ pub returns-then-not-fits : goal.returns-then-not-fits
 returns-then-not-fits c =
     let a = c.args in
     answered a.operation a.kind c.requires.0 c.requires.1 a.out_starts.now a.out_ends.now
-    (answers_short (kind_of a.kind) _ a.out_starts.now a.out_ends.now c.shorter-room.ensures
+    (answers_short (kind_of a.kind) _ a.out_starts.now a.out_ends.now c.min-room.ensures
     (c.fits.ensures.wrong c.if-not-fits.true))
 
 pub write-requires : goal.write-requires
 write-requires c =
     let a = c.args in
-    let room : length (found_by a.operation a.kind a.a.now a.b.now) ≤ c.shorter-room.result = c.fits.ensures.right c.if-not-fits.false in (
+    let room : length (found_by a.operation a.kind a.a.now a.b.now) ≤ c.min-room.result = c.fits.ensures.right c.if-not-fits.false in (
       side (kind_of a.kind) c.requires.0,
       side (kind_of a.kind) c.requires.1,
-      enough (kind_of a.kind) _ a.out_starts.now a.out_ends.now c.shorter-room.ensures room,
+      enough (kind_of a.kind) _ a.out_starts.now a.out_ends.now c.min-room.ensures room,
     )
 
 pub returns : goal.returns
 returns c =
     let a = c.args in
-    let room : length (found_by a.operation a.kind a.a.now a.b.now) ≤ c.shorter-room.result = c.fits.ensures.right c.if-not-fits.false in
+    let room : length (found_by a.operation a.kind a.a.now a.b.now) ≤ c.min-room.result = c.fits.ensures.right c.if-not-fits.false in
     answered a.operation a.kind c.requires.0 c.requires.1 a.out_starts.now a.out_ends.now
-    (answers_done (kind_of a.kind) _ a.out_starts.now a.out_ends.now c.shorter-room.ensures room
+    (answers_done (kind_of a.kind) _ a.out_starts.now a.out_ends.now c.min-room.ensures room
     (from_first c.write.ensures))
