@@ -1,6 +1,6 @@
-// Module 5: the half-open set, from set.rs of rangemap. Its functions, which `hourledger_c` exports for C and Rust: each lends
-// the set that its struct holds to a function of `set_abi`, which answers in numbers, or of `set_ops` or `map_ops` where these do. Rattle callers use `set_ops`.
-// The functions of `inclusive_set` are twins of these, since C calls each by a name and with a struct of its own.
+// Module 5: the half-open set, from set.rs of rangemap. Its functions, which `hourledger_c` exports for C and Rust: each lends the set that its struct
+// holds to a function of `set_abi`, which answers in numbers, or of `set_ops` or `map_ops` where these do. Rattle callers use `set_ops`. The functions
+// of `inclusive_set` are twins of these, since C calls each by a name and with a struct of its own.
 #![tactic(auto)]
 
 ghost use Rattle.set.specs.Promises.{RangeSetNew, RangeSetIsEmpty, RangeSetLen, RangeSetRangeAt, RangeSetFirst, RangeSetLast, RangeSetGet};
