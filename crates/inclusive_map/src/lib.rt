@@ -1,5 +1,6 @@
-// Module 3: the inclusive map, from inclusive_map.rs of rangemap. Its functions, which `hourledger_c` exports for C and Rust: each lends
-// the map that its struct holds to a function of `map_abi`, which answers in numbers, or of `map_ops` where that does. Rattle callers use `map_ops`.
+// Module 3: the inclusive map, from inclusive_map.rs of rangemap. Its functions, which `hourledger_c` exports for C and Rust: each lends the map that
+// its struct holds to a function of `map_abi`, which answers in numbers, or of `map_ops` where that does. Rattle callers use `map_ops`. The functions of
+// `map` are twins of these, since C calls each by a name and with a struct of its own.
 #![tactic(auto)]
 
 ghost use Rattle.key.specs.Range.{inclusive};
