@@ -4,7 +4,7 @@ ghost use Rattle.range_text.specs.RangeText.{results};
 
 use crate::form::{ROOM, load, read_form};
 use crate::output::{fail, print, refuse};
-use crate::words::{LONGEST, word};
+use crate::words::Argument;
 use answers::Refusal;
 use outcomes::Stored;
 use range_text::{RESULTS, RESULTS_ROOM, result_text};
@@ -49,16 +49,15 @@ fn take(rt: &HostRuntime, path: &[u8], m: &mut Stored) -> Result<(), NoMap> {
 
 // Loads the form of the file that a word names, and says whether there is a map. Why there is none is said.
 fn is_taken(rt: &HostRuntime, place: usize, m: &mut Stored) -> bool {
-    let mut path = [0u8; LONGEST];
-    let n = word(rt, place, &mut path);
-    match take(rt, &path[..n], m) {
+    let path = Argument::read(rt, place);
+    match take(rt, path.text(), m) {
         Ok(()) => true,
         Err(NoMap::Refused(why)) => {
             refuse(rt, why);
             false
         }
         Err(NoMap::NotOpened(error)) => {
-            fail(rt, &path[..n], &error);
+            fail(rt, path.text(), &error);
             false
         }
     }
@@ -81,12 +80,6 @@ fn of_query(rt: &HostRuntime, a: &Stored, b: &Stored, start: i64, end: i64, quer
     }
 }
 
-fn of_maps(rt: &HostRuntime, a: &Stored, b: &Stored, start: i64, end: i64) {
-    let mut query = [0u8; LONGEST];
-    let n = word(rt, 4, &mut query);
-    of_query(rt, a, b, start, end, &query[..n]);
-}
-
 pub fn run(rt: &HostRuntime, start: i64, end: i64) {
     if start >= end {
         refuse(rt, Refusal::EmptyRange);
@@ -95,6 +88,7 @@ pub fn run(rt: &HostRuntime, start: i64, end: i64) {
     let mut a = Stored::new();
     let mut b = Stored::new();
     if is_taken(rt, 5, &mut a) && is_taken(rt, 6, &mut b) {
-        of_maps(rt, &a, &b, start, end);
+        let query = Argument::read(rt, 4);
+        of_query(rt, &a, &b, start, end, query.text());
     }
 }

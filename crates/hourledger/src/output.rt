@@ -12,6 +12,7 @@ pub fn fail(rt: &HostRuntime, what: &[u8], error: &io::Error) {
     let _ = eprintln!(rt; ": {error}");
 }
 
+// The number of the bytes stands beside them: docs/EXCEPTIONS has `print` and `print_error` so, which may not change.
 // Bytes to a stream, all at once. What could not be written is said: a form that is cut short must not pass for a whole one.
 fn put<W: Write + Drop>(rt: &HostRuntime, mut stream: W, name: &[u8], bytes: &[u8], n: usize)
     requires { n ≤ length bytes.now }
