@@ -55,9 +55,3 @@ module _ (m : Stored) (sound : Sound half_open m) where
 
     pub catches : i < m.count → rank (get_or m.ends i (pos 0)) ≤ p → Trails xs (i + 1) p
     catches h le = trails_next xs i p s (omega (arith, many)) (rw (range_here i h) le)
-
-    -- behind all ranges
-    pub caught_all : m.count ≤ i → Standing xs m.count p
-    caught_all h =
-        let last : i ≡ m.count = omega (arith, many, s.placed) in
-        subst (λ (k : ℕ). Standing xs k p) last (caught (λ l. absurd (omega arith)))

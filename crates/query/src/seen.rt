@@ -27,17 +27,17 @@ fn class_of(value: Value) -> usize
 }
 
 // The first place whose range ends after a key. The ranges before `place` do not.
+// A `while`: with a `for` a whole query took 1.1 times as long, and missed its bar by more (docs/PERFORMANCE.md).
 #[tactic(auto, using(crate::proofs::Looks::held))]
 fn caught_up(m: &Stored, place: usize, key: i64) -> usize
     requires { Sound half_open m.now × Trails (spans_of m.now) place (rank key) }
     ensures { Standing (spans_of m.now) result (rank key) }
 {
-    for here in place..m.count {
-        if key < m.ends[here] {
-            return here;
-        }
+    let mut here = place;
+    while here < m.count && m.ends[here] <= key {
+        here += 1;
     }
-    m.count
+    here
 }
 
 // What a map holds from a key on, as far as that goes on before `end`. `place` is the first place whose range ends after the key.

@@ -1,10 +1,14 @@
 // THE WALK along the instants of two half-open maps: where it stands, and where the query changes between true and false.
-ghost use Rattle.std.specs.Prelude.{◌≡◌, true, ◌≤◌, ◌<◌};
+ghost use Rattle.std.specs.Prelude.{◌≡◌, true, ◌≤◌, ◌<◌, List};
+ghost use Rattle.span.specs.Span.{Span};
 ghost use Rattle.key.specs.Rank.{rank};
+ghost use Rattle.key.specs.Range.{half_open};
+ghost use Rattle.outcomes.specs.Stored.{Sound};
 ghost use Rattle.query.specs.InnerColumns.{spans_of};
+ghost use Rattle.query.specs.InnerSeen.{Trails, Sees};
 ghost use Rattle.query.specs.InnerWalk.{NoBits, Silent, Walks, Begins, Cells, Edges};
 
-use crate::seen::look;
+use crate::seen::{Seen, look};
 use outcomes::Stored;
 use query_text::truth::Truth;
 
@@ -50,23 +54,30 @@ fn is_silent(t: Truth, class: usize) -> bool
     }
 }
 
+// The cell where the first map shows `x`: it goes on as long as both maps hold the same.
+fn cell_of(b: &Stored, t: Truth, w: Walk, end: i64, x: Seen) -> Cell
+    requires { Sound half_open b.now × Trails (spans_of b.now) w.b (rank w.key) × (rank w.key < rank end) × (x.class ≤ 10) }
+    ensures { (xs : List Span) → Sees xs (rank w.key) (rank end) (rank x.until) x.class x.place
+        → Cells t xs (spans_of b.now) (rank w.key) (rank end) result }
+{
+    let y = look(b, w.b, w.key, end);
+    Cell {
+        yes: t.says(x.class, y.class),
+        next: Walk {
+            key: key::min(x.until, y.until),
+            a: x.place,
+            b: y.place,
+        },
+    }
+}
+
 // The cell at a walk.
 pub fn cell_at(a: &Stored, b: &Stored, t: Truth, w: Walk, end: i64) -> Cell
     requires { Walks a.now b.now w × (rank w.key < rank end) }
     ensures { Cells t (spans_of a.now) (spans_of b.now) (rank w.key) (rank end) result }
 {
     let x = look(a, w.a, w.key, end);
-    let y = look(b, w.b, w.key, end);
-    let key = key::min(x.until, y.until);
-    let next = Walk {
-        key,
-        a: x.place,
-        b: y.place,
-    };
-    Cell {
-        yes: t.says(x.class, y.class),
-        next,
-    }
+    cell_of(b, t, w, end, x)
 }
 
 // The same, but where the table is silent the cell goes on as long as the first map holds the same, without a look at the second.
@@ -76,25 +87,17 @@ pub fn quick_cell(a: &Stored, b: &Stored, t: Truth, w: Walk, end: i64) -> Cell
     ensures { Cells t (spans_of a.now) (spans_of b.now) (rank w.key) (rank end) result }
 {
     let x = look(a, w.a, w.key, end);
-    if is_silent(t, x.class) {
-        return Cell {
-            yes: false,
-            next: Walk {
-                key: x.until,
-                a: x.place,
-                b: w.b,
-            },
-        };
+    if !is_silent(t, x.class) {
+        return cell_of(b, t, w, end, x);
     }
-    let y = look(b, w.b, w.key, end);
-    let until = key::min(x.until, y.until);
-    let next = Walk {
-        key: until,
-        a: x.place,
-        b: y.place,
-    };
-    let yes = t.says(x.class, y.class);
-    Cell { yes, next }
+    Cell {
+        yes: false,
+        next: Walk {
+            key: x.until,
+            a: x.place,
+            b: w.b,
+        },
+    }
 }
 
 // THE EDGE: the first key from the walk on, before `end`, where the table says `so`; `end` if there is none.

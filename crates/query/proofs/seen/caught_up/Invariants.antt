@@ -1,3 +1,4 @@
+use Prim.Native.Nat.{◌-◌}
 use Rattle.key.specs.Rank.{rank}
 use Rattle.query.specs.InnerColumns.{spans_of}
 use Rattle.query.specs.InnerSeen.{Trails}
@@ -5,3 +6,6 @@ use Rattle.query.proofs.seen.caught_up.Given as goal
 
 abbrev pub invariant-loop-here : goal.invariant-loop-here
 invariant-loop-here l = Trails (spans_of l.m) l.here (rank l.key)
+
+abbrev pub decreases-loop-here : goal.decreases-loop-here
+decreases-loop-here l = l.m.count - l.here
