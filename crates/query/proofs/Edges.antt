@@ -13,15 +13,9 @@ use Rattle.query_text.specs.InnerClasses.{class_of}
 use Rattle.query_text.specs.InnerTable.{says}
 use Rattle.query.specs.declared.walk.Walk.{Walk}
 use Rattle.query.specs.declared.walk.Cell.{Cell}
-use Rattle.outcomes.specs.declared.Stored.{Stored}
-use Rattle.query.specs.InnerColumns.{spans_of}
 use Rattle.query.specs.InnerSeen.{Sees}
-use Rattle.query.specs.InnerWalk.{Silent, says_at, Stands, Walks, Cells, Edges}
+use Rattle.query.specs.InnerWalk.{Silent, says_at, Stands, Cells, Edges}
 use Rattle.query.proofs.Walking.{class_least, trails_later}
-
--- another walk in the same maps
-pub stands_on : {a b : Stored} {v w : Walk} → Walks a b v → Stands (spans_of a) (spans_of b) w → Walks a b w
-stands_on k s = record { sound_a = k.sound_a; sound_b = k.sound_b; stands = s }
 
 module _ (t : Truth) (xs ys : List Span) (w : Walk) (e : ℕ) where
   -- where the table is silent, the cell goes on as long as the first map holds the same

@@ -5,8 +5,9 @@ ghost use Rattle.outcomes.specs.Stored.{Sound};
 ghost use Rattle.query.specs.Answers.{query_at_sound, query_at};
 
 use crate::formed::are_formed;
+use crate::inquiry::Inquiry;
 use crate::table::table;
-use crate::walk::{cell_at, walk_at};
+use crate::walk::walk_at;
 use answers::Refusal;
 use outcomes::Stored;
 
@@ -22,11 +23,16 @@ pub fn query_at_unchecked(
     requires { Sound half_open a.now × Sound half_open b.now }
     ensures { result ≡ query_at_sound a.now b.now start end bytes.now key }
 {
-    let t = table(start, end, bytes)?;
+    let asked = Inquiry {
+        a,
+        b,
+        table: table(start, end, bytes)?,
+        end,
+    };
     if key < start || key >= end {
         return Ok(false);
     }
-    let c = cell_at(a, b, t, walk_at(key), end);
+    let c = asked.cell_at(walk_at(key));
     Ok(c.yes)
 }
 

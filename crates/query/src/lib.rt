@@ -5,6 +5,7 @@
 #![tactic(auto)]
 
 pub mod formed;
+pub mod inquiry;
 pub mod instant;
 pub mod ranges;
 pub mod seen;

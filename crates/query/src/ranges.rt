@@ -6,9 +6,9 @@ ghost use Rattle.range_list.specs.InnerLists.{wrote};
 ghost use Rattle.query.specs.Answers.{query_ranges_sound, query_ranges};
 
 use crate::formed::are_formed;
+use crate::inquiry::Inquiry;
 use crate::table::table;
 use crate::walk::walk_at;
-use crate::written;
 use answers::Refusal;
 use outcomes::Stored;
 use range_list::shorter;
@@ -27,13 +27,18 @@ pub fn query_unchecked(
     ensures { wrote result out_starts.new out_ends.new
         ≡ query_ranges_sound a.now b.now start end bytes.now out_starts.old out_ends.old }
 {
-    let t = table(start, end, bytes)?;
+    let asked = Inquiry {
+        a,
+        b,
+        table: table(start, end, bytes)?,
+        end,
+    };
     let w = walk_at(start);
     let room = shorter(out_starts.len(), out_ends.len());
-    if !written::fits(a, b, t, w, end, room) {
+    if !asked.fits(w, room) {
         return Err(Refusal::TooShort);
     }
-    Ok(written::write(a, b, t, w, end, out_starts, out_ends))
+    Ok(asked.write(w, out_starts, out_ends))
 }
 
 // Any two maps are taken.

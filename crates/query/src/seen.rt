@@ -27,7 +27,7 @@ fn class_of(value: Value) -> usize
 }
 
 // The first place whose range ends after a key. The ranges before `place` do not.
-// A `while`: with a `for` a whole query took 1.1 times as long, and missed its bar by more (docs/PERFORMANCE.md).
+// A `while`: with a `for` a whole query took 1.13 times as long, which misses its bar of 0.7 (docs/PERFORMANCE.md).
 #[tactic(auto, using(crate::proofs::Looks::held))]
 fn caught_up(m: &Stored, place: usize, key: i64) -> usize
     requires { Sound half_open m.now × Trails (spans_of m.now) place (rank key) }

@@ -1,15 +1,11 @@
 // THE WALK along the instants of two half-open maps: where it stands, and where the query changes between true and false.
-ghost use Rattle.std.specs.Prelude.{◌≡◌, true, ◌≤◌, ◌<◌, List};
-ghost use Rattle.span.specs.Span.{Span};
+ghost use Rattle.std.specs.Prelude.{◌≡◌, true, ◌≤◌, ◌<◌};
 ghost use Rattle.key.specs.Rank.{rank};
-ghost use Rattle.key.specs.Range.{half_open};
-ghost use Rattle.outcomes.specs.Stored.{Sound};
-ghost use Rattle.query.specs.InnerColumns.{spans_of};
-ghost use Rattle.query.specs.InnerSeen.{Trails, Sees};
-ghost use Rattle.query.specs.InnerWalk.{NoBits, Silent, Walks, Begins, Cells, Edges};
+ghost use Rattle.query.specs.InnerSeen.{Sees};
+ghost use Rattle.query.specs.InnerWalk.{NoBits, Silent, Stands, Begins, firsts, seconds, Cells, Edges};
 
+use crate::inquiry::Inquiry;
 use crate::seen::{Seen, look};
-use outcomes::Stored;
 use query_text::truth::Truth;
 
 // Where a walk is: a key, and in each map a place that trails it, so that a walk need not look at both.
@@ -54,64 +50,65 @@ fn is_silent(t: Truth, class: usize) -> bool
     }
 }
 
-// The cell where the first map shows `x`: it goes on as long as both maps hold the same.
-fn cell_of(b: &Stored, t: Truth, w: Walk, end: i64, x: Seen) -> Cell
-    requires { Sound half_open b.now × Trails (spans_of b.now) w.b (rank w.key) × (rank w.key < rank end) × (x.class ≤ 10) }
-    ensures { (xs : List Span) → Sees xs (rank w.key) (rank end) (rank x.until) x.class x.place
-        → Cells t xs (spans_of b.now) (rank w.key) (rank end) result }
-{
-    let y = look(b, w.b, w.key, end);
-    Cell {
-        yes: t.says(x.class, y.class),
-        next: Walk {
-            key: key::min(x.until, y.until),
-            a: x.place,
-            b: y.place,
-        },
-    }
-}
-
-// The cell at a walk.
-pub fn cell_at(a: &Stored, b: &Stored, t: Truth, w: Walk, end: i64) -> Cell
-    requires { Walks a.now b.now w × (rank w.key < rank end) }
-    ensures { Cells t (spans_of a.now) (spans_of b.now) (rank w.key) (rank end) result }
-{
-    let x = look(a, w.a, w.key, end);
-    cell_of(b, t, w, end, x)
-}
-
-// The same, but where the table is silent the cell goes on as long as the first map holds the same, without a look at the second.
-// For the writing alone: a function that is called in one place is compiled into it, and each step then stays in registers.
-pub fn quick_cell(a: &Stored, b: &Stored, t: Truth, w: Walk, end: i64) -> Cell
-    requires { Walks a.now b.now w × (rank w.key < rank end) }
-    ensures { Cells t (spans_of a.now) (spans_of b.now) (rank w.key) (rank end) result }
-{
-    let x = look(a, w.a, w.key, end);
-    if !is_silent(t, x.class) {
-        return cell_of(b, t, w, end, x);
-    }
-    Cell {
-        yes: false,
-        next: Walk {
-            key: x.until,
-            a: x.place,
-            b: w.b,
-        },
-    }
-}
-
-// THE EDGE: the first key from the walk on, before `end`, where the table says `so`; `end` if there is none.
-pub fn edge(a: &Stored, b: &Stored, t: Truth, w: Walk, end: i64, so: bool) -> Walk
-    requires { Walks a.now b.now w × (rank w.key ≤ rank end) }
-    ensures { Edges t (spans_of a.now) (spans_of b.now) (rank w.key) (rank end) so result }
-{
-    let mut here = w;
-    while here.key < end {
-        let c = cell_at(a, b, t, here, end);
-        if c.yes == so {
-            return here;
+impl Inquiry<'_> {
+    // The cell where the first map shows `x`: it goes on as long as both maps hold the same.
+    fn cell_of(&self, w: Walk, x: Seen) -> Cell
+        requires { Stands (firsts self.now) (seconds self.now) w × (rank w.key < rank self.now.end)
+            × Sees (firsts self.now) (rank w.key) (rank self.now.end) (rank x.until) x.class x.place }
+        ensures { Cells self.now.table (firsts self.now) (seconds self.now) (rank w.key) (rank self.now.end) result }
+    {
+        let y = look(self.b, w.b, w.key, self.end);
+        Cell {
+            yes: self.table.says(x.class, y.class),
+            next: Walk {
+                key: key::min(x.until, y.until),
+                a: x.place,
+                b: y.place,
+            },
         }
-        here = c.next;
     }
-    here
+
+    // The cell at a walk.
+    pub fn cell_at(&self, w: Walk) -> Cell
+        requires { Stands (firsts self.now) (seconds self.now) w × (rank w.key < rank self.now.end) }
+        ensures { Cells self.now.table (firsts self.now) (seconds self.now) (rank w.key) (rank self.now.end) result }
+    {
+        self.cell_of(w, look(self.a, w.a, w.key, self.end))
+    }
+
+    // The same, but where the table is silent the cell goes on as long as the first map holds the same, without a look at the second.
+    // For the writing alone: a function that is called in one place is compiled into it, and each step then stays in registers.
+    pub fn quick_cell(&self, w: Walk) -> Cell
+        requires { Stands (firsts self.now) (seconds self.now) w × (rank w.key < rank self.now.end) }
+        ensures { Cells self.now.table (firsts self.now) (seconds self.now) (rank w.key) (rank self.now.end) result }
+    {
+        let x = look(self.a, w.a, w.key, self.end);
+        if !is_silent(self.table, x.class) {
+            return self.cell_of(w, x);
+        }
+        Cell {
+            yes: false,
+            next: Walk {
+                key: x.until,
+                a: x.place,
+                b: w.b,
+            },
+        }
+    }
+
+    // THE EDGE: the first key from the walk on, before the end, where the table says `so`; the end if there is none.
+    pub fn edge(&self, w: Walk, so: bool) -> Walk
+        requires { Stands (firsts self.now) (seconds self.now) w × (rank w.key ≤ rank self.now.end) }
+        ensures { Edges self.now.table (firsts self.now) (seconds self.now) (rank w.key) (rank self.now.end) so result }
+    {
+        let mut here = w;
+        while here.key < self.end {
+            let c = self.cell_at(here);
+            if c.yes == so {
+                return here;
+            }
+            here = c.next;
+        }
+        here
+    }
 }

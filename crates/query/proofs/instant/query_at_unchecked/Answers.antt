@@ -12,18 +12,18 @@ use Rattle.query.proofs.Glue.{at_refused, at_table, says_truth, before_window, b
 use Rattle.query.proofs.instant.query_at_unchecked.Goals as goal
 use Rattle.query.proofs.instant.query_at_unchecked.Goals.{then-key-start-via-then-key-start, then-key-start-via-else-key-start+then-key-end}
 
-pub returns-in_err-t : goal.returns-in_err-t
-returns-in_err-t c =
+pub returns-in_err-table : goal.returns-in_err-table
+returns-in_err-table c =
     let a = c.args in
     let p = err_from_is_err_and c.from_residual.result c.from_residual.ensures.1 in
-    rw (p.1, p.2) (at_refused a.a.now a.b.now a.start a.end a.bytes.now (simp rank_back at c.in_err-t.ensures) a.key)
+    rw (p.1, p.2) (at_refused a.a.now a.b.now a.start a.end a.bytes.now (simp rank_back at c.in_err-table.ensures) a.key)
 
 pub returns-then-key-start : goal.returns-then-key-start
 returns-then-key-start c =
     let a = c.args in
     let xs = spans_of a.a.now in
     let ys = spans_of a.b.now in
-    let f = simp rank_back at c.in_ok-t.ensures in
+    let f = simp rank_back at c.in_ok-table.ensures in
     let told = at_table a.a.now a.b.now a.start a.end a.bytes.now f a.key in
     elim c.then-key-start.branch [
       | then-key-start-via-then-key-start w ↦
@@ -36,14 +36,14 @@ pub cell_at-c-requires : goal.cell_at-c-requires
 cell_at-c-requires c =
     let at_key : c.walk_at.result.key ≡ c.args.key = c.walk_at.ensures.0 ∙ to_z-of_z c.ranges.key in
     rw (to_z-of_z c.ranges.end)
-    (record { sound_a = c.requires.0; sound_b = c.requires.1; stands = c.walk_at.ensures.1 _ _ }, rw at_key (omega (arith, tests)))
+    (c.walk_at.ensures.1 _ _, rw at_key (omega (arith, tests)))
 
 pub returns : goal.returns
 returns c =
     let a = c.args in
     let xs = spans_of a.a.now in
     let ys = spans_of a.b.now in
-    let f = simp rank_back at c.in_ok-t.ensures in
+    let f = simp rank_back at c.in_ok-table.ensures in
     let at_key : c.walk_at.result.key ≡ a.key = c.walk_at.ensures.0 ∙ to_z-of_z c.ranges.key in
     let e = rw (at_key, to_z-of_z c.ranges.end) at c.cell_at-c.ensures in
     let within : rank a.start ≤ rank a.key = omega (arith, tests, c.if-key-start.false) in

@@ -9,19 +9,19 @@ use Rattle.query.specs.Answers.{result_of}
 use Rattle.query.proofs.Glue.{list_refused, list_table, result_comes, sound_few}
 use Rattle.query.proofs.ranges.query_unchecked.Goals as goal
 
-pub returns-in_err-t : goal.returns-in_err-t
-returns-in_err-t c =
+pub returns-in_err-table : goal.returns-in_err-table
+returns-in_err-table c =
     let a = c.args in
     let p = err_from_is_err_and c.from_residual.result c.from_residual.ensures.1 in
-    rw (p.1, p.2) (list_refused a.a.now a.b.now a.start a.end a.bytes.now (simp rank_back at c.in_err-t.ensures) a.out_starts.now a.out_ends.now)
+    rw (p.1, p.2) (list_refused a.a.now a.b.now a.start a.end a.bytes.now (simp rank_back at c.in_err-table.ensures) a.out_starts.now a.out_ends.now)
 
 pub fits-requires : goal.fits-requires
 fits-requires c =
     let a = c.args in
-    let f = simp rank_back at c.in_ok-t.ensures in
+    let f = simp rank_back at c.in_ok-table.ensures in
     let at_start : c.walk_at-w.result.key ≡ a.start = c.walk_at-w.ensures.0 ∙ to_z-of_z c.ranges.start in
     rw (to_z-of_z c.ranges.end) (
-      record { sound_a = c.requires.0; sound_b = c.requires.1; stands = c.walk_at-w.ensures.1 _ _ },
+      c.walk_at-w.ensures.1 _ _,
       rw at_start (omega (arith, f.real)),
       rw at_start
           (record {
@@ -34,7 +34,7 @@ fits-requires c =
 pub returns-then-not-fits : goal.returns-then-not-fits
 returns-then-not-fits c =
     let a = c.args in
-    let f = simp rank_back at c.in_ok-t.ensures in
+    let f = simp rank_back at c.in_ok-table.ensures in
     let at_start : c.walk_at-w.result.key ≡ a.start = c.walk_at-w.ensures.0 ∙ to_z-of_z c.ranges.start in
     let m = rw (at_start, to_z-of_z c.ranges.end) at c.fits.ensures in
     let zs = result_of a.a.now a.b.now a.start a.end f.query in
@@ -45,13 +45,13 @@ returns-then-not-fits c =
 pub write-requires : goal.write-requires
 write-requires c =
     let a = c.args in
-    let f = simp rank_back at c.in_ok-t.ensures in
+    let f = simp rank_back at c.in_ok-table.ensures in
     let at_start : c.walk_at-w.result.key ≡ a.start = c.walk_at-w.ensures.0 ∙ to_z-of_z c.ranges.start in
     let m = rw (at_start, to_z-of_z c.ranges.end) at c.fits.ensures in
     let zs = result_of a.a.now a.b.now a.start a.end f.query in
     let to_come = result_comes f a.a.now a.b.now c.requires.0 c.requires.1 in
     rw (to_z-of_z c.ranges.end) (
-      record { sound_a = c.requires.0; sound_b = c.requires.1; stands = c.walk_at-w.ensures.1 _ _ },
+      c.walk_at-w.ensures.1 _ _,
       rw at_start (omega (arith, f.real)),
       rw at_start
           (record {
@@ -64,7 +64,7 @@ write-requires c =
 pub returns : goal.returns
 returns c =
     let a = c.args in
-    let f = simp rank_back at c.in_ok-t.ensures in
+    let f = simp rank_back at c.in_ok-table.ensures in
     let at_start : c.walk_at-w.result.key ≡ a.start = c.walk_at-w.ensures.0 ∙ to_z-of_z c.ranges.start in
     let m = rw (at_start, to_z-of_z c.ranges.end) at c.fits.ensures in
     let v = rw (at_start, to_z-of_z c.ranges.end) at c.write.ensures in
