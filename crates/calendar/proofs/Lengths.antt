@@ -91,9 +91,10 @@ pub no_months : (y m : ℕ) → m ≡ 0 → 0 ≡ months_before y m
 unfolding months_before sum_of_first
 no_months y m e = rw e
 
-pub one_month_more : (y m : ℕ) → months_before y (m + 1) ≡ months_before y m + month_length y m
+pub more_months : (y m : ℕ) → 1 ≤ m → months_before y (m - 1) + month_length y (m - 1) ≡ months_before y m
 unfolding months_before sum_of_first
-one_month_more y m = let e : m + 1 ≡ suc m = omega arith in rw e
+more_months y zero h = absurd (omega arith)
+more_months y (suc m) h = let e : suc m - 1 ≡ m = omega arith in rw e
 
 -- a month that is there has at least 28 days
 long : (b : Bool) → T (every (λ (m : ℕ). leb 28 (get_or (lengths b) (suc m) 0)) 12)

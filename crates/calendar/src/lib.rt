@@ -60,16 +60,15 @@ fn month_length(year: u16, month: u8) -> u8
     }
 }
 
-// The days of the months before a month.
-#[tactic(auto, using(crate::proofs::Lengths::no_months, crate::proofs::Lengths::one_month_more))]
+// The days of the months before a month: those before the last of them, and the last. The month falls with each call: recursion, which the scope
+// wants where it fits first.
 fn months_before(year: u16, month: u8) -> u32
     ensures { (result ≡ months_before year month) × (result ≤ 31 * month) }
 {
-    let mut days = 0;
-    for before in 0..month {
-        days += u32::from(month_length(year, before));
+    if month == 0 {
+        return 0;
     }
-    days
+    months_before(year, month - 1) + u32::from(month_length(year, month - 1))
 }
 
 // The days of the years before a year: one more for every fourth. Of the hundreds only 2000 comes before one of these years, and it is a leap year.

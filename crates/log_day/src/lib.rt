@@ -37,6 +37,17 @@ const HOUR: i64 = 3600;
 
 const DAY: i64 = 24 * HOUR;
 
+// The standard offset of each zone, in seconds, in the order of their numbers.
+const STANDARD: [i64; 7] = [
+    -5 * HOUR,
+    -6 * HOUR,
+    -7 * HOUR,
+    -8 * HOUR,
+    -9 * HOUR,
+    -10 * HOUR,
+    -7 * HOUR,
+];
+
 // The years of the ledger.
 const FIRST_YEAR: u16 = 2007;
 
@@ -68,14 +79,7 @@ impl TimeZone {
     fn standard(self) -> i64
         ensures { result ≡ standard (zone_number self) }
     {
-        match self {
-            TimeZone::Eastern => -5 * HOUR,
-            TimeZone::Central => -6 * HOUR,
-            TimeZone::Mountain | TimeZone::MountainFixed => -7 * HOUR,
-            TimeZone::Pacific => -8 * HOUR,
-            TimeZone::Alaska => -9 * HOUR,
-            TimeZone::Hawaii => -10 * HOUR,
-        }
+        STANDARD[self as usize]
     }
 
     // Whether it changes its clock.
