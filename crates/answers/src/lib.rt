@@ -3,6 +3,7 @@
 
 ghost use Rattle.std.specs.Prelude.{◌≡◌};
 ghost use Rattle.answers.specs.Answers.{numbers};
+ghost use Rattle.answers.specs.Refusals.{number};
 
 // Done.
 pub const DONE: u8 = 0;
@@ -44,4 +45,37 @@ pub fn numbers_of() -> [u8; 11]
         TOTAL_OVER,
         BAD_STATUS,
     ]
+}
+
+// Why a call is refused: the faults of the table. 5 is none of them: that there is no such place is an answer.
+#[derive(Clone, Copy, Debug, PartialEq, Eq)]
+pub enum Refusal {
+    EmptyRange,
+    TooMany,
+    TooShort,
+    NotFormed,
+    NoMap,
+    BadQuery,
+    BadDay,
+    TotalOver,
+    BadStatus,
+}
+
+impl Refusal {
+    // Its number in the table.
+    pub fn number(self) -> u8
+        ensures { result ≡ number self }
+    {
+        match self {
+            Refusal::EmptyRange => EMPTY_RANGE,
+            Refusal::TooMany => TOO_MANY,
+            Refusal::TooShort => TOO_SHORT,
+            Refusal::NotFormed => NOT_FORMED,
+            Refusal::NoMap => NO_MAP,
+            Refusal::BadQuery => BAD_QUERY,
+            Refusal::BadDay => BAD_DAY,
+            Refusal::TotalOver => TOTAL_OVER,
+            Refusal::BadStatus => BAD_STATUS,
+        }
+    }
 }

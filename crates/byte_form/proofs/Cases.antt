@@ -7,7 +7,8 @@ use lib.IntN.{ℤ, pos, negsuc}
 use Rattle.span.specs.Span.{joins, tidy}
 use Rattle.key.specs.Rank.{above_least, bit_rank}
 use Rattle.outcomes.specs.Stored.{spans, ranges, filled, zeros, noughts, unused, well_formed}
-use Rattle.outcomes.specs.Outcomes.{Entry, entries}
+use Rattle.outcomes.specs.Outcomes.{entries}
+use Rattle.key.specs.declared.Entry.{Entry}
 use Rattle.byte_form.specs.Bytes.{bytes_of, number_in, range_bytes, range_in}
 use Rattle.byte_form.specs.Layout.{rm01}
 use Rattle.byte_form.specs.Form.{entries_of, ranges_bytes, form_of, ranges_in, count_in, map_of, map_in, same_bytes, is_form}

@@ -8,8 +8,10 @@ use lib.ListN.{length, take, drop, replicate, length-drop, length-replicate, get
 use lib.Seq.{ext_get_or, get_or-drop, length-take-le}
 use lib.IntN.{ℤ, pos}
 use Rattle.key.specs.Range.{Kind}
-use Rattle.outcomes.specs.Stored.{places, Stored, filled, well_formed, AllFit, Spare, Sound}
-use Rattle.outcomes.specs.Outcomes.{Entry, entries}
+use Rattle.outcomes.specs.Stored.{places, filled, well_formed, AllFit, Spare, Sound}
+use Rattle.outcomes.specs.declared.Stored.{Stored}
+use Rattle.outcomes.specs.Outcomes.{entries}
+use Rattle.key.specs.declared.Entry.{Entry}
 use Rattle.outcomes.proofs.Formed as Formed
 use Rattle.outcomes.proofs.Bulk.{length_entries}
 use Rattle.byte_form.specs.Form.{entries_of, map_of}

@@ -15,8 +15,10 @@ use mir.Facts.{sfits_lit}
 use Rattle.answers.specs.Answers.{done, no_map}
 use Rattle.span.proofs.Tests.{both}
 use Rattle.key.proofs.Answers.{never}
-use Rattle.outcomes.specs.Stored.{places, Stored, filled, well_formed, AllFit, Sound}
-use Rattle.outcomes.specs.Outcomes.{Entry, formed, Edited, leaving}
+use Rattle.outcomes.specs.Stored.{places, filled, well_formed, AllFit, Sound}
+use Rattle.outcomes.specs.declared.Stored.{Stored}
+use Rattle.outcomes.specs.Outcomes.{formed, Edited, leaving}
+use Rattle.key.specs.declared.Entry.{Entry}
 use Rattle.outcomes.proofs.Formed.{and_yes, Shaped}
 use Rattle.outcomes.proofs.Formed as Formed
 use Rattle.outcomes.proofs.Storing.{length_filled}

@@ -8,7 +8,7 @@ use lib.Seq.{get_or_at, take-suc, take_at, drop_at, take-add, get_or-drop, lengt
 use mir.Syntax.{w64}
 use mir.Val.{SFits, of_z}
 use Rattle.key.proofs.Laws.{to_z_fit}
-use Rattle.outcomes.specs.Outcomes.{Entry}
+use Rattle.key.specs.declared.Entry.{Entry}
 use Rattle.byte_form.specs.Bytes.{i64_size, number_in, key_bytes, range_bytes, range_in, Bytes}
 use Rattle.byte_form.specs.Layout.{Layout, rm01}
 use Rattle.byte_form.proofs.Laws.{length_bytes, key_back, key_again, bytes_take, bytes_drop}

@@ -1,20 +1,17 @@
 -- Numbers and keys as bytes, there and back.
 use Prim.Native.Nat.{ℕ, zero, suc, ◌+◌, ◌-◌, ◌*◌, ◌/◌, ◌%◌, ◌^◌, ◌≤◌, ◌<◌, zero-le}
-use native.Mathlib.Nat.{le_antisymm, le_of_suc-le-suc, div-lt_iff_lt-mul, zero-lt-suc, pow-suc, mod-add-div}
+use native.Mathlib.Nat.{div-div-eq-div-mul, le_antisymm, le_of_suc-le-suc, div-lt_iff_lt-mul, zero-lt-suc, pow-suc, mod-add-div}
 use native.Mathlib.Omega.{arith}
 use mathlib.Core.Path.{◌≡◌, refl, sym, ap, subst, ◌∙◌}
-use mathlib.Core.Bool.{true, false}
-use mathlib.Core.List.{List, [], ◌∷◌, ◌++◌}
-use borrow.Author.Tests.{ltb-true, lt-ltb, le-ltb}
-use lib.ListN.{length, get_or, take, drop}
-use lib.Seq.{drop-cons, get_or-drop}
-use lib.IntN.{ℤ, pos, negsuc, nat_abs, ◌+ℤ◌}
-use lib.Dec.{T}
-use lib.Signed.{lt_z, non_neg}
+use mathlib.Core.List.{List, [], ◌∷◌}
+use borrow.Author.Tests.{lt-ltb, le-ltb}
+use lib.ListN.{length, take, drop, length-drop}
+use lib.Seq.{get_or-drop, length-take-le}
+use lib.IntN.{ℤ, negsuc, ◌+ℤ◌}
 use mir.Syntax.{w64}
 use mir.Val.{SFits, to_z, of_z}
 use mir.Facts.{to_z-of_z, of_z-to_z, Fits-of_z}
-use Rattle.key.specs.Rank.{above_least, bit_rank, rank}
+use Rattle.std.specs.Int.{w32, bytes_low_first, from_le_bytes}
 use Rattle.byte_form.specs.Bytes.{u32_size, i64_size, bytes_of, number_in, key_bytes, key_of, Bytes}
 
 -- NUMBERS
@@ -53,64 +50,37 @@ number_below (b ∷ bs) h =
     let p = pow-suc 256 (length bs) in
     omega arith
 
--- an element and what comes after it
-pub drop_step : (l : List ℕ) (at j : ℕ) → at < length l → at + 1 ≡ j → drop at l ≡ get_or l at 0 ∷ drop j l
-drop_step l at j h e = let s : suc at ≡ j = omega arith in drop-cons l at 0 h ∙ ap (λ (k : ℕ). get_or l at 0 ∷ drop k l) s
-
--- the number of the four bytes at a place, one by one
-pub four : (l : List ℕ) (at : ℕ) → at + u32_size ≤ length l
-    → number_in (take u32_size (drop at l)) ≡ get_or l at 0 + get_or l (at + 1) 0 * 256 + get_or l (at + 2) 0 * 65536 + get_or l (at + 3) 0 * 16777216
-unfolding number_in
-four l at h =
-    rw (
-      drop_step l at (at + 1) (omega arith) (omega arith),
-      drop_step l (at + 1) (at + 2) (omega arith) (omega arith),
-      drop_step l (at + 2) (at + 3) (omega arith) (omega arith),
-      drop_step l (at + 3) (at + 4) (omega arith) (omega arith),
-    )
-    (omega arith)
-
--- the number of eight bytes is that of two fours
-pub eight : (l : List ℕ) (at : ℕ) → at + i64_size ≤ length l
-    → number_in (take i64_size (drop at l)) ≡ number_in (take u32_size (drop at l)) + number_in (take u32_size (drop (at + u32_size) l)) * 4294967296
-unfolding number_in
-eight l at h =
-    rw (
-      drop_step l at (at + 1) (omega arith) (omega arith),
-      drop_step l (at + 1) (at + 2) (omega arith) (omega arith),
-      drop_step l (at + 2) (at + 3) (omega arith) (omega arith),
-      drop_step l (at + 3) (at + 4) (omega arith) (omega arith),
-      drop_step l (at + 4) (at + 5) (omega arith) (omega arith),
-      drop_step l (at + 5) (at + 6) (omega arith) (omega arith),
-      drop_step l (at + 6) (at + 7) (omega arith) (omega arith),
-      drop_step l (at + 7) (at + 8) (omega arith) (omega arith),
-    )
-    (omega arith)
-
--- eight bytes are two fours
-pub eight_bytes : (n : ℕ) → bytes_of i64_size n ≡ bytes_of u32_size n ++ bytes_of u32_size (n / 4294967296)
+-- AS THE LIBRARY HAS THEM: k bytes of a number, from byte i on
+low_first : (i k n : ℕ) → bytes_low_first i k n ≡ bytes_of k (n / 256 ^ i)
 unfolding bytes_of
-eight_bytes n = let q : n / 4294967296 ≡ n / 256 / 256 / 256 / 256 = omega arith in rw q
+low_first i zero n = refl
+low_first zero (suc k) n =
+    let d : n / 256 ^ 0 ≡ n = omega arith in
+    rw (d, low_first 1 k n)
+low_first (suc i) (suc k) n =
+    let d : n / 256 ^ suc (suc i) ≡ n / 256 ^ suc i / 256 = ap (λ (p : ℕ). n / p) (pow-suc 256 (suc i)) ∙ sym (div-div-eq-div-mul n (256 ^ suc i) 256) in
+    rw (low_first (suc (suc i)) k n, d)
+
+-- what `to_le_bytes` gives
+pub bytes_low : (k n : ℕ) → bytes_low_first 0 k n ≡ bytes_of k n
+bytes_low k n = let d : n / 256 ^ 0 ≡ n = omega arith in low_first 0 k n ∙ ap (bytes_of k) d
+
+-- the k bytes at a place are k
+pub length_part : (k at : ℕ) (l : List ℕ) → at + k ≤ length l → length (take k (drop at l)) ≡ k
+length_part k at l h = length-take-le k (drop at l) (omega (arith, length-drop at l))
+
+-- what `from_le_bytes` gives
+pub number_low4 : (bs : List ℕ) → length bs ≡ u32_size → from_le_bytes w32 bs ≡ number_in bs
+unfolding number_in
+number_low4 (a ∷ b ∷ c ∷ d ∷ []) l = omega arith
+number_low4 bs l = absurd (omega arith)
+
+pub number_low8 : (bs : List ℕ) → length bs ≡ i64_size → from_le_bytes w64 bs ≡ number_in bs
+unfolding number_in
+number_low8 (a ∷ b ∷ c ∷ d ∷ e ∷ f ∷ g ∷ h ∷ []) l = omega arith
+number_low8 bs l = absurd (omega arith)
 
 -- KEYS
-
--- the bits of a negative key, as code computes them
-pub bits_negative : (z : ℤ) → SFits w64 z → lt_z (to_z w64 (of_z w64 z)) (pos 0) ≡ true → rank z + 2 ^ 63 ≡ of_z w64 z
-unfolding bit_rank above_least
-bits_negative z f e = rw (to_z-of_z f) (go z f (rw (to_z-of_z f) at e))
-  where
-    go : (z : ℤ) → SFits w64 z → lt_z z (pos 0) ≡ true → above_least z + 2 ^ 63 ≡ of_z w64 z
-    go (pos n) f e = absurd (omega (arith, ltb-true))
-    go (negsuc n) f e = omega (arith, f.sfits)
-
--- and of another
-pub bits_natural : (z : ℤ) → SFits w64 z → lt_z (to_z w64 (of_z w64 z)) (pos 0) ≡ false
-    → T (non_neg (to_z w64 (of_z w64 z))) × (nat_abs (to_z w64 (of_z w64 z)) ≡ of_z w64 z)
-bits_natural z f e = rw (to_z-of_z f) (go z (rw (to_z-of_z f) at e))
-  where
-    go : (z : ℤ) → lt_z z (pos 0) ≡ false → T (non_neg z) × (nat_abs z ≡ of_z w64 z)
-    go (pos n) e = (tt, refl)
-    go (negsuc n) e = absurd (subst T e tt)
 
 -- the key of bits from 2 ^ 63 on, as code computes it
 pub key_negative : (n : ℕ) → 2 ^ 63 ≤ n → n < 2 ^ 64 → to_z w64 (n - 2 ^ 63) +ℤ negsuc (2 ^ 63 - 1) ≡ to_z w64 n

@@ -8,6 +8,10 @@ use lib.ListN.{length, set, length-append, take, drop, length-drop, take-append-
 use lib.Seq.{sets, sets-eq, length-sets, length-take-le, drop-append-le, drop-drop}
 
 module _ {A : Type 0} where
+  -- a run into the first k places
+  pub put_front : (k : ℕ) (l ws : List A) → length ws ≡ k → k ≤ length l → ws ++ drop k l ≡ sets l 0 ws
+  put_front k l ws e h = let z : 0 + length ws ≡ k = omega arith in sym (rw z at (sets-eq ws l 0 (omega arith)))
+
   -- a second run, right after the first
   pub sets_append : (l : List A) (i : ℕ) (vs ws : List A) (j : ℕ) → i + length vs ≡ j → sets (sets l i vs) j ws ≡ sets l i (vs ++ ws)
   sets_append l i [] ws j e = let k : j ≡ i = omega arith in ap (λ (k : ℕ). sets l k ws) k

@@ -9,10 +9,11 @@ use lib.ListN.{length, take, drop}
 use lib.Seq.{take-append_seam}
 use Rattle.answers.specs.Answers.{done}
 use Rattle.key.proofs.Answers.{one_answer}
-use Rattle.outcomes.specs.Stored.{places, Stored, Sound}
+use Rattle.outcomes.specs.Stored.{places, Sound}
+use Rattle.outcomes.specs.declared.Stored.{Stored}
 use Rattle.outcomes.specs.Outcomes.{formed, leaving}
 use Rattle.outcomes.specs.declared.Count.{Count}
-use Rattle.outcomes.specs.declared.Counted.{Counted}
+use Rattle.outcomes.specs.Answered.{Counted}
 use Rattle.byte_form.specs.Layout.{Layout}
 use Rattle.byte_form.specs.Form.{form_of, Output, output, into_output, write, Wrote, read}
 use Rattle.byte_form.proofs.Lawful.{Lawful}

@@ -2,7 +2,7 @@
 use Rattle.std.specs.Prelude.{ℕ, zero, suc, ◌+◌, ◌*◌, ◌/◌, ◌%◌, ◌<◌, List, [], ◌∷◌, ◌++◌, get_or, take, drop, ℤ}
 use Rattle.std.specs.Int.{w64}
 use Rattle.std.proofs.Common.{to_z, of_z}
-use Rattle.outcomes.specs.Outcomes.{Entry}
+use Rattle.key.specs.declared.Entry.{Entry}
 
 -- how many bytes a u32 is
 abbrev pub u32_size : ℕ

@@ -1,14 +1,17 @@
 -- Document 01, Byte form: the mark, count as u32, then range after range; what the writer and the reader answer and leave. All of it is over any layout:
 -- document 01's is `rm01`.
-use Rattle.std.specs.Prelude.{ℕ, zero, suc, ◌≡◌, Bool, true, false, ◌&&◌, cond, List, [], ◌∷◌, ◌++◌, map, eqb, ltb, length, take, drop, pos}
-use Rattle.answers.specs.Answers.{done, too_short, not_formed, no_map}
-use Rattle.outcomes.specs.Stored.{places, Stored, filled}
-use Rattle.outcomes.specs.Outcomes.{Entry, entries, formed, Edited, leaving}
+use Rattle.std.specs.Prelude.{ℕ, zero, suc, ◌≡◌, Bool, true, false, ◌&&◌, cond, List, [], ◌∷◌, ◌++◌, map, eqb, ltb, length, take, drop, pos, Ok, Err}
+use Rattle.answers.specs.Answers.{done, no_map}
+use Rattle.outcomes.specs.Stored.{places, filled}
+use Rattle.outcomes.specs.declared.Stored.{Stored}
+use Rattle.outcomes.specs.Outcomes.{entries, formed, Edited, leaving}
+use Rattle.key.specs.declared.Entry.{Entry}
 use Rattle.outcomes.specs.Numbers.{counted_in_c}
 use Rattle.outcomes.specs.declared.Count.{Count}
-use Rattle.outcomes.specs.declared.Counted.{Counted}
+use Rattle.outcomes.specs.Answered.{Counted}
 use Rattle.byte_form.specs.Bytes.{u32_size, number_in}
 use Rattle.byte_form.specs.Layout.{Layout, head_of, head_size}
+use Rattle.answers.specs.declared.Refusal.TheVariants.{TooShort, NotFormed}
 
 -- the ranges that a map holds, place by place: those of its first `count` places
 unfoldable pub entries_of : Stored → List Entry
@@ -38,8 +41,8 @@ pub record Wrote (r : Count) (out : List ℕ) (w : Output) : Type 0 where
 
 -- bytes into the first places of a lent output, if it is long enough
 unfoldable pub into_output : List ℕ → List ℕ → Output
-into_output bs out = cond (ltb (length out) (length bs)) (output (Counted.Refused too_short) out)
-    (output (Counted.Count (length bs)) (bs ++ drop (length bs) out))
+into_output bs out = cond (ltb (length out) (length bs)) (output (Err TooShort) out)
+    (output (Ok (length bs)) (bs ++ drop (length bs) out))
 
 -- are two lists of bytes the same
 unfoldable pub same_bytes : List ℕ → List ℕ → Bool
@@ -60,7 +63,7 @@ module _ (layout : Layout) where
 
   -- THE WRITER
   unfoldable pub write : Stored → List ℕ → Output
-  write m out = cond (formed layout.kind m) (into_output (form_of m) out) (output (Counted.Refused not_formed) out)
+  write m out = cond (formed layout.kind m) (into_output (form_of m) out) (output (Err NotFormed) out)
 
   -- the first n ranges of some bytes
   unfoldable pub ranges_in : ℕ → List ℕ → List Entry

@@ -1,7 +1,7 @@
 -- What one byte form differs in from another: a record. The form of a map, the writer, the reader and both round trips are over any such record (`Form`).
 use Rattle.std.specs.Prelude.{ℕ, ◌+◌, ◌*◌, List, [], ◌∷◌, ◌++◌, length}
 use Rattle.key.specs.Range.{Kind, half_open}
-use Rattle.outcomes.specs.Outcomes.{Entry}
+use Rattle.key.specs.declared.Entry.{Entry}
 use Rattle.byte_form.specs.Bytes.{u32_size, bytes_of, range_bytes, range_in}
 
 -- a layout: the kind of the map's ranges, the bytes that stand first, how many bytes one range is, a range as bytes, and the range that is first in bytes

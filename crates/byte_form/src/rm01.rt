@@ -11,8 +11,8 @@ use crate::number::{I64_SIZE, U32_SIZE, key_at, put_key, put_u32, u32_at};
 use key::Value;
 use outcomes::PLACES;
 
-// 52 4D 30 31 as a u32: the lowest byte stands first.
-const MARK: u64 = 0x31304D52;
+// 52 4D 30 31.
+const MARK: [u8; U32_SIZE] = *b"RM01";
 
 // The mark, and the count after it.
 pub const HEAD_SIZE: usize = 2 * U32_SIZE;
@@ -47,7 +47,7 @@ pub fn put_head(out: &mut [u8], count: usize)
     requires { head_size rm01 ≤ length out.old }
     ensures { out.new ≡ sets out.old 0 (head_of rm01 count) }
 {
-    put_u32(out, MARK);
+    out[..U32_SIZE].copy_from_slice(&MARK);
     put_u32(&mut out[U32_SIZE..], count as u64);
 }
 
@@ -66,10 +66,11 @@ pub fn has_mark(bytes: &[u8]) -> bool
     requires { head_size rm01 ≤ length bytes.now }
     ensures { Decides result (take (length rm01.mark) bytes.now ≡ rm01.mark) }
 {
-    u32_at(bytes, 0) == MARK
+    bytes.starts_with(&MARK)
 }
 
 // The count, which stands after the mark.
+#[tactic(auto, unfolding(crate::specs::Form::count_in))]
 pub fn count_in(bytes: &[u8]) -> u64
     requires { head_size rm01 ≤ length bytes.now }
     ensures { (result ≡ count_in rm01 bytes.now) × (result < 4294967296) }
@@ -78,6 +79,7 @@ pub fn count_in(bytes: &[u8]) -> u64
 }
 
 // The start of the range whose bytes begin at `at`.
+#[tactic(auto, unfolding(crate::specs::Bytes::range_in))]
 pub fn start_at(bytes: &[u8], at: usize) -> i64
     requires { at + rm01.size ≤ length bytes.now }
     ensures { result ≡ (rm01.read (drop at bytes.now)).start }
@@ -94,6 +96,7 @@ pub fn end_at(bytes: &[u8], at: usize) -> i64
 }
 
 // Its value.
+#[tactic(auto, unfolding(crate::specs::Bytes::range_in))]
 pub fn value_at(bytes: &[u8], at: usize) -> u8
     requires { at + rm01.size ≤ length bytes.now }
     ensures { result ≡ (rm01.read (drop at bytes.now)).value }

@@ -6,13 +6,16 @@ use native.Mathlib.Numerals.{add-one}
 use mathlib.Core.Path.{◌≡◌, refl, sym, ap, ◌∙◌}
 use mathlib.Core.Bool.{Bool, true, false, ◌&&◌}
 use mathlib.Core.List.{List, [], ◌∷◌, ◌++◌, map, append-nil, map-append}
-use lib.ListN.{length, get_or, set, take, drop, replicate, length-append, length-map, length-replicate, get_or-append, get_or-map, drop_of_length-le}
-use lib.Seq.{sets, sets-eq, length-sets, drop-drop}
-use lib.IntN.{ℤ, pos}
+use lib.ListN.{length, get_or, set, take, drop, length-drop, replicate, length-append, length-map, length-replicate, get_or-append, get_or-map, drop_of_length-le}
+use borrow.Rule.Slice.PartMut.{mid_of, put_mid as put_back}
+use lib.Seq.{length-take-le, sets, sets-eq, drop-drop}
+use lib.IntN.{pos}
 use Rattle.answers.specs.Answers.{done}
 use Rattle.key.specs.InnerDecides.{Decides}
-use Rattle.outcomes.specs.Stored.{places, Stored, stored, filled}
-use Rattle.outcomes.specs.Outcomes.{Entry, formed, leaving}
+use Rattle.outcomes.specs.Stored.{places, stored, filled}
+use Rattle.outcomes.specs.declared.Stored.{Stored}
+use Rattle.outcomes.specs.Outcomes.{formed, leaving}
+use Rattle.key.specs.declared.Entry.{Entry}
 use Rattle.outcomes.proofs.Formed.{Shaped}
 use Rattle.outcomes.proofs.Formed as Formed
 use Rattle.outcomes.proofs.Storing.{spare_filled}
@@ -22,11 +25,23 @@ use Rattle.byte_form.specs.Bytes.{Bytes}
 use Rattle.byte_form.specs.Layout.{Layout, head_size, form_size}
 use Rattle.byte_form.specs.Form.{ranges_in, count_in, map_of, map_in, is_form, read}
 use Rattle.byte_form.proofs.Lawful.{Lawful}
-use Rattle.byte_form.proofs.Stores.{sets_append}
+use Rattle.byte_form.proofs.Stores.{sets_append, put_mid}
 use Rattle.byte_form.proofs.Ranges.{length_ranges_in}
 use Rattle.byte_form.proofs.Entries.{entries_of_map}
 use Rattle.byte_form.proofs.Forms.{mark_form, length_form, form_map, Form, form_yes, is_same, count_in_map, map_shaped}
-use Rattle.byte_io.specs.InnerRead.{Cleared, Sized, ranges_of, told, Filled}
+use Rattle.byte_io.specs.InnerRead.{Cleared, ReadsForm, Sized, ranges_of, told, Filled}
+
+-- a map has all places
+pub record Full (m : Stored) : Type 0 where
+  pub starts : length m.starts ≡ places
+  pub ends : length m.ends ≡ places
+  pub values : length m.values ≡ places
+
+-- a range stands at a place
+pub record Stands (m : Stored) (k : ℕ) (x : Entry) : Type 0 where
+  pub start : get_or m.starts k (pos 0) ≡ x.start
+  pub end : get_or m.ends k (pos 0) ≡ x.end
+  pub value : get_or m.values k 0 ≡ x.value
 
 abbrev none : Entry
 none = record { start = pos 0; end = pos 0; value = 0 }
@@ -65,24 +80,32 @@ module _ (layout : Layout) where
         get_or-append (map f xs) (replicate (places - length (map f xs)) (f none)) (f none) k l ∙ get_or-map f xs k none
         ∙ ap f (range_at n k (drop (head_size layout) bs) h ∙ ap layout.read d)
 
-    pub start_of : get_or (told layout n bs).starts k (pos 0) ≡ (layout.read (drop at bs)).start
+    start_of : get_or (told layout n bs).starts k (pos 0) ≡ (layout.read (drop at bs)).start
     unfolding map_of
     start_of = column_at (λ (x : Entry). x.start)
 
-    pub end_of : get_or (told layout n bs).ends k (pos 0) ≡ (layout.read (drop at bs)).end
+    end_of : get_or (told layout n bs).ends k (pos 0) ≡ (layout.read (drop at bs)).end
     unfolding map_of
     end_of = column_at (λ (x : Entry). x.end)
 
-    pub value_of : get_or (told layout n bs).values k 0 ≡ (layout.read (drop at bs)).value
+    value_of : get_or (told layout n bs).values k 0 ≡ (layout.read (drop at bs)).value
     unfolding map_of
     value_of = column_at (λ (x : Entry). x.value)
 
+  -- the range that is read there stands there
+  pub stands : (n k : ℕ) (bs : List ℕ) → k < n → {x : Entry} → x ≡ layout.read (drop (form_size layout k) bs) → Stands (told layout n bs) k x
+  stands n k bs h e = record {
+    start = start_of n k (form_size layout k) bs h refl ∙ ap (λ (x : Entry). x.start) (sym e);
+    end = end_of n k (form_size layout k) bs h refl ∙ ap (λ (x : Entry). x.end) (sym e);
+    value = value_of n k (form_size layout k) bs h refl ∙ ap (λ (x : Entry). x.value) (sym e);
+  }
+
   -- THE CHECK
 
-  pub refused : (bs : List ℕ) → (Form layout bs → ⊥) → false ≡ is_form layout bs
+  pub refused : (bs : List ℕ) → (Form layout bs → ⊥) → is_form layout bs ≡ false
   refused bs h = go (is_form layout bs) refl
     where
-      go : (t : Bool) → is_form layout bs ≡ t → false ≡ t
+      go : (t : Bool) → is_form layout bs ≡ t → t ≡ false
       go true e = absurd (h (form_yes layout bs e))
       go false e = refl
 
@@ -135,12 +158,22 @@ form_tidy {layout} law bs n r b t e s d =
 
 -- THE STORES
 
+-- the places from n on, filled with one value
+pub zeros : {A : Type 0} (l : List A) (n : ℕ) (z : A) {ys : List A} → length l ≡ places → n ≤ places → ys ≡ replicate (length (mid_of n (places - n) l)) z
+    → put_back n (places - n) l ys ≡ sets l n (replicate (places - n) z)
+zeros l n z f h e =
+    let t : List _ = mid_of n (places - n) l in
+    let m : length t ≡ places - n = length-take-le (places - n) (drop n l) (omega (arith, length-drop n l)) in
+    let k : length (replicate (places - n) z) ≡ places - n = length-replicate (places - n) z in
+    let d : drop (0 + length (replicate (places - n) z)) t ≡ [] = drop_of_length-le t {i = 0 + length (replicate (places - n) z)} (omega arith) in
+    let s : sets t 0 (replicate (places - n) z) ≡ replicate (places - n) z = sets-eq (replicate (places - n) z) t 0 (omega arith) ∙ rw (d, append-nil (replicate (places - n) z)) in
+    put_mid n (places - n) l (replicate (places - n) z) (rw m at e ∙ sym s) (omega arith) (omega arith)
+
 -- a column that was filled, and cleared from there on
-fill_all : {A : Type 0} (z : A) (l vs : List A) (n : ℕ) {a b : List A} → length a ≡ places → length vs ≡ n → n ≤ places → a ≡ sets l 0 vs
+fill_all : {A : Type 0} (z : A) (l vs : List A) (n : ℕ) {a b : List A} → length l ≡ places → length vs ≡ n → n ≤ places → a ≡ sets l 0 vs
     → b ≡ sets a n (replicate (places - n) z) → b ≡ filled places z vs
 unfolding filled
 fill_all z l vs n {a} c e h p q =
-    let same : length a ≡ length l = ap length p ∙ length-sets l 0 vs in
     let zs : List _ = replicate (places - n) z in
     let r : List _ = vs ++ zs in
     let k : length r ≡ places = length-append vs zs ∙ omega (arith, length-replicate (places - n) z) in
@@ -168,16 +201,14 @@ module _ (layout : Layout) where
       rw (e, r, add-one i, ranges_in_more i rest, d, map-append f xs (x ∷ [])) (sets_append l 0 (map f xs) (f x ∷ []) i (omega arith))
 
   -- the map that is there at the end
-  pub reads_form : (old : Stored) (bs : List ℕ) (n : ℕ) {ss es ss₁ es₁ ss₂ es₂ : List ℤ} {vs vs₁ vs₂ : List ℕ} → is_form layout bs ≡ true
-      → n ≡ count_in layout bs → Filled layout n bs ss es vs ss₁ es₁ vs₁ → Cleared n ss₁ es₁ vs₁ ss₂ es₂ vs₂
-      → leaving done (stored n ss₂ es₂ vs₂) ≡ read layout old bs
+  pub reads_form : (old : Stored) (bs : List ℕ) (n : ℕ) {a b : Stored} → ReadsForm layout n bs → Full old → Filled layout n bs old a → Cleared n a b
+      → leaving done (stored n b.starts b.ends b.values) ≡ read layout old bs
   unfolding read map_in map_of
-  reads_form old bs n {ss} {es} {vs = vs} y e f g =
-      let c = g.all in
+  reads_form old bs n r c f g =
       let xs : List Entry = ranges_of layout n bs in
       let l : length xs ≡ n = length_ranges_in layout n (drop (head_size layout) bs) in
-      let h : n ≤ places = omega (arith, form_few layout bs (form_yes layout bs y)) in
-      let s = fill_all (pos 0) ss (map (λ (x : Entry). x.start) xs) n c.starts (length-map xs (λ (x : Entry). x.start) ∙ l) h f.starts g.starts in
-      let t = fill_all (pos 0) es (map (λ (x : Entry). x.end) xs) n c.ends (length-map xs (λ (x : Entry). x.end) ∙ l) h f.ends g.ends in
-      let v = fill_all 0 vs (map (λ (x : Entry). x.value) xs) n c.values (length-map xs (λ (x : Entry). x.value) ∙ l) h f.values g.values in
-      rw (y, s, t, v, ← e, l)
+      let h : n ≤ places = r.sized.few in
+      let s = fill_all (pos 0) old.starts (map (λ (x : Entry). x.start) xs) n c.starts (length-map xs (λ (x : Entry). x.start) ∙ l) h f.starts g.starts in
+      let t = fill_all (pos 0) old.ends (map (λ (x : Entry). x.end) xs) n c.ends (length-map xs (λ (x : Entry). x.end) ∙ l) h f.ends g.ends in
+      let v = fill_all 0 old.values (map (λ (x : Entry). x.value) xs) n c.values (length-map xs (λ (x : Entry). x.value) ∙ l) h f.values g.values in
+      rw (r.is, s, t, v, ← r.count, l)

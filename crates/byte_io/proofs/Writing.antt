@@ -9,10 +9,10 @@ use borrow.Rule.Slice.PartMut.{mid_of, put_mid as put_back}
 use lib.ListN.{length, get_or, take, drop}
 use lib.Seq.{sets, sets-eq, length-sets, take-suc, length-take-le}
 use lib.IntN.{ℤ, pos}
-use Rattle.answers.specs.Answers.{too_short}
-use Rattle.outcomes.specs.Stored.{Stored, Sound}
-use Rattle.outcomes.specs.Outcomes.{Entry, entries}
-use Rattle.outcomes.specs.declared.Counted.TheVariants as Counted
+use Rattle.outcomes.specs.Stored.{Sound}
+use Rattle.outcomes.specs.declared.Stored.{Stored}
+use Rattle.outcomes.specs.Outcomes.{entries}
+use Rattle.key.specs.declared.Entry.{Entry}
 use Rattle.outcomes.proofs.Formed.{sound_held}
 use Rattle.outcomes.proofs.Bulk.{length_entries, entry_at, get_or_entries}
 use Rattle.byte_form.specs.Layout.{Layout, head_of, head_size, form_size}
@@ -22,6 +22,8 @@ use Rattle.byte_form.proofs.Stores.{sets_append, put_mid}
 use Rattle.byte_form.proofs.Ranges.{length_ranges_bytes}
 use Rattle.byte_form.proofs.Entries.{length_entries_of}
 use Rattle.byte_form.proofs.Forms.{length_head, length_form}
+use Rattle.std.specs.Prelude.{Ok, Err}
+use Rattle.answers.specs.declared.Refusal.TheVariants.{TooShort}
 
 -- the map's columns, of one length
 pub record Even (ss es : List ℤ) (vs : List ℕ) : Type 0 where
@@ -73,7 +75,7 @@ module _ {layout : Layout} (law : Lawful layout) where
     form_long = length_form law m ∙ ap (form_size layout) (length_entries_of m sound.ends_as sound.values_as (sound_held layout.kind m sound))
 
     -- the output is too short
-    pub puts_none : length l < form_size layout m.count → output (Counted.Refused too_short) l ≡ into_output (form_of layout m) l
+    pub puts_none : length l < form_size layout m.count → output (Err TooShort) l ≡ into_output (form_of layout m) l
     unfolding into_output
     puts_none h = rw (lt-ltb (length l) (length (form_of layout m)) (omega (arith, form_long)))
 
@@ -87,7 +89,7 @@ module _ {layout : Layout} (law : Lawful layout) where
         ∙ sets_append l 0 (head_of layout m.count) rs (head_size layout) (omega (arith, length_head layout m.count))
 
     pub puts_all : {h o : List ℕ} → form_size layout m.count ≤ length l → h ≡ sets l 0 (head_of layout m.count)
-        → o ≡ sets h (head_size layout) (ranges_bytes layout (entries_of m)) → output (Counted.Count (form_size layout m.count)) o ≡ into_output (form_of layout m) l
+        → o ≡ sets h (head_size layout) (ranges_bytes layout (entries_of m)) → output (Ok (form_size layout m.count)) o ≡ into_output (form_of layout m) l
     unfolding into_output
     puts_all r a b =
         let bs : List ℕ = form_of layout m in

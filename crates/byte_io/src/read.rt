@@ -1,46 +1,46 @@
 // The reader of document 01's byte form. The bytes are checked first, where they stand; nothing is written before the answer is known.
-ghost use Rattle.std.specs.Prelude.{◌≡◌, ◌<◌};
+ghost use Rattle.std.specs.Prelude.{◌≡◌, ◌≤◌, ◌<◌, false, drop, MatchOption};
 ghost use Rattle.key.specs.InnerDecides.{Decides};
 ghost use Rattle.key.specs.Range.{half_open};
-ghost use Rattle.outcomes.specs.Stored.{stored};
-ghost use Rattle.outcomes.specs.Outcomes.{leaving};
+ghost use Rattle.outcomes.specs.Stored.{places};
+ghost use Rattle.outcomes.specs.InnerOutcome.{Leaves};
 ghost use Rattle.store.specs.InnerCheck.{Step, Steps};
-ghost use Rattle.byte_form.specs.Layout.{rm01};
+ghost use Rattle.byte_form.specs.Layout.{rm01, form_size};
 ghost use Rattle.byte_form.specs.Form.{is_form, read};
-ghost use Rattle.byte_io.specs.InnerRead.{Sized, Filled, Cleared, told};
+ghost use Rattle.byte_io.specs.InnerRead.{MayFollow, ReadsForm, Sized, Filled, Cleared, told};
 
-use answers::{DONE, NO_MAP};
-use byte_form::rm01::{
-    HEAD_SIZE, RANGE_SIZE, count_in, end_at, form_size, has_mark, start_at, value_at,
-};
-use key::Value;
-use outcomes::PLACES;
+use answers::Refusal;
+use byte_form::rm01::{HEAD_SIZE, count_in, end_at, form_size, has_mark, start_at, value_at};
+use key::Entry;
+use outcomes::{PLACES, Stored};
+
+// The range at place `k`.
+fn range_at(bytes: &[u8], count: usize, k: usize) -> Entry
+    requires { (k < count) × Sized rm01 count bytes.now }
+    ensures { result ≡ rm01.read (drop (form_size rm01 k) bytes.now) }
+{
+    let at = form_size(k);
+    Entry {
+        start: start_at(bytes, at),
+        end: end_at(bytes, at),
+        value: value_at(bytes, at),
+    }
+}
+
+// Whether a range begins past another, or where that one ends with another value.
+fn may_follow(x: Entry, next: Entry) -> bool
+    ensures { Decides result (MayFollow x next) }
+{
+    x.end <= next.start && (x.end < next.start || x.value != next.value)
+}
 
 // Whether the range at `k` is not empty, and the next one may follow it.
 fn step(bytes: &[u8], count: usize, k: usize) -> bool
     requires { (k < count) × Sized rm01 count bytes.now }
     ensures { Decides result (Step half_open (told rm01 count bytes.now) k) }
 {
-    let at = form_size(k);
-    let start = start_at(bytes, at);
-    let end = end_at(bytes, at);
-    if start >= end {
-        return false;
-    }
-    if k + 1 >= count {
-        return true;
-    }
-    let after = at + RANGE_SIZE;
-    let next = start_at(bytes, after);
-    if next < end {
-        return false;
-    }
-    let value = value_at(bytes, at);
-    let other = value_at(bytes, after);
-    if next == end && value == other {
-        return false;
-    }
-    true
+    let x = range_at(bytes, count, k);
+    x.start < x.end && (k + 1 == count || may_follow(x, range_at(bytes, count, k + 1)))
 }
 
 // Whether all ranges are so.
@@ -48,91 +48,59 @@ fn tidy(bytes: &[u8], count: usize) -> bool
     requires { Sized rm01 count bytes.now }
     ensures { Decides result (Steps half_open (told rm01 count bytes.now)) }
 {
-    let mut k = 0;
-    while k < count {
-        if !step(bytes, count, k) {
-            return false;
-        }
-        k += 1;
-    }
-    true
+    (0..count).all(|k| step(bytes, count, k))
 }
 
-// Whether bytes are the form of a well-formed map.
-fn is_form(bytes: &[u8]) -> bool
-    ensures { result ≡ is_form rm01 bytes.now }
+// How many ranges the map has whose form the bytes are: none if they are the form of no well-formed map.
+fn form_count(bytes: &[u8]) -> Option<usize>
+    ensures { MatchOption result (is_form rm01 bytes.now ≡ false) (λ n. ReadsForm rm01 n bytes.now) }
 {
-    if bytes.len() < HEAD_SIZE {
-        return false;
-    }
-    if !has_mark(bytes) {
-        return false;
+    if bytes.len() < HEAD_SIZE || !has_mark(bytes) {
+        return None;
     }
     let n = count_in(bytes);
     if n > PLACES as u64 {
-        return false;
+        return None;
     }
     let count = n as usize;
-    if bytes.len() != form_size(count) {
-        return false;
+    if bytes.len() != form_size(count) || !tidy(bytes, count) {
+        return None;
     }
-    tidy(bytes, count)
+    Some(count)
 }
 
 // The ranges into the first places.
-fn fill(
-    starts: &mut [i64; PLACES],
-    ends: &mut [i64; PLACES],
-    values: &mut [Value; PLACES],
-    bytes: &[u8],
-    count: usize,
-)
+fn fill(m: &mut Stored, bytes: &[u8], count: usize)
     requires { Sized rm01 count bytes.now }
-    ensures { Filled rm01 count bytes.now starts.old ends.old values.old
-        starts.new ends.new values.new }
+    ensures { Filled rm01 count bytes.now m.old m.new }
 {
-    let mut i = 0;
-    while i < count {
-        let at = form_size(i);
-        starts[i] = start_at(bytes, at);
-        ends[i] = end_at(bytes, at);
-        values[i] = value_at(bytes, at);
-        i += 1;
+    for k in 0..count {
+        let x = range_at(bytes, count, k);
+        m.starts[k] = x.start;
+        m.ends[k] = x.end;
+        m.values[k] = x.value;
     }
 }
 
 // 0 into the others.
-fn clear_rest(
-    starts: &mut [i64; PLACES],
-    ends: &mut [i64; PLACES],
-    values: &mut [Value; PLACES],
-    count: usize,
-)
-    ensures { Cleared count starts.old ends.old values.old
-        starts.new ends.new values.new }
+fn clear_rest(m: &mut Stored, count: usize)
+    requires { count ≤ places }
+    ensures { Cleared count m.old m.new }
 {
-    splice::clear_keys(starts, count, PLACES);
-    splice::clear_keys(ends, count, PLACES);
-    splice::clear_values(values, count, PLACES);
+    m.starts[count..].fill(0);
+    m.ends[count..].fill(0);
+    m.values[count..].fill(0);
 }
 
 // The map whose form the bytes are.
-pub fn read(
-    count: &mut usize,
-    starts: &mut [i64; PLACES],
-    ends: &mut [i64; PLACES],
-    values: &mut [Value; PLACES],
-    bytes: &[u8],
-) -> u8
-    ensures { leaving result (stored count.new starts.new ends.new values.new)
-        ≡ read rm01 (stored count.old starts.old ends.old values.old) bytes.now }
+pub fn read(m: &mut Stored, bytes: &[u8]) -> Result<(), Refusal>
+    ensures { Leaves result m.new (read rm01 m.old bytes.now) }
 {
-    if !is_form(bytes) {
-        return NO_MAP;
-    }
-    let n = count_in(bytes) as usize;
-    fill(starts, ends, values, bytes, n);
-    clear_rest(starts, ends, values, n);
-    *count = n;
-    DONE
+    let Some(n) = form_count(bytes) else {
+        return Err(Refusal::NoMap);
+    };
+    fill(m, bytes, n);
+    clear_rest(m, n);
+    m.count = n;
+    Ok(())
 }

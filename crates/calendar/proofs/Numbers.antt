@@ -3,7 +3,7 @@ use Prim.Native.Nat.{ℕ, zero, suc, ◌+◌, ◌-◌, ◌≤◌, ◌<◌}
 use native.Mathlib.Omega.{arith}
 use native.Mathlib.Decide.{dec_lt}
 use mathlib.Core.Path.{◌≡◌, refl, ap, ap₂, subst, ◌∙◌}
-use mathlib.Core.Bool.{true, false}
+use mathlib.Core.Bool.{true}
 use lib.Dec.{leb}
 use borrow.Author.Tests.{leb-true, le-leb, lt-ltb, le-ltb}
 use Rattle.calendar.specs.declared.Date.{Date}
@@ -12,9 +12,9 @@ use Rattle.calendar.specs.Years.{Known}
 use Rattle.calendar.proofs.Every.{cases, both}
 use Rattle.calendar.proofs.Lengths.{month_there, month_long, year_of_months, years_before_is}
 
-pub day_number_of : (d : Date) {a b : ℕ} → a ≡ years_before d.year → b ≡ months_before d.year d.month → a + b + (d.day - 1) ≡ day_number d
+pub day_number_of : (d : Date) {a b n : ℕ} → a ≡ years_before d.year → b ≡ months_before d.year d.month → n ≡ d.day - 1 → a + b + n ≡ day_number d
 unfolding day_number
-day_number_of d e f = ap₂ (λ (i j : ℕ). i + j + (d.day - 1)) e f
+day_number_of d e f g = omega (arith, e, f, g)
 
 -- the three ways to the next date
 module _ (d : Date) where
@@ -37,14 +37,6 @@ module _ (d : Date) where
   pub date_yes : 1 ≤ d.day → d.day ≤ len → is_date d ≡ true
   unfolding is_date
   date_yes h i = rw (le-leb 1 d.day h, le-leb d.day len i)
-
-  pub date_day : 1 ≤ d.day → leb d.day len ≡ is_date d
-  unfolding is_date
-  date_day h = rw (le-leb 1 d.day h)
-
-  pub date_no : d.day ≡ 0 → false ≡ is_date d
-  unfolding is_date
-  date_no h = rw h
 
 -- what it means that a date is there
 pub record There (d : Date) : Type 0 where

@@ -6,7 +6,7 @@ ghost use Rattle.calendar.specs.Calendar.{leap, month_length, years_before, mont
 ghost use Rattle.calendar.specs.Years.{Known};
 
 // A date, which need not be there.
-#[derive(Clone, Copy)]
+#[derive(Clone, Copy, Debug, PartialEq, Eq)]
 pub struct Date {
     pub year: u16,
     pub month: u8,
@@ -14,54 +14,61 @@ pub struct Date {
 }
 
 // A day, counted from 1970-01-01. It is a type of its own, so that days are never mixed with keys, which count seconds.
-#[derive(Clone, Copy)]
+#[derive(Clone, Copy, Debug, PartialEq, Eq, PartialOrd, Ord)]
 pub struct DayNumber(pub u32);
+
+// The year whose first day is day 0.
+const FIRST_YEAR: u16 = 1970;
+
+// The months that the code names. A year ends with December.
+const FEBRUARY: u8 = 2;
+
+const MARCH: u8 = 3;
+
+const NOVEMBER: u8 = 11;
+
+const DECEMBER: u8 = 12;
 
 // The lengths of the months 1 to 12; February's in a year that is no leap year.
 const LENGTHS: [u8; 13] = [0, 31, 28, 31, 30, 31, 30, 31, 31, 30, 31, 30, 31];
 
+// How many days a week has.
+const WEEK: u32 = 7;
+
+#[tactic(auto, unfolding(crate::specs::Calendar::leap))]
 fn is_leap(year: u16) -> bool
     ensures { result ≡ leap year }
 {
-    if year % 4 != 0 {
-        return false;
-    }
-    if year % 100 != 0 {
-        return true;
-    }
-    year % 400 == 0
+    year % 4 == 0 && (year % 100 != 0 || year % 400 == 0)
 }
 
+#[tactic(auto, using(crate::proofs::Lengths::leap_february, crate::proofs::Lengths::other_february))]
 fn february(year: u16) -> u8
     ensures { result ≡ month_length year 2 }
 {
-    if is_leap(year) {
-        return 29;
-    }
-    28
+    if is_leap(year) { 29 } else { 28 }
 }
 
 // The length of a month, 0 for a month that is not there.
 fn month_length(year: u16, month: u8) -> u8
     ensures { (result ≡ month_length year month) × (result ≤ 31) }
 {
-    if 12 < month {
-        return 0;
+    match month {
+        FEBRUARY => february(year),
+        0..=DECEMBER => LENGTHS[month as usize],
+        _ => 0,
     }
-    if month == 2 {
-        return february(year);
-    }
-    LENGTHS[month as usize]
 }
 
-// The days of the months before a month: those before the last of them, and the last. The month falls with each call.
+// The days of the months before a month: those before the last of them, and the last. The month falls with each call: recursion, which the scope
+// wants where it fits first.
 fn months_before(year: u16, month: u8) -> u32
     ensures { (result ≡ months_before year month) × (result ≤ 31 * month) }
 {
     if month == 0 {
         return 0;
     }
-    months_before(year, month - 1) + month_length(year, month - 1) as u32
+    months_before(year, month - 1) + u32::from(month_length(year, month - 1))
 }
 
 // The days of the years before a year: one more for every fourth. Of the hundreds only 2000 comes before one of these years, and it is a leap year.
@@ -69,7 +76,7 @@ fn years_before(year: u16) -> u32
     requires { Known year }
     ensures { (result ≡ years_before year) × (result < 50000) }
 {
-    let n = (year - 1970) as u32;
+    let n = u32::from(year - FIRST_YEAR);
     365 * n + (n + 1) / 4
 }
 
@@ -79,46 +86,41 @@ pub fn day_number(date: Date) -> DayNumber
     ensures { (result.0 ≡ day_number date) × (result.0 < 65536) }
 {
     DayNumber(
-        years_before(date.year) + months_before(date.year, date.month) + (date.day - 1) as u32,
+        years_before(date.year) + months_before(date.year, date.month) + u32::from(date.day - 1),
     )
 }
 
 // Whether a date is there.
+#[tactic(auto, unfolding(crate::specs::Calendar::is_date))]
 pub fn is_date(date: Date) -> bool
     ensures { result ≡ is_date date }
 {
-    if date.day == 0 {
-        return false;
-    }
-    date.day <= month_length(date.year, date.month)
+    1 <= date.day && date.day <= month_length(date.year, date.month)
 }
 
 // The date after a date.
+#[tactic(auto, unfolding(crate::specs::Calendar::next_date))]
 pub fn next(date: Date) -> Date
     requires { (is_date date ≡ true) × (date.year < 65535) }
     ensures { result ≡ next_date date }
 {
-    let year = date.year;
-    let month = date.month;
-    let day = date.day;
-    if day < month_length(year, month) {
-        return Date {
-            year: year,
-            month: month,
-            day: day + 1,
-        };
-    }
-    if month < 12 {
-        return Date {
-            year: year,
-            month: month + 1,
+    if date.day < month_length(date.year, date.month) {
+        Date {
+            day: date.day + 1,
+            ..date
+        }
+    } else if date.month < DECEMBER {
+        Date {
+            month: date.month + 1,
             day: 1,
-        };
-    }
-    Date {
-        year: year + 1,
-        month: 1,
-        day: 1,
+            ..date
+        }
+    } else {
+        Date {
+            year: date.year + 1,
+            month: 1,
+            day: 1,
+        }
     }
 }
 
@@ -127,7 +129,7 @@ fn sunday_from(n: DayNumber) -> DayNumber
     requires { n.0 < 65536 }
     ensures { (result.0 ≡ sunday_from n.0) × (result.0 < 65544) }
 {
-    DayNumber(n.0 + (6 - (n.0 + 3) % 7))
+    DayNumber(n.0 + (6 - (n.0 + 3) % WEEK))
 }
 
 // The second Sunday of March.
@@ -136,11 +138,11 @@ pub fn march_sunday(year: u16) -> DayNumber
     ensures { result.0 ≡ march_sunday year }
 {
     let first = sunday_from(day_number(Date {
-        year: year,
-        month: 3,
+        year,
+        month: MARCH,
         day: 1,
     }));
-    DayNumber(first.0 + 7)
+    DayNumber(first.0 + WEEK)
 }
 
 // The first Sunday of November.
@@ -149,8 +151,8 @@ pub fn november_sunday(year: u16) -> DayNumber
     ensures { result.0 ≡ november_sunday year }
 {
     sunday_from(day_number(Date {
-        year: year,
-        month: 11,
+        year,
+        month: NOVEMBER,
         day: 1,
     }))
 }

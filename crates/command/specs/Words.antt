@@ -1,9 +1,7 @@
 -- docs/PROGRAM.md: which command the words of a command line are. The program's own name is not among them.
-use Rattle.std.specs.Prelude.{ℕ, min, Bool, true, false, not, ◌&&◌, cond, List, [], ◌∷◌, eqb, leb}
+use Rattle.std.specs.Prelude.{ℕ, ℤ, min, Bool, true, false, not, ◌&&◌, cond, List, [], ◌∷◌, eqb, leb, Option, Some, None}
 use Rattle.byte_form.specs.Form.{same_bytes}
 use Rattle.decimal.specs.Reading.{no_leading_zero, read_number, read_signed}
-use Rattle.decimal.specs.declared.Numeral.{Numeral}
-use Rattle.decimal.specs.declared.Signed.{Signed}
 use Rattle.filling.specs.Filling.{ascii, filled_in}
 use Rattle.command.specs.declared.Command.{Command}
 use Rattle.command.specs.declared.View.{View}
@@ -45,32 +43,32 @@ decimal [] = false
 decimal (b ∷ t) = cond (eqb b 45) (natural t && not (same_bytes t (48 ∷ []))) (natural (b ∷ t))
 
 -- a number that is at most `most`, which stands for every decimal number that is greater or negative
-abbrev pub at_most : ℕ → Bool → Numeral → Numeral
-at_most most any (Numeral.Is n) = Numeral.Is (min n most)
-at_most most true Numeral.Not = Numeral.Is most
-at_most most false Numeral.Not = Numeral.Not
+abbrev pub at_most : ℕ → Bool → Option ℕ → Option ℕ
+at_most most any (Some n) = Some (min n most)
+at_most most true None = Some most
+at_most most false None = None
 
 -- the number of a zone, a year, a month or a day of the month that a word is. No zone, month or day is `most` if that is 255, and no year is 65535
-unfoldable pub number_of : ℕ → List ℕ → Numeral
+unfoldable pub number_of : ℕ → List ℕ → Option ℕ
 number_of most w = at_most most (decimal w) (read_number w)
 
 -- what is asked for of a day, by the numbers of its zone and date
-abbrev pub dated : View → Numeral → Numeral → Numeral → Numeral → Command
-dated view (Numeral.Is z) (Numeral.Is y) (Numeral.Is m) (Numeral.Is d) = Command.Dated view z y m d
-dated view (Numeral.Is z) (Numeral.Is y) (Numeral.Is m) Numeral.Not = Command.Other
-dated view (Numeral.Is z) (Numeral.Is y) Numeral.Not d = Command.Other
-dated view (Numeral.Is z) Numeral.Not m d = Command.Other
-dated view Numeral.Not y m d = Command.Other
+abbrev pub dated : View → Option ℕ → Option ℕ → Option ℕ → Option ℕ → Command
+dated view (Some z) (Some y) (Some m) (Some d) = Command.Dated view z y m d
+dated view (Some z) (Some y) (Some m) None = Command.Other
+dated view (Some z) (Some y) None d = Command.Other
+dated view (Some z) None m d = Command.Other
+dated view None y m d = Command.Other
 
 -- ZONE YEAR MONTH DAY
 unfoldable pub dated_by : View → List ℕ → List ℕ → List ℕ → List ℕ → Command
 dated_by view z y m d = dated view (number_of 255 z) (number_of 65535 y) (number_of 255 m) (number_of 255 d)
 
 -- query, on a window
-abbrev pub query_in : Signed → Signed → Command
-query_in (Signed.Is s) (Signed.Is e) = Command.Query s e
-query_in (Signed.Is s) Signed.Not = Command.Other
-query_in Signed.Not e = Command.Other
+abbrev pub query_in : Option ℤ → Option ℤ → Command
+query_in (Some s) (Some e) = Command.Query s e
+query_in (Some s) None = Command.Other
+query_in None e = Command.Other
 
 -- THE COMMAND of some words
 abbrev pub command_of : List (List ℕ) → Command

@@ -11,6 +11,5 @@ pub const REFUSAL_ROOM: usize = 22;
 pub fn refusal_text(answer: u8, out: &mut [u8; REFUSAL_ROOM]) -> usize
     ensures { AddsWithin 22 (refusal_text answer) out.old 0 out.new result }
 {
-    let numbers = [answer as u64];
-    fill(out, 0, b"{\n", &numbers)
+    fill(out, 0, b"{\n", &[u64::from(answer)])
 }

@@ -18,11 +18,13 @@ use Rattle.key.specs.Range.{Kind, half_open, inclusive, kind_of}
 use Rattle.key.specs.declared.RangeKind.{RangeKind}
 use Rattle.key.proofs.Laws.{rank_inj}
 use Rattle.key.proofs.Lawful.{Lawful}
-use Rattle.outcomes.specs.Stored.{Stored, stored, ranges, AllFit, Spare}
-use Rattle.outcomes.specs.Outcomes.{Entry, entries, order_sound}
+use Rattle.outcomes.specs.Stored.{stored, ranges, AllFit, Spare}
+use Rattle.outcomes.specs.declared.Stored.{Stored}
+use Rattle.outcomes.specs.Outcomes.{entries, order_sound}
+use Rattle.key.specs.declared.Entry.{Entry}
 use Rattle.outcomes.proofs.Formed.{Formed, Shaped, length_ranges, get_or_ranges}
 use Rattle.outcomes.proofs.Bulk.{range, entries_ranges}
-use Rattle.compare.proofs.Walk.{place_of}
+use Rattle.compare.specs.InnerPlace.{place_of}
 
 -- ONE ORDER FOR BOTH KINDS
 

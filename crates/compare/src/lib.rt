@@ -2,77 +2,34 @@
 // the contract speaks of half-open ranges, and `one_order` of the proofs says that inclusive ranges compare no differently.
 #![tactic(auto)]
 
-ghost use Rattle.std.specs.Prelude.{◌≡◌, [], ◌∷◌, ◌≤◌, length};
+ghost use Rattle.std.specs.Prelude.{◌≡◌, [], ◌∷◌, ◌<◌, ◌≤◌, length, Ok};
 ghost use Rattle.span.specs.Operations.{span_order};
-ghost use Rattle.key.specs.Range.{half_open, span_of};
-ghost use Rattle.outcomes.specs.Stored.{stored};
+ghost use Rattle.key.specs.Range.{half_open};
 ghost use Rattle.outcomes.specs.Outcomes.{order_sound, compared_by};
+ghost use Rattle.compare.specs.InnerPlace.{place_of};
 
-use key::Value;
-use outcomes::Compared;
+use outcomes::Stored;
+use std::cmp::Ordering;
 
 // One place of each map: by the starts, then the ends, then the values.
-fn compare_place(
-    start: i64,
-    end: i64,
-    value: Value,
-    start2: i64,
-    end2: i64,
-    value2: Value,
-) -> Compared
-    ensures { result ≡ compared_by (span_order (span_of half_open start end value ∷ []) (span_of half_open start2 end2 value2 ∷ [])) }
+fn compare_place(m: &Stored, other: &Stored, k: usize) -> Ordering
+    requires { (k < length m.now.starts) × (k < length other.now.starts) }
+    ensures { Ok result ≡ compared_by (span_order (place_of half_open m.now k ∷ []) (place_of half_open other.now k ∷ [])) }
 {
-    if start < start2 {
-        return Compared::Less;
-    }
-    if start2 < start {
-        return Compared::Greater;
-    }
-    if end < end2 {
-        return Compared::Less;
-    }
-    if end2 < end {
-        return Compared::Greater;
-    }
-    if value < value2 {
-        return Compared::Less;
-    }
-    if value2 < value {
-        return Compared::Greater;
-    }
-    Compared::Equal
+    (m.starts[k], m.ends[k], m.values[k]).cmp(&(other.starts[k], other.ends[k], other.values[k]))
 }
 
 // The first place at which the maps differ decides. Where there is none, a prefix comes first.
-pub fn compare(
-    count: usize,
-    starts: &[i64],
-    ends: &[i64],
-    values: &[Value],
-    count2: usize,
-    starts2: &[i64],
-    ends2: &[i64],
-    values2: &[Value],
-) -> Compared
-    requires count_in_bounds { (count ≤ length starts.now) × (length ends.now ≡ length starts.now) × (length values.now ≡ length starts.now) }
-    requires count2_in_bounds { (count2 ≤ length starts2.now) × (length ends2.now ≡ length starts2.now) × (length values2.now ≡ length starts2.now) }
-    ensures { result ≡ compared_by (order_sound half_open (stored count starts.now ends.now values.now) (stored count2 starts2.now ends2.now values2.now)) }
+pub fn compare(m: &Stored, other: &Stored) -> Ordering
+    requires count_in_bounds { m.now.count ≤ length m.now.starts }
+    requires count2_in_bounds { other.now.count ≤ length other.now.starts }
+    ensures { Ok result ≡ compared_by (order_sound half_open m.now other.now) }
 {
-    let mut k = 0;
-    while k < count {
-        if count2 <= k {
-            return Compared::Greater;
+    for k in 0..m.count.min(other.count) {
+        let order = compare_place(m, other, k);
+        if order.is_ne() {
+            return order;
         }
-        let c = compare_place(
-            starts[k], ends[k], values[k], starts2[k], ends2[k], values2[k],
-        );
-        let Compared::Equal = c else {
-            return c;
-        };
-        k += 1;
     }
-    if k < count2 {
-        return Compared::Less;
-    }
-    Compared::Equal
+    m.count.cmp(&other.count)
 }

@@ -12,27 +12,26 @@ use lib.ListN.{get_or}
 use lib.IntN.{ℤ, pos, negsuc}
 use mir.Syntax.{w64}
 use mir.Val.{SFits}
-use Rattle.decimal.specs.declared.Numeral.{Numeral}
-use Rattle.decimal.specs.declared.Signed.TheVariants as Signed
 use Rattle.decimal.specs.Decimal.{digit, minus, decimal_text, signed_text}
 use Rattle.decimal.specs.Reading.{no_leading_zero, next_of, read_on, read_number, as_natural, as_negative, read_signed}
 use Rattle.decimal.proofs.Digits.{decimal_one, decimal_more, each_number}
+use Rattle.std.specs.Prelude.{Option, Some, None}
 
 -- ONE BYTE
 
-pub next_low : (n b : ℕ) → b < 48 → next_of (Numeral.Is n) b ≡ Numeral.Not
+pub next_low : (n b : ℕ) → b < 48 → next_of (Some n) b ≡ None
 unfolding next_of
 next_low n b h = rw (lt-leb 48 b h)
 
-pub next_high : (n b : ℕ) → 48 ≤ b → 57 < b → next_of (Numeral.Is n) b ≡ Numeral.Not
+pub next_high : (n b : ℕ) → 48 ≤ b → 57 < b → next_of (Some n) b ≡ None
 unfolding next_of
 next_high n b l h = rw (le-leb 48 b l, lt-leb b 57 h)
 
-pub next_large : (n b : ℕ) → 48 ≤ b → b ≤ 57 → 2 ^ 64 ≤ 10 * n + (b - 48) → next_of (Numeral.Is n) b ≡ Numeral.Not
+pub next_large : (n b : ℕ) → 48 ≤ b → b ≤ 57 → 2 ^ 64 ≤ 10 * n + (b - 48) → next_of (Some n) b ≡ None
 unfolding next_of
 next_large n b l h w = rw (le-leb 48 b l, le-leb b 57 h, le-ltb (10 * n + (b - 48)) (2 ^ 64) w)
 
-pub next_is : (n b : ℕ) → 48 ≤ b → b ≤ 57 → 10 * n + (b - 48) < 2 ^ 64 → next_of (Numeral.Is n) b ≡ Numeral.Is (10 * n + (b - 48))
+pub next_is : (n b : ℕ) → 48 ≤ b → b ≤ 57 → 10 * n + (b - 48) < 2 ^ 64 → next_of (Some n) b ≡ Some (10 * n + (b - 48))
 unfolding next_of
 next_is n b l h w = rw (le-leb 48 b l, le-leb b 57 h, lt-ltb (10 * n + (b - 48)) (2 ^ 64) w)
 
@@ -41,9 +40,9 @@ record Taken (n b : ℕ) : Type 0 where
   low : 48 ≤ b
   high : b ≤ 57
   fits : 10 * n + (b - 48) < 2 ^ 64
-  is : next_of (Numeral.Is n) b ≡ Numeral.Is (10 * n + (b - 48))
+  is : next_of (Some n) b ≡ Some (10 * n + (b - 48))
 
-taken_or_not : (n b : ℕ) → (next_of (Numeral.Is n) b ≡ Numeral.Not) ⊎ Taken n b
+taken_or_not : (n b : ℕ) → (next_of (Some n) b ≡ None) ⊎ Taken n b
 taken_or_not n b = elim (dec_lt b 48) [
   | yes p ↦ inl (next_low n b p)
   | no p ↦ elim (dec_lt 57 b) [
@@ -57,27 +56,27 @@ taken_or_not n b = elim (dec_lt b 48) [
 
 -- BYTE AFTER BYTE
 
-pub on_not : (t : List ℕ) → read_on Numeral.Not t ≡ Numeral.Not
+pub on_not : (t : List ℕ) → read_on None t ≡ None
 unfolding read_on next_of
 on_not [] = refl
 on_not (b ∷ t) = on_not t
 
-on_append : (a : Numeral) (s t : List ℕ) → read_on a (s ++ t) ≡ read_on (read_on a s) t
+on_append : (a : Option ℕ) (s t : List ℕ) → read_on a (s ++ t) ≡ read_on (read_on a s) t
 unfolding read_on
 on_append a [] t = refl
 on_append a (b ∷ s) t = on_append (next_of a b) s t
 
-pub on_one : (a : Numeral) (b : ℕ) (t : List ℕ) → read_on a (b ∷ t) ≡ read_on (next_of a b) t
+pub on_one : (a : Option ℕ) (b : ℕ) (t : List ℕ) → read_on a (b ∷ t) ≡ read_on (next_of a b) t
 unfolding read_on
 on_one a b t = refl
 
-pub on_none : (a : Numeral) → read_on a [] ≡ a
+pub on_none : (a : Option ℕ) → read_on a [] ≡ a
 unfolding read_on
 on_none a = refl
 
 -- the digits of a number say it
 abbrev DigitsSay : ℕ → Type 0
-DigitsSay n = n < 2 ^ 64 → read_on (Numeral.Is 0) (decimal_text n) ≡ Numeral.Is n
+DigitsSay n = n < 2 ^ 64 → read_on (Some 0) (decimal_text n) ≡ Some n
 
 digits_say : (n : ℕ) → n < 10 ^ 20 → DigitsSay n
 digits_say = each_number DigitsSay one more
@@ -85,19 +84,19 @@ digits_say = each_number DigitsSay one more
     one : (n : ℕ) → n < 10 → DigitsSay n
     one n h w =
         let e : 10 * 0 + (48 + n - 48) ≡ n = omega arith in
-        rw (decimal_one n h, on_one (Numeral.Is 0) (48 + n) [], next_is 0 (48 + n) (omega arith) (omega arith) (omega arith), e, on_none (Numeral.Is n))
+        rw (decimal_one n h, on_one (Some 0) (48 + n) [], next_is 0 (48 + n) (omega arith) (omega arith) (omega arith), e, on_none (Some n))
 
     more : (n : ℕ) → 10 ≤ n → n < 10 ^ 20 → DigitsSay (n / 10) → DigitsSay n
     more n h b ih w =
         let d : List ℕ = digit (n % 10) ∷ [] in
         let e : 10 * (n / 10) + (48 + n % 10 - 48) ≡ n = omega arith in
-        ap (read_on (Numeral.Is 0)) (decimal_more n h b)
-        ∙ on_append (Numeral.Is 0) (decimal_text (n / 10)) d
-        ∙ ap (λ (a : Numeral). read_on a d) (ih (omega arith))
-        ∙ on_one (Numeral.Is (n / 10)) (48 + n % 10) []
-        ∙ on_none (next_of (Numeral.Is (n / 10)) (48 + n % 10))
+        ap (read_on (Some 0)) (decimal_more n h b)
+        ∙ on_append (Some 0) (decimal_text (n / 10)) d
+        ∙ ap (λ (a : Option ℕ). read_on a d) (ih (omega arith))
+        ∙ on_one (Some (n / 10)) (48 + n % 10) []
+        ∙ on_none (next_of (Some (n / 10)) (48 + n % 10))
         ∙ next_is (n / 10) (48 + n % 10) (omega arith) (omega arith) (omega arith)
-        ∙ ap (λ (k : ℕ). Numeral.Is k) e
+        ∙ ap (λ (k : ℕ). Some k) e
 
 -- THE FIRST BYTE
 
@@ -141,14 +140,14 @@ plain_decimal n b = elim (dec_lt n 10) [
 
 -- WHAT WAS WRITTEN IS READ
 
-pub read_written : (n : ℕ) → n < 2 ^ 64 → read_number (decimal_text n) ≡ Numeral.Is n
+pub read_written : (n : ℕ) → n < 2 ^ 64 → read_number (decimal_text n) ≡ Some n
 unfolding read_number
 read_written n h = rw (plain_decimal n (omega arith)) (digits_say n (omega arith) h)
 
 -- no two numbers have the same text
 pub one_text : (m n : ℕ) → m < 2 ^ 64 → n < 2 ^ 64 → decimal_text m ≡ decimal_text n → m ≡ n
 one_text m n h k e =
-    let p : Numeral.Is m ≡ Numeral.Is n = sym (read_written m h) ∙ ap read_number e ∙ read_written n k in
+    let p : Some m ≡ Some n = sym (read_written m h) ∙ ap read_number e ∙ read_written n k in
     cc
 
 -- NOTHING ELSE IS READ
@@ -159,9 +158,9 @@ record Says (t : List ℕ) (n : ℕ) : Type 0 where
   pub is_text : t ≡ decimal_text n
 
 -- where nothing is read on
-never_on : (n : ℕ) (a : Numeral) (t : List ℕ) {X : Type 0} → a ≡ Numeral.Not → read_on a t ≡ Numeral.Is n → X
+never_on : (n : ℕ) (a : Option ℕ) (t : List ℕ) {X : Type 0} → a ≡ None → read_on a t ≡ Some n → X
 never_on n a t x e =
-    let z : Numeral.Not ≡ Numeral.Is n = sym (on_not t) ∙ ap (λ (c : Numeral). read_on c t) (sym x) ∙ e in
+    let z : None ≡ Some n = sym (on_not t) ∙ ap (λ (c : Option ℕ). read_on c t) (sym x) ∙ e in
     let o : ◌≡◌ {A = ℕ} 0 1 = cc in
     absurd (omega arith)
 
@@ -177,14 +176,14 @@ digit_behind m b p x =
     sym (decimal_more (10 * m + (b - 48)) (omega arith) (omega arith) ∙ rw (q, r))
 
 -- a number above 0 is written, and what is read on is n
-says_on : (t : List ℕ) (m n : ℕ) → 0 < m → m < 2 ^ 64 → read_on (Numeral.Is m) t ≡ Numeral.Is n → Says (decimal_text m ++ t) n
+says_on : (t : List ℕ) (m n : ℕ) → 0 < m → m < 2 ^ 64 → read_on (Some m) t ≡ Some n → Says (decimal_text m ++ t) n
 says_on [] m n p w e =
-    let z : Numeral.Is m ≡ Numeral.Is n = sym (on_none (Numeral.Is m)) ∙ e in
+    let z : Some m ≡ Some n = sym (on_none (Some m)) ∙ e in
     let k : m ≡ n = cc in
     record { below = omega arith; is_text = append-nil (decimal_text m) ∙ ap decimal_text k }
 says_on (b ∷ t) m n p w e =
-    let o : read_on (next_of (Numeral.Is m) b) t ≡ Numeral.Is n = sym (on_one (Numeral.Is m) b t) ∙ e in
-    ⊎_elim (λ x. never_on n (next_of (Numeral.Is m) b) t x o)
+    let o : read_on (next_of (Some m) b) t ≡ Some n = sym (on_one (Some m) b t) ∙ e in
+    ⊎_elim (λ x. never_on n (next_of (Some m) b) t x o)
     (λ x.
     let s = says_on t (10 * m + (b - 48)) n (omega arith) x.fits (rw x.is at o) in
     let d = ap (λ (u : List ℕ). u ++ t) (digit_behind m b p x) in
@@ -193,11 +192,11 @@ says_on (b ∷ t) m n p w e =
     (taken_or_not m b)
 
 -- the first byte is a digit
-first_taken : (b n : ℕ) (t : List ℕ) → read_on (Numeral.Is 0) (b ∷ t) ≡ Numeral.Is n → Taken 0 b × (read_on (Numeral.Is (b - 48)) t ≡ Numeral.Is n)
+first_taken : (b n : ℕ) (t : List ℕ) → read_on (Some 0) (b ∷ t) ≡ Some n → Taken 0 b × (read_on (Some (b - 48)) t ≡ Some n)
 first_taken b n t e =
-    let o : read_on (next_of (Numeral.Is 0) b) t ≡ Numeral.Is n = sym (on_one (Numeral.Is 0) b t) ∙ e in
+    let o : read_on (next_of (Some 0) b) t ≡ Some n = sym (on_one (Some 0) b t) ∙ e in
     let z : 10 * 0 + (b - 48) ≡ b - 48 = omega arith in
-    ⊎_elim (λ x. never_on n (next_of (Numeral.Is 0) b) t x o) (λ x. (x, rw z at (rw x.is at o))) (taken_or_not 0 b)
+    ⊎_elim (λ x. never_on n (next_of (Some 0) b) t x o) (λ x. (x, rw z at (rw x.is at o))) (taken_or_not 0 b)
 
 first_is : (b : ℕ) → Taken 0 b → decimal_text (b - 48) ≡ b ∷ []
 first_is b x =
@@ -207,10 +206,10 @@ first_is b x =
     decimal_one (b - 48) (omega arith) ∙ ap (λ (d : ℕ). d ∷ []) k
 
 -- nothing stands behind the first digit, or it is no 0
-says_first : (b n : ℕ) (t : List ℕ) → no_leading_zero (b ∷ t) ≡ true → read_on (Numeral.Is 0) (b ∷ t) ≡ Numeral.Is n → Says (b ∷ t) n
+says_first : (b n : ℕ) (t : List ℕ) → no_leading_zero (b ∷ t) ≡ true → read_on (Some 0) (b ∷ t) ≡ Some n → Says (b ∷ t) n
 says_first b n [] p e =
     let x = first_taken b n [] e in
-    let z : Numeral.Is (b - 48) ≡ Numeral.Is n = sym (on_none (Numeral.Is (b - 48))) ∙ x.1 in
+    let z : Some (b - 48) ≡ Some n = sym (on_none (Some (b - 48))) ∙ x.1 in
     let k : b - 48 ≡ n = cc in
     let h = x.0.high in
     record { below = omega arith; is_text = sym (first_is b x.0) ∙ ap decimal_text k }
@@ -226,31 +225,31 @@ says_first b n (c ∷ t) p e =
     above b l o = elim (dec_lt 48 b) [ yes q ↦ omega arith | no q ↦ absurd (o (omega arith)) ]
 
 -- a text that is no number
-never_read : {n : ℕ} {X : Type 0} → Numeral.Not ≡ Numeral.Is n → X
+never_read : {n : ℕ} {X : Type 0} → None ≡ Some n → X
 never_read {n} z = let o : ◌≡◌ {A = ℕ} 0 1 = cc in absurd (omega arith)
 
-never_signed : {z : ℤ} {X : Type 0} → Signed.Not ≡ Signed.Is z → X
+never_signed : {z : ℤ} {X : Type 0} → None ≡ Some z → X
 never_signed {z} e = let o : ◌≡◌ {A = ℕ} 0 1 = cc in absurd (omega arith)
 
-says : (t : List ℕ) (n : ℕ) → read_number t ≡ Numeral.Is n → Says t n
+says : (t : List ℕ) (n : ℕ) → read_number t ≡ Some n → Says t n
 unfolding read_number no_leading_zero
 says [] n e = never_read e
 says (b ∷ t) n e = go (no_leading_zero (b ∷ t)) refl e
   where
-    go : (p : Bool) → no_leading_zero (b ∷ t) ≡ p → cond p (read_on (Numeral.Is 0) (b ∷ t)) Numeral.Not ≡ Numeral.Is n → Says (b ∷ t) n
+    go : (p : Bool) → no_leading_zero (b ∷ t) ≡ p → cond p (read_on (Some 0) (b ∷ t)) None ≡ Some n → Says (b ∷ t) n
     go true p e = says_first b n t p e
     go false p e = never_read e
 
 -- what is read as a number is its text, and the number is below 2 ^ 64
-pub written_read : (t : List ℕ) (n : ℕ) → read_number t ≡ Numeral.Is n → t ≡ decimal_text n
+pub written_read : (t : List ℕ) (n : ℕ) → read_number t ≡ Some n → t ≡ decimal_text n
 written_read t n e = (says t n e).is_text
 
-pub read_below : (t : List ℕ) (n : ℕ) → read_number t ≡ Numeral.Is n → n < 2 ^ 64
+pub read_below : (t : List ℕ) (n : ℕ) → read_number t ≡ Some n → n < 2 ^ 64
 read_below t n e = (says t n e).below
 
 -- WITH A SIGN
 
-pub signed_none : read_signed [] ≡ Signed.Not
+pub signed_none : read_signed [] ≡ None
 unfolding read_signed
 signed_none = refl
 
@@ -267,7 +266,7 @@ signed_digit [] h = absurd (omega arith)
 signed_digit (b ∷ t) h = signed_other b t (λ e. omega arith)
 
 -- what was written is read
-pub read_written_signed : (z : ℤ) → SFits w64 z → read_signed (signed_text z) ≡ Signed.Is z
+pub read_written_signed : (z : ℤ) → SFits w64 z → read_signed (signed_text z) ≡ Some z
 unfolding signed_text as_natural as_negative
 read_written_signed (pos n) f =
     let h = f.sfits in
@@ -278,34 +277,34 @@ read_written_signed (negsuc n) f =
 
 pub one_text_signed : (y z : ℤ) → SFits w64 y → SFits w64 z → signed_text y ≡ signed_text z → y ≡ z
 one_text_signed y z f g e =
-    let p : Signed.Is y ≡ Signed.Is z = sym (read_written_signed y f) ∙ ap read_signed e ∙ read_written_signed z g in
+    let p : Some y ≡ Some z = sym (read_written_signed y f) ∙ ap read_signed e ∙ read_written_signed z g in
     cc
 
 -- what is behind an i64 that was read
-below_says : (n : ℕ) (y z : ℤ) → cond (ltb n (2 ^ 63)) (Signed.Is y) Signed.Not ≡ Signed.Is z → (y ≡ z) × (n < 2 ^ 63)
+below_says : (n : ℕ) (y z : ℤ) → cond (ltb n (2 ^ 63)) (Some y) None ≡ Some z → (y ≡ z) × (n < 2 ^ 63)
 below_says n y z e = go (ltb n (2 ^ 63)) refl e
   where
-    go : (t : Bool) → ltb n (2 ^ 63) ≡ t → cond t (Signed.Is y) Signed.Not ≡ Signed.Is z → (y ≡ z) × (n < 2 ^ 63)
+    go : (t : Bool) → ltb n (2 ^ 63) ≡ t → cond t (Some y) None ≡ Some z → (y ≡ z) × (n < 2 ^ 63)
     go true l e = let p : y ≡ z = cc in (p, ltb-true n (2 ^ 63) l)
     go false l e = never_signed e
 
-natural_says : (a : Numeral) (z : ℤ) → as_natural a ≡ Signed.Is z → (n : ℕ) × (a ≡ Numeral.Is n) × (pos n ≡ z) × (n < 2 ^ 63)
+natural_says : (a : Option ℕ) (z : ℤ) → as_natural a ≡ Some z → (n : ℕ) × (a ≡ Some n) × (pos n ≡ z) × (n < 2 ^ 63)
 unfolding as_natural
-natural_says Numeral.Not z e = never_signed e
-natural_says (Numeral.Is n) z e = let w = below_says n (pos n) z e in (n, refl, w.0, w.1)
+natural_says None z e = never_signed e
+natural_says (Some n) z e = let w = below_says n (pos n) z e in (n, refl, w.0, w.1)
 
-negative_says : (a : Numeral) (z : ℤ) → as_negative a ≡ Signed.Is z → (n : ℕ) × (a ≡ Numeral.Is (suc n)) × (negsuc n ≡ z) × (n < 2 ^ 63)
+negative_says : (a : Option ℕ) (z : ℤ) → as_negative a ≡ Some z → (n : ℕ) × (a ≡ Some (suc n)) × (negsuc n ≡ z) × (n < 2 ^ 63)
 unfolding as_negative
-negative_says Numeral.Not z e = never_signed e
-negative_says (Numeral.Is zero) z e = never_signed e
-negative_says (Numeral.Is (suc n)) z e = let w = below_says n (negsuc n) z e in (n, refl, w.0, w.1)
+negative_says None z e = never_signed e
+negative_says (Some zero) z e = never_signed e
+negative_says (Some (suc n)) z e = let w = below_says n (negsuc n) z e in (n, refl, w.0, w.1)
 
 -- a text that says the i64 z
 record SaysSigned (t : List ℕ) (z : ℤ) : Type 0 where
   pub fits : SFits w64 z
   pub is_text : t ≡ signed_text z
 
-says_signed : (t : List ℕ) (z : ℤ) → read_signed t ≡ Signed.Is z → SaysSigned t z
+says_signed : (t : List ℕ) (z : ℤ) → read_signed t ≡ Some z → SaysSigned t z
 unfolding signed_text
 says_signed [] z e = never_signed (sym signed_none ∙ e)
 says_signed (b ∷ t) z e = elim (ℕ_discrete b minus) [ yes p ↦ behind p | no p ↦ plainly p ]
@@ -325,8 +324,8 @@ says_signed (b ∷ t) z e = elim (ℕ_discrete b minus) [ yes p ↦ behind p | n
         rw w.2 at r
 
 -- what is read as an i64 is its text, and it is an i64
-pub written_read_signed : (t : List ℕ) (z : ℤ) → read_signed t ≡ Signed.Is z → t ≡ signed_text z
+pub written_read_signed : (t : List ℕ) (z : ℤ) → read_signed t ≡ Some z → t ≡ signed_text z
 written_read_signed t z e = (says_signed t z e).is_text
 
-pub read_fits : (t : List ℕ) (z : ℤ) → read_signed t ≡ Signed.Is z → SFits w64 z
+pub read_fits : (t : List ℕ) (z : ℤ) → read_signed t ≡ Some z → SFits w64 z
 read_fits t z e = (says_signed t z e).fits

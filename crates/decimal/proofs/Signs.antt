@@ -1,30 +1,27 @@
--- The text of a number with a sign, by its rank among the i64: 2 ^ 63 of them are negative.
-use Prim.Native.Nat.{ℕ, zero, suc, ◌-◌, ◌^◌, ◌≤◌, ◌<◌}
+-- The text of a number with a sign, by that sign and how far the number is from 0.
+use Prim.Native.Nat.{ℕ, zero, suc, ◌^◌, ◌≤◌, ◌<◌}
 use native.Mathlib.Omega.{arith}
-use mathlib.Core.Path.{◌≡◌, ap}
+use mathlib.Core.Bool.{true, false}
+use mathlib.Core.Path.{◌≡◌, sym, ap}
 use mathlib.Core.List.{◌∷◌}
 use lib.ListN.{length, get_or}
-use lib.IntN.{ℤ, pos, negsuc}
+use borrow.Author.Tests.{ltb-true}
+use lib.IntN.{ℤ, pos, negsuc, nat_abs}
+use lib.Signed.{lt_z}
 use mir.Syntax.{w64}
 use mir.Val.{SFits}
-use Rattle.key.specs.Rank.{above_least, rank}
-use Rattle.key.proofs.Laws.{rank_place}
 use Rattle.decimal.specs.Decimal.{longest_number, digit, minus, decimal_text, signed_text}
 use Rattle.decimal.proofs.Digits.{length_decimal, only_digits}
 
-pub signed_negative : (z : ℤ) {r : ℕ} → SFits w64 z → r ≡ rank z → r < 2 ^ 63 → signed_text z ≡ minus ∷ decimal_text (2 ^ 63 - r)
-unfolding signed_text above_least
-signed_negative (pos n) f e h = absurd (omega (arith, rank_place (pos n) f))
-signed_negative (negsuc n) {r} f e h =
-    let m : suc n ≡ 2 ^ 63 - r = omega (arith, rank_place (negsuc n) f, f.sfits) in
-    ap (λ (k : ℕ). minus ∷ decimal_text k) m
+pub signed_negative : (z : ℤ) {m : ℕ} → lt_z z (pos 0) ≡ true → m ≡ nat_abs z → signed_text z ≡ minus ∷ decimal_text m
+unfolding signed_text
+signed_negative (pos n) h e = absurd (let b = ltb-true n 0 h in omega arith)
+signed_negative (negsuc n) h e = ap (λ (k : ℕ). minus ∷ decimal_text k) (sym e)
 
-pub signed_natural : (z : ℤ) {r : ℕ} → SFits w64 z → r ≡ rank z → 2 ^ 63 ≤ r → signed_text z ≡ decimal_text (r - 2 ^ 63)
-unfolding signed_text above_least
-signed_natural (pos n) {r} f e h =
-    let m : n ≡ r - 2 ^ 63 = omega (arith, rank_place (pos n) f) in
-    ap decimal_text m
-signed_natural (negsuc n) f e h = absurd (omega (arith, rank_place (negsuc n) f))
+pub signed_natural : (z : ℤ) {m : ℕ} → lt_z z (pos 0) ≡ false → m ≡ nat_abs z → signed_text z ≡ decimal_text m
+unfolding signed_text
+signed_natural (pos n) h e = ap decimal_text (sym e)
+signed_natural (negsuc n) h e = absurd (let o : ◌≡◌ {A = ℕ} 0 1 = cc in omega arith)
 
 -- at most 19 digits
 pub length_magnitude : (n : ℕ) → n ≤ 2 ^ 63 → length (decimal_text n) ≤ 19

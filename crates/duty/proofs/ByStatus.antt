@@ -3,9 +3,10 @@ use Prim.Native.Nat.{ℕ, zero, suc, ◌+◌, ◌-◌, ◌≤◌, ◌<◌}
 use native.Mathlib.Omega.{arith}
 use native.Mathlib.Decide.{dec_lt}
 use mathlib.Core.Path.{◌≡◌, refl, sym, ap, ◌∙◌}
-use mathlib.Core.Bool.{Bool, true, false, cond}
+use mathlib.Core.Bool.{Bool, true, false, ◌&&◌, cond}
+use lib.Dec.{leb}
 use mathlib.Core.List.{List, [], ◌∷◌}
-use borrow.Author.Tests.{eq-eqb, ne_eqb}
+use borrow.Author.Tests.{eq-eqb, ne_eqb, le-leb, lt-leb}
 use Rattle.span.specs.Span.{Span}
 use Rattle.span.specs.Labels.{relabelled, equals, those}
 use Rattle.span.specs.Operations.{within, span_total}
@@ -57,6 +58,22 @@ pub status_from : (v : ℕ) → is_status v ≡ true → 0 < v
 unfolding tests
 status_from zero e = never e
 status_from (suc v) e = omega arith
+
+-- the test that the code makes
+past_status : (v : ℕ) → 5 ≤ v → is_status v ≡ (leb 1 v && leb v 4)
+unfolding is_status
+past_status v h =
+    let n = past_table v h in
+    rw (n.off, n.berth, n.drives, n.on, le-leb 1 v (omega arith), lt-leb v 4 (omega arith))
+
+pub status_of : (v : ℕ) → is_status v ≡ (leb 1 v && leb v 4)
+unfolding tests
+status_of zero = refl
+status_of (suc zero) = refl
+status_of (suc (suc zero)) = refl
+status_of (suc (suc (suc zero))) = refl
+status_of (suc (suc (suc (suc zero)))) = refl
+status_of (suc (suc (suc (suc (suc v))))) = past_status (suc (suc (suc (suc (suc v))))) (omega arith)
 
 -- A STATUS COUNTS TO ONE TOTAL
 pub one_of_four : (v n : ℕ) → is_status v ≡ true → cond (is_off_duty v) n 0 + cond (is_sleeper_berth v) n 0 + cond (is_driving v) n 0 + cond (is_on_duty v) n 0 ≡ n

@@ -5,12 +5,14 @@ use native.Mathlib.Decide.{dec_lt}
 use mathlib.Core.Path.{◌≡◌, refl, sym, ap, ◌∙◌}
 use mathlib.Core.Bool.{Bool, true, false, ◌||◌, not, cond}
 use mathlib.Core.List.{List, [], ◌∷◌}
+use Rattle.std.specs.Prelude.{Result, Ok, Err, Some, None, ok_or}
 use borrow.Author.Tests.{eq-eqb, eqb-true, eqb-false, not-false}
 use lib.Dec.{eqb}
-use lib.ListN.{length, get_or, set, take, drop, length-set, take-append-drop, drop_of_length-le, get_or-eq_default}
+use lib.ListN.{length, get_or, set, take, drop, length-set, take-append-drop, drop_of_length-le}
 use lib.Seq.{drop-cons, get_or-set_same, get_or-set_other, length-take-le, get_or-take, take-take}
 use lib.IntN.{ℤ, pos}
-use Rattle.answers.specs.Answers.{bad_status}
+use Rattle.answers.specs.declared.Refusal.{Refusal}
+use Rattle.answers.specs.declared.Refusal.TheVariants.{BadStatus}
 use Rattle.span.specs.Span.{Span, span, Ordered, Upto}
 use Rattle.span.specs.Labels.{equals}
 use Rattle.span.specs.Operations.{within}
@@ -21,7 +23,8 @@ use Rattle.key.specs.Rank.{rank}
 use Rattle.key.specs.Range.{half_open}
 use Rattle.key.specs.declared.Bounds.{Bounds}
 use Rattle.key.proofs.Lawful.{half_open_lawful}
-use Rattle.outcomes.specs.Stored.{Stored, spans, ranges, Sound}
+use Rattle.outcomes.specs.Stored.{spans, ranges, Sound}
+use Rattle.outcomes.specs.declared.Stored.{Stored}
 use Rattle.outcomes.proofs.Formed.{shape, good, length_spans, get_or_spans, length_ranges, get_or_ranges}
 use Rattle.outcomes.proofs.Storing.{all_same}
 use Rattle.store.specs.InnerCheck.{Steps}
@@ -29,11 +32,9 @@ use Rattle.store.specs.InnerSearch.{Reached, FirstPast}
 use Rattle.store.proofs.Checked.{formed_steps}
 use Rattle.store.proofs.Seeking.{reached_after, ends_ascend}
 use Rattle.duty.specs.Duty.{is_off_duty, is_sleeper_berth, is_driving, is_on_duty, is_status, seconds_of, unrecorded_of, strange, totals_of, tally_sound}
-use Rattle.duty.specs.declared.Tallied.{Tallied}
 use Rattle.duty.specs.InnerWalk.{u32_limit, table_length, sum_over, gathered_of, gathering, tally_sum, completing, tally_of, walk_finds}
-use Rattle.duty.specs.InnerCounting.{Statuses, part, Met, EachApart, Inside, no_seconds, credited, Joined, seconds_in, TableRoom, Added}
+use Rattle.duty.specs.InnerCounting.{Statuses, part, Met, EachApart, Inside, no_seconds, credited, seconds_in, TableRoom, Added}
 use Rattle.duty.specs.declared.Tally.{Tally}
-use Rattle.duty.specs.declared.Walked.{Walked}
 use Rattle.duty.proofs.Laws.{seconds_cons, seconds_alike, seconds_none, strange_cons, strange_alike, strange_none}
 use Rattle.duty.proofs.Laws.{within_ended, within_past, within_front}
 use Rattle.duty.proofs.ByStatus.{past_table, status_upto, sum_same, seconds_by_status}
@@ -86,167 +87,143 @@ credited_has t v d n h = go (eqb v d) refl
     go true e = let same : v ≡ d = eqb-true v d e in rw (← same) (get_or-set_same t v (get_or t v 0 + n) 0 h)
     go false e = let other = get_or-set_other t v d (get_or t v 0 + n) 0 (λ z. eqb-false v d e (sym z)) in omega arith
 
--- two as one: r has both up to the status k, and from there on the first alone
-pub record JoinedUpto (t u r : List ℕ) (k : ℕ) : Type 0 where
-  pub long : length r ≡ length t
-  pub done : (s : ℕ) → s < k → get_or r s 0 ≡ get_or t s 0 + get_or u s 0
-  pub left : (s : ℕ) → k ≤ s → get_or r s 0 ≡ get_or t s 0
-
-pub joined_next : {t u r : List ℕ} {k : ℕ} → k < length t → JoinedUpto t u r k → JoinedUpto t u (set r k (get_or r k 0 + get_or u k 0)) (k + 1)
-joined_next {t} {u} {r} {k} h a =
-    let n : ℕ = get_or r k 0 + get_or u k 0 in
-    record {
-      long = length-set r k n ∙ a.long;
-      done = λ s i. elim (dec_lt s k) [
-        | yes j ↦ get_or-set_other r k s n 0 (omega arith) ∙ a.done s j
-        | no j ↦ let same : s ≡ k = omega arith in rw same (omega (arith, get_or-set_same r k n 0 (omega (arith, a.long)), a.left k (omega arith)))
-      ];
-      left = λ s i. get_or-set_other r k s n 0 (omega arith) ∙ a.left s (omega arith);
-    }
-
-pub joined_end : {t u r : List ℕ} → length u ≡ table_length → JoinedUpto t u r table_length → Joined t u r
-joined_end {t} {u} {r} l a s = elim (dec_lt s table_length) [
-  | yes i ↦ a.done s i
-  | no i ↦ let none : get_or u s 0 ≡ 0 = get_or-eq_default u 0 (omega arith) in omega (arith, a.left s (omega arith))
-]
-
 -- PLACE BY PLACE
-abbrev pub at_place : List ℤ → List ℤ → List ℕ → ℕ → Span
-at_place ss es vs k = span (rank (get_or ss k (pos 0))) (rank (get_or es k (pos 0))) (get_or vs k 0)
+abbrev pub at_place : Stored → ℕ → Span
+at_place m k = span (rank (get_or m.starts k (pos 0))) (rank (get_or m.ends k (pos 0))) (get_or m.values k 0)
 
 -- a strange status is in the window
 abbrev strange_in : Bounds → List Span → Bool
 strange_in window xs = strange (rank window.start) (rank window.end) xs
 
 -- the places from a up to b meet the window
-module _ {ss es : List ℤ} {vs : List ℕ} {window : Bounds} {a b : ℕ} (m : Met ss es vs window a b) where
+module _ {m : Stored} {window : Bounds} {a b : ℕ} (meets : Met m window a b) where
   -- the seconds of one of them
   abbrev secs : ℕ → ℕ
-  secs k = min (rank (get_or es k (pos 0))) (rank window.end) - max (rank (get_or ss k (pos 0))) (rank window.start)
+  secs k = min (rank (get_or m.ends k (pos 0))) (rank window.end) - max (rank (get_or m.starts k (pos 0))) (rank window.start)
 
-  size : length (take b (spans half_open ss es vs)) ≡ b
-  size = length-take-le b (spans half_open ss es vs) (omega (arith, m.starts_hold, length_spans half_open ss es vs m.ends_as m.values_as))
+  size : length (take b (spans half_open m.starts m.ends m.values)) ≡ b
+  size = length-take-le b (spans half_open m.starts m.ends m.values) (omega (arith, meets.starts_hold, length_spans half_open m.starts m.ends m.values meets.ends_as meets.values_as))
 
-  cons : (k : ℕ) → k < b → part ss es vs k b ≡ at_place ss es vs k ∷ part ss es vs (k + 1) b
+  cons : (k : ℕ) → k < b → part m k b ≡ at_place m k ∷ part m (k + 1) b
   cons k i =
-      let l = spans half_open ss es vs in
+      let l = spans half_open m.starts m.ends m.values in
       let next : suc k ≡ k + 1 = omega arith in
       drop-cons (take b l) k (span 0 0 0) (omega (arith, size))
       ∙ ap (λ (n : ℕ). get_or (take b l) k (span 0 0 0) ∷ drop n (take b l)) next
       ∙ ap (λ (x : Span). x ∷ drop (k + 1) (take b l))
-      (get_or-take b l k (span 0 0 0) i ∙ get_or_spans half_open ss es vs k (span 0 0 0) m.ends_as m.values_as (omega (arith, m.starts_hold)))
+      (get_or-take b l k (span 0 0 0) i ∙ get_or_spans half_open m.starts m.ends m.values k (span 0 0 0) meets.ends_as meets.values_as (omega (arith, meets.starts_hold)))
 
-  nil : (k : ℕ) → b ≤ k → part ss es vs k b ≡ []
-  nil k i = drop_of_length-le (take b (spans half_open ss es vs)) {i = k} (omega (arith, size))
+  nil : (k : ℕ) → b ≤ k → part m k b ≡ []
+  nil k i = drop_of_length-le (take b (spans half_open m.starts m.ends m.values)) {i = k} (omega (arith, size))
 
   seconds_step : (s k : ℕ) → k < b
-      → seconds_in window s (part ss es vs k b) ≡ cond (equals s (get_or vs k 0)) (secs k) 0 + seconds_in window s (part ss es vs (k + 1) b)
-  seconds_step s k i = ap (seconds_in window s) (cons k i) ∙ seconds_cons (equals s) _ _ (at_place ss es vs k) (part ss es vs (k + 1) b)
+      → seconds_in window s (part m k b) ≡ cond (equals s (get_or m.values k 0)) (secs k) 0 + seconds_in window s (part m (k + 1) b)
+  seconds_step s k i = ap (seconds_in window s) (cons k i) ∙ seconds_cons (equals s) _ _ (at_place m k) (part m (k + 1) b)
 
-  pub seconds_end : (s k : ℕ) → b ≤ k → seconds_in window s (part ss es vs k b) ≡ 0
+  pub seconds_end : (s k : ℕ) → b ≤ k → seconds_in window s (part m k b) ≡ 0
   seconds_end s k i = ap (seconds_in window s) (nil k i) ∙ seconds_none (equals s) _ _
 
-  strange_step : (k : ℕ) → a ≤ k → k < b → strange_in window (part ss es vs k b) ≡ (not (is_status (get_or vs k 0)) || strange_in window (part ss es vs (k + 1) b))
-  strange_step k h i = ap (strange_in window) (cons k i) ∙ strange_cons _ _ (at_place ss es vs k) (part ss es vs (k + 1) b) (m.meet k h i)
+  strange_step : (k : ℕ) → a ≤ k → k < b → strange_in window (part m k b) ≡ (not (is_status (get_or m.values k 0)) || strange_in window (part m (k + 1) b))
+  strange_step k h i = ap (strange_in window) (cons k i) ∙ strange_cons _ _ (at_place m k) (part m (k + 1) b) (meets.meet k h i)
 
   -- fewer places
-  pub fewer : (p q : ℕ) → a ≤ p → p ≤ q → q ≤ b → Met ss es vs window p q
+  pub fewer : (p q : ℕ) → a ≤ p → p ≤ q → q ≤ b → Met m window p q
   fewer p q h i j = record {
     order = i;
-    starts_hold = omega (arith, m.starts_hold);
-    ends_as = m.ends_as;
-    values_as = m.values_as;
-    short = m.short;
-    meet = λ k x y. m.meet k (omega arith) (omega arith);
+    starts_hold = omega (arith, meets.starts_hold);
+    ends_as = meets.ends_as;
+    values_as = meets.values_as;
+    short = meets.short;
+    meet = λ k x y. meets.meet k (omega arith) (omega arith);
   }
 
   -- one that ends by the start of the next, which is there too, where none begins before the window: its seconds are its length, which a u32 holds
-  pub whole_secs : EachApart ss es a b → Inside ss window a b → (k : ℕ) → a ≤ k → k + 1 < b
-      → rank (get_or es k (pos 0)) - rank (get_or ss k (pos 0)) ≡ secs k
-  whole_secs apart inside k h i = omega (arith, m.meet (k + 1) (omega arith) i, apart k h i, inside k h (omega arith))
+  pub whole_secs : EachApart m a b → Inside m window a b → (k : ℕ) → a ≤ k → k + 1 < b
+      → rank (get_or m.ends k (pos 0)) - rank (get_or m.starts k (pos 0)) ≡ secs k
+  whole_secs apart inside k h i = omega (arith, meets.meet (k + 1) (omega arith) i, apart k h i, inside k h (omega arith))
 
-  pub whole_fits : EachApart ss es a b → Inside ss window a b → (k : ℕ) → a ≤ k → k + 1 < b
-      → (rank (get_or ss k (pos 0)) ≤ rank (get_or es k (pos 0))) × (rank (get_or es k (pos 0)) - rank (get_or ss k (pos 0)) < u32_limit)
+  pub whole_fits : EachApart m a b → Inside m window a b → (k : ℕ) → a ≤ k → k + 1 < b
+      → (rank (get_or m.starts k (pos 0)) ≤ rank (get_or m.ends k (pos 0))) × (rank (get_or m.ends k (pos 0)) - rank (get_or m.starts k (pos 0)) < u32_limit)
   whole_fits apart inside k h i =
-      let e = m.meet k h (omega arith) in
-      (omega arith, omega (arith, m.meet (k + 1) (omega arith) i, apart k h i, inside k h (omega arith), m.short))
+      let e = meets.meet k h (omega arith) in
+      (omega arith, omega (arith, meets.meet (k + 1) (omega arith) i, apart k h i, inside k h (omega arith), meets.short))
 
   -- all but the first begin in the window
-  pub second_inside : EachApart ss es a b → Inside ss window (a + 1) b
+  pub second_inside : EachApart m a b → Inside m window (a + 1) b
   second_inside apart zero h i = absurd (omega arith)
   second_inside apart (suc k) h i =
       let e : suc k ≡ k + 1 = omega arith in
-      rw e (omega (arith, m.meet k (omega arith) (omega arith), apart k (omega arith) (omega arith)))
+      rw e (omega (arith, meets.meet k (omega arith) (omega arith), apart k (omega arith) (omega arith)))
 
   -- STATUSES: no strange one is there exactly where all are statuses
-  calm_from : (n k : ℕ) → k + n ≡ b → a ≤ k → Statuses vs a b → strange_in window (part ss es vs k b) ≡ false
+  calm_from : (n k : ℕ) → k + n ≡ b → a ≤ k → Statuses m.values a b → strange_in window (part m k b) ≡ false
   calm_from zero k e h s = ap (strange_in window) (nil k (omega arith)) ∙ strange_none _ _
   calm_from (suc n) k e h s =
       let rest = calm_from n (k + 1) (omega arith) (omega arith) s in
       strange_step k h (omega arith) ∙ rw (s k (omega arith) h) rest
 
-  pub calm : Statuses vs a b → strange_in window (part ss es vs a b) ≡ false
-  calm s = calm_from (b - a) a (omega (arith, m.order)) (omega arith) s
+  pub calm : Statuses m.values a b → strange_in window (part m a b) ≡ false
+  calm s = calm_from (b - a) a (omega (arith, meets.order)) (omega arith) s
 
-  calm_status : (n k : ℕ) → k + n ≡ b → a ≤ k → strange_in window (part ss es vs k b) ≡ false → Statuses vs k b
+  calm_status : (n k : ℕ) → k + n ≡ b → a ≤ k → strange_in window (part m k b) ≡ false → Statuses m.values k b
   calm_status zero k e h s = λ j i g. absurd (omega arith)
   calm_status (suc n) k e h s =
-      let both = neither (not (is_status (get_or vs k 0))) (strange_in window (part ss es vs (k + 1) b)) (sym (strange_step k h (omega arith)) ∙ s) in
+      let both = neither (not (is_status (get_or m.values k 0))) (strange_in window (part m (k + 1) b)) (sym (strange_step k h (omega arith)) ∙ s) in
       let rest = calm_status n (k + 1) (omega arith) (omega arith) both.1 in
       λ j i g. elim (dec_lt k j) [
         | yes p ↦ rest j i (omega arith)
         | no p ↦ let same : j ≡ k = omega arith in rw same (not-false _ both.0)
       ]
 
-  pub strange_there : (Statuses vs a b → ⊥) → strange_in window (part ss es vs a b) ≡ true
-  strange_there f = go (strange_in window (part ss es vs a b)) refl
+  pub strange_there : (Statuses m.values a b → ⊥) → strange_in window (part m a b) ≡ true
+  strange_there f = go (strange_in window (part m a b)) refl
     where
-      go : (t : Bool) → strange_in window (part ss es vs a b) ≡ t → t ≡ true
+      go : (t : Bool) → strange_in window (part m a b) ≡ t → t ≡ true
       go true e = refl
-      go false e = absurd (f (calm_status (b - a) a (omega (arith, m.order)) (omega arith) e))
+      go false e = absurd (f (calm_status (b - a) a (omega (arith, meets.order)) (omega arith) e))
 
 -- the first of them, and the others
-pub seconds_first : {ss es : List ℤ} {vs : List ℕ} {window : Bounds} {a b : ℕ} (m : Met ss es vs window a b) (s : ℕ) → a < b
-    → seconds_in window s (part ss es vs a (a + 1)) + seconds_in window s (part ss es vs (a + 1) b)
-    ≡ seconds_in window s (part ss es vs a b)
-seconds_first {a = a} m s h =
-    let n = fewer m a (a + 1) (omega arith) (omega arith) (omega arith) in
-    omega (arith, seconds_step m s a h, seconds_step n s a (omega arith), seconds_end n s (a + 1) (omega arith))
+pub seconds_first : {m : Stored} {window : Bounds} {a b : ℕ} (meets : Met m window a b) (s : ℕ) → a < b
+    → seconds_in window s (part m a (a + 1)) + seconds_in window s (part m (a + 1) b)
+    ≡ seconds_in window s (part m a b)
+seconds_first {a = a} meets s h =
+    let n = fewer meets a (a + 1) (omega arith) (omega arith) (omega arith) in
+    omega (arith, seconds_step meets s a h, seconds_step n s a (omega arith), seconds_end n s (a + 1) (omega arith))
 
 -- WHAT IS COUNTED of the places from a up to b in the tables t and u, up to place k: with what is left of them it is w, which a u32 holds
-pub record Going (ss es : List ℤ) (vs : List ℕ) (window : Bounds) (a b : ℕ) (w : ℕ → ℕ) (t u : List ℕ) (k : ℕ) : Type 0 where
+pub record Going (m : Stored) (window : Bounds) (a b : ℕ) (w : ℕ → ℕ) (t u : List ℕ) (k : ℕ) : Type 0 where
   pub past : a ≤ k
   pub within : k ≤ b
   pub long : length t ≡ table_length
-  pub sums : (s : ℕ) → get_or t s 0 + get_or u s 0 + seconds_in window s (part ss es vs k b) ≡ w s
+  pub sums : (s : ℕ) → get_or t s 0 + get_or u s 0 + seconds_in window s (part m k b) ≡ w s
 
-pub going_turned : {ss es : List ℤ} {vs : List ℕ} {window : Bounds} {a b : ℕ} {w : ℕ → ℕ} {t u : List ℕ} {k : ℕ} → length u ≡ table_length
-    → Going ss es vs window a b w t u k → Going ss es vs window a b w u t k
+pub going_turned : {m : Stored} {window : Bounds} {a b : ℕ} {w : ℕ → ℕ} {t u : List ℕ} {k : ℕ} → length u ≡ table_length
+    → Going m window a b w t u k → Going m window a b w u t k
 going_turned l g = record { past = g.past; within = g.within; long = l; sums = λ d. omega (arith, g.sums d) }
 
-module _ {ss es : List ℤ} {vs : List ℕ} {window : Bounds} {a b : ℕ} (m : Met ss es vs window a b) (s : Statuses vs a b)
-    {w : ℕ → ℕ} (room : (d : ℕ) → w d < u32_limit) {t u : List ℕ} {k : ℕ} (g : Going ss es vs window a b w t u k) where
+module _ {m : Stored} {window : Bounds} {a b : ℕ} (meets : Met m window a b) (s : Statuses m.values a b)
+    {w : ℕ → ℕ} (room : (d : ℕ) → w d < u32_limit) {t u : List ℕ} {k : ℕ} (g : Going m window a b w t u k) where
   pub going_end : b ≤ k → (d : ℕ) → get_or t d 0 + get_or u d 0 ≡ w d
-  going_end h d = omega (arith, g.sums d, seconds_end m d k h)
+  going_end h d = omega (arith, g.sums d, seconds_end meets d k h)
 
   module _ (i : k < b) where
-    pub going_status : get_or vs k 0 < table_length
-    going_status = omega (arith, status_upto (get_or vs k 0) (s k i g.past))
+    pub going_status : get_or m.values k 0 < table_length
+    going_status = omega (arith, status_upto (get_or m.values k 0) (s k i g.past))
 
     -- n is what the code adds, and t' the table that it leaves
-    pub going_room : {n : ℕ} → n ≡ secs m k → get_or t (get_or vs k 0) 0 + n < u32_limit
+    pub going_room : {n : ℕ} → n ≡ secs meets k → get_or t (get_or m.values k 0) 0 + n < u32_limit
     going_room e =
-        let own = rw (eq-eqb (get_or vs k 0) (get_or vs k 0) refl) at (seconds_step m (get_or vs k 0) k i) in
-        omega (arith, e, own, g.sums (get_or vs k 0), room (get_or vs k 0))
+        let own = rw (eq-eqb (get_or m.values k 0) (get_or m.values k 0) refl) at (seconds_step meets (get_or m.values k 0) k i) in
+        omega (arith, e, own, g.sums (get_or m.values k 0), room (get_or m.values k 0))
 
-    pub going_on : {t' : List ℕ} {n : ℕ} → n ≡ secs m k → t' ≡ credited t (get_or vs k 0) n → Going ss es vs window a b w t' u (k + 1)
+    pub going_on : {t' : List ℕ} {n : ℕ} → n ≡ secs meets k → t' ≡ credited t (get_or m.values k 0) n → Going m window a b w t' u (k + 1)
     going_on {t'} {n} e q =
         rw q
         (record {
           past = omega (arith, g.past);
           within = omega arith;
-          long = length-set t (get_or vs k 0) (get_or t (get_or vs k 0) 0 + n) ∙ g.long;
-          sums = λ d. omega (arith, credited_has t (get_or vs k 0) d n (omega (arith, going_status, g.long)), rw (sym e) at (seconds_step m d k i), g.sums d);
+          long = length-set t (get_or m.values k 0) (get_or t (get_or m.values k 0) 0 + n) ∙ g.long;
+          sums = λ d. omega (arith, credited_has t (get_or m.values k 0) d n (omega (arith, going_status, g.long)), rw (sym e) at (seconds_step meets d k i), g.sums d);
         })
 
 -- THE WINDOW of a sound map: the places from the first that ends past lo up to the first that begins from hi on
@@ -267,7 +244,7 @@ module _ {m : Stored} (sound : Sound half_open m) {from to : ℕ} {start end : �
   steps : Steps half_open m
   steps = formed_steps half_open (shape sound) (good sound)
 
-  pub met : Met m.starts m.ends m.values window from to
+  pub met : Met m window from to
   met = record {
     order = next.from;
     starts_hold = omega (arith, next.within, (good sound).held);
@@ -279,11 +256,11 @@ module _ {m : Stored} (sound : Sound half_open m) {from to : ℕ} {start end : �
         omega (arith, e, next.before k i h, (steps k (omega (arith, next.within))).full);
   }
 
-  pub apart : EachApart m.starts m.ends from to
+  pub apart : EachApart m from to
   apart k h i = (steps k (omega (arith, next.within))).past (omega (arith, next.within))
 
   abbrev met_part : List Span
-  met_part = part m.starts m.ends m.values from to
+  met_part = part m from to
 
   long : length xs ≡ m.count
   long = length_ranges half_open (length m.starts) m (shape sound) (good sound).held
@@ -331,19 +308,19 @@ module _ {m : Stored} (sound : Sound half_open m) {from to : ℕ} {start end : �
       (λ s. omega (arith, h s, empty_has s, seconds_alike (equals s) lo hi xs met_part alike))
       ∙ seconds_by_status p table_length bound lo hi xs
 
-  pub table_is : (t : List ℕ) → Statuses m.values from to → Added window met_part no_seconds t → Walked.Counted (gathering t) ≡ walk_finds lo hi xs
+  pub table_is : (t : List ℕ) → Statuses m.values from to → Added window met_part no_seconds t → Some (gathering t) ≡ walk_finds lo hi xs
   unfolding walk_finds tally_of gathering
   table_is t s h =
       let e : strange lo hi xs ≡ false = strange_alike lo hi xs met_part alike ∙ calm met s in
       rw e
-      (ap Walked.Counted
+      (ap Some
       (same_tally
       (table_of_test t is_off_duty (λ v i. (past_table v i).off) h)
       (table_of_test t is_sleeper_berth (λ v i. (past_table v i).berth) h)
       (table_of_test t is_driving (λ v i. (past_table v i).drives) h)
       (table_of_test t is_on_duty (λ v i. (past_table v i).on) h)))
 
-  pub strange_is : (Statuses m.values from to → ⊥) → Walked.Strange ≡ walk_finds lo hi xs
+  pub strange_is : (Statuses m.values from to → ⊥) → None ≡ walk_finds lo hi xs
   unfolding walk_finds
   strange_is f = let e : strange lo hi xs ≡ true = strange_alike lo hi xs met_part alike ∙ strange_there met f in rw e
 
@@ -352,13 +329,16 @@ module _ (m : Stored) (s e : ℤ) where
   abbrev all : List Span
   all = ranges half_open m
 
-  pub found_strange : Walked.Strange ≡ walk_finds (rank s) (rank e) all → Tallied.Refused bad_status ≡ tally_sound m s e
+  abbrev found : Result Tally Refusal
+  found = ok_or (walk_finds (rank s) (rank e) all) BadStatus
+
+  pub found_strange : {why : Refusal} → Err why ≡ found → Err why ≡ tally_sound m s e
   unfolding walk_finds tally_sound
-  found_strange w = go (strange (rank s) (rank e) all) w
+  found_strange {why} w = go (strange (rank s) (rank e) all) w
     where
-      go : (t : Bool) → Walked.Strange ≡ cond t Walked.Strange (Walked.Counted (tally_of (rank s) (rank e) all))
-          → Tallied.Refused bad_status ≡ cond t (Tallied.Refused bad_status) (Tallied.Seconds (totals_of (rank s) (rank e) all))
-      go true w = refl
+      go : (t : Bool) → Err why ≡ ok_or (cond t None (Some (tally_of (rank s) (rank e) all))) BadStatus
+          → Err why ≡ cond t (Err BadStatus) (Ok (totals_of (rank s) (rank e) all))
+      go true w = cc
       go false w = cc
 
   -- no strange status is there, and these are the seconds
@@ -366,11 +346,11 @@ module _ (m : Stored) (s e : ℤ) where
     pub calm : strange (rank s) (rank e) all ≡ false
     pub tally_is : t ≡ tally_of (rank s) (rank e) all
 
-  pub found_counted : {t : Tally} → Walked.Counted t ≡ walk_finds (rank s) (rank e) all → Found t
+  pub found_counted : {t : Tally} → Ok t ≡ found → Found t
   unfolding walk_finds
   found_counted {t} w = go (strange (rank s) (rank e) all) refl w
     where
-      go : (b : Bool) → strange (rank s) (rank e) all ≡ b → Walked.Counted t ≡ cond b Walked.Strange (Walked.Counted (tally_of (rank s) (rank e) all)) → Found t
+      go : (b : Bool) → strange (rank s) (rank e) all ≡ b → Ok t ≡ ok_or (cond b None (Some (tally_of (rank s) (rank e) all))) BadStatus → Found t
       go true c w = let z : ◌≡◌ {A = ℕ} 0 1 = cc in absurd (omega arith)
       go false c w = record { calm = c; tally_is = cc }
 
@@ -379,7 +359,7 @@ module _ (m : Stored) (s e : ℤ) where
     unfolding tally_of
     counted_room = rw f.tally_is (omega (arith, duties_sum (rank s) (rank e) all real (good sound).tidy.ordered f.calm))
 
-    pub counted_is : Tallied.Seconds (completing t (rank e - rank s)) ≡ tally_sound m s e
+    pub counted_is : Ok (completing t (rank e - rank s)) ≡ tally_sound m s e
     unfolding tally_sound completing totals_of tally_of
     counted_is =
         let left : rank e - rank s - tally_sum (tally_of (rank s) (rank e) all) ≡ unrecorded_of (rank s) (rank e) all =

@@ -1,12 +1,13 @@
 -- What the functions of the walk say to each other: which places meet the window, and what a table of seconds by status has of them.
 -- No promise of an exported function rests on it.
-use Rattle.std.specs.Prelude.{ℕ, ◌+◌, ◌-◌, ◌≤◌, ◌<◌, min, max, ◌≡◌, true, List, ℤ, pos, length, get_or, set, take, drop, replicate}
+use Rattle.std.specs.Prelude.{ℕ, ◌+◌, ◌-◌, ◌≤◌, ◌<◌, min, max, ◌≡◌, true, List, pos, length, get_or, set, take, drop, replicate}
 use Rattle.span.specs.Span.{Span}
 use Rattle.span.specs.Labels.{equals}
 use Rattle.key.specs.Rank.{rank}
 use Rattle.key.specs.Range.{half_open}
 use Rattle.key.specs.declared.Bounds.{Bounds}
 use Rattle.outcomes.specs.Stored.{spans}
+use Rattle.outcomes.specs.declared.Stored.{Stored}
 use Rattle.duty.specs.Duty.{is_status, seconds_of}
 use Rattle.duty.specs.InnerWalk.{u32_limit, table_length}
 
@@ -14,31 +15,26 @@ use Rattle.duty.specs.InnerWalk.{u32_limit, table_length}
 abbrev pub Statuses : List ℕ → ℕ → ℕ → Type 0
 Statuses vs a b = (k : ℕ) → k < b → a ≤ k → is_status (get_or vs k 0) ≡ true
 
--- 0 if a value is a status
-pub record Amiss (v r : ℕ) : Type 0 where
-  pub status : r ≡ 0 → is_status v ≡ true
-  pub none : is_status v ≡ true → r ≡ 0
-
 -- the ranges at the places from a up to b
-abbrev pub part : List ℤ → List ℤ → List ℕ → ℕ → ℕ → List Span
-part ss es vs a b = drop a (take b (spans half_open ss es vs))
+abbrev pub part : Stored → ℕ → ℕ → List Span
+part m a b = drop a (take b (spans half_open m.starts m.ends m.values))
 
 -- they meet the window
-pub record Met (ss es : List ℤ) (vs : List ℕ) (window : Bounds) (a b : ℕ) : Type 0 where
+pub record Met (m : Stored) (window : Bounds) (a b : ℕ) : Type 0 where
   pub order : a ≤ b
-  pub starts_hold : b ≤ length ss
-  pub ends_as : length es ≡ length ss
-  pub values_as : length vs ≡ length ss
+  pub starts_hold : b ≤ length m.starts
+  pub ends_as : length m.ends ≡ length m.starts
+  pub values_as : length m.values ≡ length m.starts
   pub short : rank window.end - rank window.start < u32_limit
-  pub meet : (k : ℕ) → a ≤ k → k < b → max (rank (get_or ss k (pos 0))) (rank window.start) < min (rank (get_or es k (pos 0))) (rank window.end)
+  pub meet : (k : ℕ) → a ≤ k → k < b → max (rank (get_or m.starts k (pos 0))) (rank window.start) < min (rank (get_or m.ends k (pos 0))) (rank window.end)
 
 -- each ends by the start of the next
-abbrev pub EachApart : List ℤ → List ℤ → ℕ → ℕ → Type 0
-EachApart ss es a b = (k : ℕ) → a ≤ k → k + 1 < b → rank (get_or es k (pos 0)) ≤ rank (get_or ss (k + 1) (pos 0))
+abbrev pub EachApart : Stored → ℕ → ℕ → Type 0
+EachApart m a b = (k : ℕ) → a ≤ k → k + 1 < b → rank (get_or m.ends k (pos 0)) ≤ rank (get_or m.starts (k + 1) (pos 0))
 
 -- none begins before the window
-abbrev pub Inside : List ℤ → Bounds → ℕ → ℕ → Type 0
-Inside ss window a b = (k : ℕ) → a ≤ k → k < b → rank window.start ≤ rank (get_or ss k (pos 0))
+abbrev pub Inside : Stored → Bounds → ℕ → ℕ → Type 0
+Inside m window a b = (k : ℕ) → a ≤ k → k < b → rank window.start ≤ rank (get_or m.starts k (pos 0))
 
 -- TABLES: one of no seconds
 abbrev pub no_seconds : List ℕ

@@ -5,19 +5,20 @@ ghost use Rattle.std.specs.Prelude.{◌≡◌, ◌+◌, ◌-◌, ◌≤◌, ◌<
 ghost use Rattle.key.specs.InnerDecides.{Decides};
 ghost use Rattle.key.specs.Rank.{rank};
 ghost use Rattle.key.specs.Range.{half_open};
-ghost use Rattle.outcomes.specs.Stored.{Sound, stored, ranges};
+ghost use Rattle.outcomes.specs.Stored.{Sound, ranges};
 ghost use Rattle.store.specs.InnerSearch.{Reached};
-ghost use Rattle.duty.specs.Duty.{tally_sound};
+ghost use Rattle.duty.specs.Duty.{is_status, tally_sound};
 ghost use Rattle.duty.specs.InnerWalk.{u32_limit, table_length, gathering, tally_sum, completing, walk_finds};
-ghost use Rattle.duty.specs.InnerCounting.{Statuses, Amiss, Met, EachApart, Inside, part};
+ghost use Rattle.duty.specs.InnerCounting.{Statuses, Met, EachApart, Inside, part};
 ghost use Rattle.duty.specs.InnerCounting.{no_seconds, credited, Both, Joined, TableRoom, Added};
 
-use answers::BAD_STATUS;
+use answers::Refusal;
 use key::{Bounds, RangeKind, Value};
+use outcomes::Stored;
 use store::search::{first_past, reaching};
 
 // The seconds of each duty, and those that are unrecorded.
-#[derive(Clone, Copy)]
+#[derive(Clone, Copy, Debug, PartialEq, Eq)]
 pub struct Totals {
     pub off_duty: u32,
     pub sleeper_berth: u32,
@@ -26,29 +27,25 @@ pub struct Totals {
     pub unrecorded: u32,
 }
 
-#[derive(Clone, Copy)]
-pub enum Tallied {
-    Seconds(Totals),
-    Refused(u8),
+// The statuses, by the values that stand for them. What a map stores stays a number: the C interface lends bytes, of which not all are statuses.
+#[derive(Clone, Copy, Debug, PartialEq, Eq)]
+enum Status {
+    OffDuty = 1,
+    SleeperBerth = 2,
+    Driving = 3,
+    OnDuty = 4,
 }
 
 // How long a table of seconds by status is. The last status is 4, and 0 is none.
 const TABLE_LENGTH: usize = 5;
 
 // The seconds of the four duties.
-#[derive(Clone, Copy)]
+#[derive(Clone, Copy, Debug, PartialEq, Eq)]
 struct Tally {
     off_duty: u32,
     sleeper_berth: u32,
     driving: u32,
     on_duty: u32,
-}
-
-// What a walk over the places finds.
-#[derive(Clone, Copy)]
-enum Walked {
-    Counted(Tally),
-    Strange,
 }
 
 // The seconds from one key up to another. They are few, so the difference of the keys never wraps.
@@ -65,22 +62,15 @@ fn shared(first: i64, last: i64, window: Bounds) -> u32
         × (rank window.end - rank window.start < u32_limit) }
     ensures { result ≡ min (rank last) (rank window.end) - max (rank first) (rank window.start) }
 {
-    let from = key::max(first, window.start);
-    let to = key::min(last, window.end);
-    seconds(from, to)
+    seconds(first.max(window.start), last.min(window.end))
 }
 
-// 0 if a value is a status, else 1.
-fn amiss(value: Value) -> u8
-    ensures { Amiss value result }
+// Whether a value is a status.
+#[tactic(auto, using(crate::proofs::ByStatus::status_of))]
+fn is_status(value: Value) -> bool
+    ensures { result ≡ is_status value }
 {
-    if value == 0 {
-        return 1;
-    }
-    if value <= 4 {
-        return 0;
-    }
-    1
+    Status::OffDuty as Value <= value && value <= Status::OnDuty as Value
 }
 
 // Whether the values from the place `from` up to the place `to` are all statuses. With no early return the loop takes several places at a time.
@@ -88,16 +78,11 @@ fn statuses(values: &[Value], from: usize, to: usize) -> bool
     requires { (from ≤ to) × (to ≤ length values.now) }
     ensures { Decides result (Statuses values.now from to) }
 {
-    let mut seen = 0;
-    let mut k = from;
-    while k < to {
-        seen |= amiss(values[k]);
-        k += 1;
+    let mut all = true;
+    for value in &values[from..to] {
+        all &= is_status(*value);
     }
-    if seen == 0 {
-        return true;
-    }
-    false
+    all
 }
 
 // Adds seconds to the status `value`, in a table of seconds by status.
@@ -114,35 +99,25 @@ fn joined(t: [u32; TABLE_LENGTH], u: [u32; TABLE_LENGTH]) -> [u32; TABLE_LENGTH]
     requires { Both t u }
     ensures { Joined t u result }
 {
-    let mut r = t;
-    let mut s = 0;
-    while s < TABLE_LENGTH {
-        r[s] += u[s];
-        s += 1;
-    }
-    r
+    std::array::from_fn(|s| t[s] + u[s])
 }
 
 // A table, and the seconds of the places from `from` up to `to` that lie in the window.
 fn clipped(
     table: [u32; TABLE_LENGTH],
-    starts: &[i64],
-    ends: &[i64],
-    values: &[Value],
+    m: &Stored,
     from: usize,
     to: usize,
     window: Bounds,
 ) -> [u32; TABLE_LENGTH]
-    requires { Met starts.now ends.now values.now window from to × Statuses values.now from to
-        × TableRoom window (part starts.now ends.now values.now from to) table }
-    ensures { Added window (part starts.now ends.now values.now from to) table result }
+    requires { Met m.now window from to × Statuses m.now.values from to
+        × TableRoom window (part m.now from to) table }
+    ensures { Added window (part m.now from to) table result }
 {
     let mut t = table;
-    let mut k = from;
-    while k < to {
-        let n = shared(starts[k], ends[k], window);
-        credit(&mut t, values[k], n);
-        k += 1;
+    for k in from..to {
+        let n = shared(m.starts[k], m.ends[k], window);
+        credit(&mut t, m.values[k], n);
     }
     t
 }
@@ -151,52 +126,44 @@ fn clipped(
 // They are taken two at a time, each into a table of its own, so that no sum waits for the one before it.
 fn whole(
     table: [u32; TABLE_LENGTH],
-    starts: &[i64],
-    ends: &[i64],
-    values: &[Value],
+    m: &Stored,
     from: usize,
     to: usize,
     window: Bounds,
 ) -> [u32; TABLE_LENGTH]
-    requires { Met starts.now ends.now values.now window from to × Statuses values.now from to
-        × EachApart starts.now ends.now from to × Inside starts.now window from to
-        × TableRoom window (part starts.now ends.now values.now from to) table }
-    ensures { Added window (part starts.now ends.now values.now from to) table result }
+    requires { Met m.now window from to × Statuses m.now.values from to
+        × EachApart m.now from to × Inside m.now window from to
+        × TableRoom window (part m.now from to) table }
+    ensures { Added window (part m.now from to) table result }
 {
     let mut t = table;
     let mut u = [0; TABLE_LENGTH];
     let mut k = from;
+    // A `for` would have to count the pairs first, and find the place after them again.
     while k + 2 < to {
-        let n = seconds(starts[k], ends[k]);
-        credit(&mut t, values[k], n);
+        let n = seconds(m.starts[k], m.ends[k]);
+        credit(&mut t, m.values[k], n);
         let next = k + 1;
-        let o = seconds(starts[next], ends[next]);
-        credit(&mut u, values[next], o);
+        let o = seconds(m.starts[next], m.ends[next]);
+        credit(&mut u, m.values[next], o);
         k += 2;
     }
-    clipped(joined(t, u), starts, ends, values, k, to, window)
+    clipped(joined(t, u), m, k, to, window)
 }
 
 // The seconds by status of the places from `from` up to `to`, which meet the window. Only the first can begin before it.
-fn table_of(
-    starts: &[i64],
-    ends: &[i64],
-    values: &[Value],
-    from: usize,
-    to: usize,
-    window: Bounds,
-) -> [u32; TABLE_LENGTH]
-    requires { Met starts.now ends.now values.now window from to × Statuses values.now from to
-        × EachApart starts.now ends.now from to × TableRoom window (part starts.now ends.now values.now from to) no_seconds }
-    ensures { Added window (part starts.now ends.now values.now from to) no_seconds result }
+fn table_of(m: &Stored, from: usize, to: usize, window: Bounds) -> [u32; TABLE_LENGTH]
+    requires { Met m.now window from to × Statuses m.now.values from to
+        × EachApart m.now from to × TableRoom window (part m.now from to) no_seconds }
+    ensures { Added window (part m.now from to) no_seconds result }
 {
     let t = [0; TABLE_LENGTH];
     if from == to {
         return t;
     }
     let second = from + 1;
-    let first = clipped(t, starts, ends, values, from, second, window);
-    whole(first, starts, ends, values, second, to, window)
+    let first = clipped(t, m, from, second, window);
+    whole(first, m, second, to, window)
 }
 
 // The four totals of a table of seconds by status. The promise sums over the statuses that pass each total's test.
@@ -205,10 +172,10 @@ fn gathered(t: [u32; TABLE_LENGTH]) -> Tally
     ensures { result ≡ gathering t }
 {
     Tally {
-        off_duty: t[1],
-        sleeper_berth: t[2],
-        driving: t[3],
-        on_duty: t[4],
+        off_duty: t[Status::OffDuty as usize],
+        sleeper_berth: t[Status::SleeperBerth as usize],
+        driving: t[Status::Driving as usize],
+        on_duty: t[Status::OnDuty as usize],
     }
 }
 
@@ -227,44 +194,27 @@ fn completed(t: Tally, seconds: u32) -> Totals
     }
 }
 
-// The four totals of the window.
+// The four totals of the window, none if a strange status is there.
 // Each range from the place `from` on ends past the window's start, so those that begin before its end meet it.
-fn walk(
-    count: usize,
-    starts: &[i64],
-    ends: &[i64],
-    values: &[Value],
-    from: usize,
-    window: Bounds,
-) -> Walked
-    requires { Sound half_open (stored count starts.now ends.now values.now) × Reached half_open count ends.now window.start from
+fn walk(m: &Stored, from: usize, window: Bounds) -> Option<Tally>
+    requires { Sound half_open m.now × Reached half_open m.now.count m.now.ends window.start from
         × (rank window.start < rank window.end) × (rank window.end - rank window.start < u32_limit) }
-    ensures { result ≡ walk_finds (rank window.start) (rank window.end) (ranges half_open (stored count starts.now ends.now values.now)) }
+    ensures { result ≡ walk_finds (rank window.start) (rank window.end) (ranges half_open m.now) }
 {
-    let to = first_past(RangeKind::HalfOpen, starts, from, count, window.end);
-    if !statuses(values, from, to) {
-        return Walked::Strange;
+    let to = first_past(RangeKind::HalfOpen, &m.starts, from, m.count, window.end);
+    if !statuses(&m.values, from, to) {
+        return None;
     }
-    let t = table_of(starts, ends, values, from, to, window);
-    Walked::Counted(gathered(t))
+    Some(gathered(table_of(m, from, to, window)))
 }
 
 // THE SECONDS of each duty in the window, and those that are unrecorded: 10 if a status outside 1 to 4 is there.
-pub fn between(
-    count: usize,
-    starts: &[i64],
-    ends: &[i64],
-    values: &[Value],
-    window: Bounds,
-) -> Tallied
-    requires { Sound half_open (stored count starts.now ends.now values.now)
+pub fn between(m: &Stored, window: Bounds) -> Result<Totals, Refusal>
+    requires { Sound half_open m.now
         × (rank window.start < rank window.end) × (rank window.end - rank window.start < u32_limit) }
-    ensures { result ≡ tally_sound (stored count starts.now ends.now values.now) window.start window.end }
+    ensures { result ≡ tally_sound m.now window.start window.end }
 {
-    let from = reaching(RangeKind::HalfOpen, ends, count, window.start);
-    let w = walk(count, starts, ends, values, from, window);
-    match w {
-        Walked::Counted(t) => Tallied::Seconds(completed(t, seconds(window.start, window.end))),
-        Walked::Strange => Tallied::Refused(BAD_STATUS),
-    }
+    let from = reaching(RangeKind::HalfOpen, &m.ends, m.count, window.start);
+    let t = walk(m, from, window).ok_or(Refusal::BadStatus)?;
+    Ok(completed(t, seconds(window.start, window.end)))
 }

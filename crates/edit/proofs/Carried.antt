@@ -16,7 +16,8 @@ use Rattle.key.specs.Rank.{rank, key_at}
 use Rattle.key.specs.Range.{Kind}
 use Rattle.key.proofs.Lawful.{Lawful}
 use Rattle.splice.specs.InnerSplice.{spliced}
-use Rattle.outcomes.specs.Stored.{Stored, stored, spans, ranges, filled, storing, AllFit, Sound}
+use Rattle.outcomes.specs.Stored.{stored, spans, ranges, filled, storing, AllFit, Sound}
+use Rattle.outcomes.specs.declared.Stored.{Stored}
 use Rattle.outcomes.specs.Outcomes.{leaving, edit_sound}
 use Rattle.outcomes.proofs.Formed.{length_spans}
 use Rattle.outcomes.proofs.Storing.{map_take, map_drop, drop_take, starts_back, ends_back, values_back}

@@ -12,7 +12,8 @@ use Rattle.span.proofs.Pieces.{places_tidy}
 use Rattle.key.specs.Rank.{rank}
 use Rattle.key.specs.Range.{Kind, span_of}
 use Rattle.key.proofs.Lawful.{Lawful}
-use Rattle.outcomes.specs.Stored.{Stored, ranges, Sound}
+use Rattle.outcomes.specs.Stored.{ranges, Sound}
+use Rattle.outcomes.specs.declared.Stored.{Stored}
 use Rattle.outcomes.proofs.Formed.{shape, good, length_ranges, get_or_ranges}
 use Rattle.splice.specs.InnerSplice.{Filler}
 use Rattle.edit.specs.InnerPlan.{nowhere, Touching, ColumnsOf}

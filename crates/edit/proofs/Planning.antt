@@ -22,16 +22,19 @@ use Rattle.key.specs.InnerDecides.{Decides}
 use Rattle.key.proofs.Answers.{never, holds, fails, not_full}
 use Rattle.key.proofs.Lawful.{Lawful}
 use Rattle.splice.specs.InnerReplace.{new_starts, new_ends, new_values}
-use Rattle.splice.specs.declared.Entry.{Entry}
+use Rattle.key.specs.declared.Entry.{Entry}
 use Rattle.splice.specs.declared.Replacement.{Replacement}
-use Rattle.outcomes.specs.Stored.{Stored, spans, ranges, AllFit, Sound}
+use Rattle.outcomes.specs.Stored.{spans, ranges, AllFit, Sound}
+use Rattle.outcomes.specs.declared.Stored.{Stored}
 use Rattle.outcomes.proofs.Formed.{good}
 use Rattle.edit.specs.declared.Change.{Change}
 use Rattle.edit.specs.declared.Met.{Met}
-use Rattle.edit.specs.InnerPlan.{HasKey, value_if, asked, nowhere, Touching, Meets, Beside, b_clear, b_joined, b_kept}
-use Rattle.edit.specs.InnerPlan.{entry, kept, Brings, Overlaid, Planned}
+use Rattle.edit.specs.InnerPlan.{HasKey, New, value_if, asked, placed, in_front, nowhere, Touching, Meets, Beside, b_clear, b_joined, b_kept}
+use Rattle.edit.specs.InnerPlan.{kept, Brings, Overlaid, Planned}
 use Rattle.edit.proofs.Cuts.{cut_right}
 use Rattle.edit.proofs.Places.{len, at_place}
+use Rattle.outcomes.specs.Answered.{entry}
+use Rattle.std.specs.Prelude.{Some, None}
 
 -- a list, cut at two places
 halves : {A : Type 0} (n : ℕ) (l : List A) → l ≡ take n l ++ drop n l
@@ -265,10 +268,14 @@ map_kept : (kind : Kind) (k : Bool) (x : Entry) (xs : List Entry) (y : Span) (ys
 map_kept kind true x xs y ys e f = rw (e refl, f)
 map_kept kind false x xs y ys e f = f
 
-map_comes : (kind : Kind) (comes : Bool) (s e : ℤ) (v : ℕ) (xs : List Entry)
-    → map (entry_span kind) (kept comes (entry s e v) xs) ≡ piece (rank s) (kind.past e) (value_if comes v) (map (entry_span kind) xs)
-map_comes kind true s e v xs = refl
-map_comes kind false s e v xs = refl
+map_comes : (kind : Kind) (new : New) (s e : ℤ) (xs : List Entry)
+    → map (entry_span kind) (in_front (placed s e new) xs) ≡ piece (rank s) (kind.past e) (value_if new) (map (entry_span kind) xs)
+map_comes kind (Some v) s e xs = refl
+map_comes kind None s e xs = refl
+
+placed_fit : (new : New) (s e : ℤ) (xs : List Entry) → SFits w64 s → SFits w64 e → EntriesFit xs → EntriesFit (in_front (placed s e new) xs)
+placed_fit (Some v) s e xs fs fe g = (record { start_fits = fs; end_fits = fe }, g)
+placed_fit None s e xs fs fe g = g
 
 -- RIGHT PLANS of a sound map, of either kind
 module _ (kind : Kind) (law : Lawful kind) (m : Stored) (sound : Sound kind m) (change : Change) (real : HasKey kind change)
@@ -299,9 +306,9 @@ module _ (kind : Kind) (law : Lawful kind) (m : Stored) (sound : Sound kind m) (
   }
 
   -- nothing is met: the new range comes, or nothing
-  pub planned_alone : from ≡ to → Brings p from to 3 (kept change.comes (entry change.start change.end change.value) []) → Planned kind m change p
-  planned_alone e b = planned b (kept_fit change.comes _ [] (record { start_fits = fs; end_fits = fe }) tt)
-      (map_comes kind change.comes change.start change.end change.value [])
+  pub planned_alone : from ≡ to → Brings p from to 3 (in_front (placed change.start change.end change.new) []) → Planned kind m change p
+  planned_alone e b = planned b (placed_fit change.new _ _ [] fs fe tt)
+      (map_comes kind change.new change.start change.end [])
       (replaced_none (ranges kind m) lo hi (asked change) from to _ real (good sound).tidy t.touching e refl)
 
   -- something is: the new range comes, or nothing, between what is kept
@@ -325,9 +332,9 @@ module _ (kind : Kind) (law : Lawful kind) (m : Stored) (sound : Sound kind m) (
       λ i. ap (λ (k : ℕ). span k (kind.past last) above) (t.cuts_above (cut_right law change.end last (beside_beyond o.right i))) in
       planned {ns = ns} o.brings
       (kept_fit o.left_kept _ _ (record { start_fits = first_fits; end_fits = t.below_fits })
-      (kept_fit change.comes _ _ (record { start_fits = beside_fits o.left fs first_fits; end_fits = beside_fits o.right fe last_Fits })
+      (placed_fit change.new _ _ _ (beside_fits o.left fs first_fits) (beside_fits o.right fe last_Fits)
       (kept_fit o.right_kept _ [] (record { start_fits = t.above_fits; end_fits = last_Fits }) tt)))
       (map_kept kind o.left_kept _ _ left-part _ cut_left
-      (map_comes kind change.comes o.start o.end change.value _ ∙ ap new (map_kept kind o.right_kept _ [] right-part [] cut_right refl)))
+      (map_comes kind change.new o.start o.end _ ∙ ap new (map_kept kind o.right_kept _ [] right-part [] cut_right refl)))
       (replaced_some (ranges kind m) lo hi (asked change) from to ns real (good sound).tidy t.touching some-met
       (rw (x, y) (pieces law (asked change) real o.left o.right)))

@@ -13,9 +13,10 @@ use Rattle.key.specs.Rank.{rank}
 use Rattle.key.specs.Range.{Kind}
 use Rattle.key.proofs.Answers.{one_answer, neither_less}
 use Rattle.key.proofs.Laws.{rank_inj}
-use Rattle.splice.specs.declared.Entry.{Entry}
+use Rattle.key.specs.declared.Entry.{Entry}
 use Rattle.splice.specs.declared.Replacement.{Replacement}
-use Rattle.edit.specs.InnerPlan.{LeastEnd, GreatestStart, Beside, b_clear, b_joined, b_kept, entry, Brings}
+use Rattle.edit.specs.InnerPlan.{LeastEnd, GreatestStart, Beside, b_clear, b_joined, b_kept, Brings}
+use Rattle.outcomes.specs.Answered.{entry}
 
 abbrev no_entry : Entry
 no_entry = entry (pos 0) (pos 0) 0

@@ -1,5 +1,5 @@
 -- A plan says which places a change replaces, and by what. These definitions serve the proofs of insert and remove; what those promise is in `outcomes`.
-use Rattle.std.specs.Prelude.{ℕ, ◌-◌, ◌≤◌, ◌<◌, ◌≡◌, Bool, true, false, cond, List, [], ◌∷◌, ◌++◌, ltb, length, get_or, take, drop, ℤ, pos}
+use Rattle.std.specs.Prelude.{ℕ, ◌-◌, ◌≤◌, ◌<◌, ◌≡◌, Bool, true, false, cond, List, [], ◌∷◌, ◌++◌, ltb, length, get_or, take, drop, ℤ, pos, Some, None}
 use Rattle.std.proofs.Math.Option.{Option, some, none}
 use Rattle.std.specs.Int.{w64}
 use Rattle.std.proofs.Common.{SFits}
@@ -9,28 +9,34 @@ use Rattle.key.specs.Rank.{rank, keys}
 use Rattle.key.specs.Range.{Kind}
 use Rattle.splice.specs.InnerSplice.{spliced}
 use Rattle.splice.specs.InnerReplace.{new_starts, new_ends, new_values, new_count, Apt, Columns}
-use Rattle.splice.specs.declared.Entry.{Entry}
+use Rattle.key.specs.declared.Entry.{Entry}
+use Rattle.std.specs.declared.option.Option.{Option as Maybe}
+use Rattle.outcomes.specs.Answered.{entry}
 use Rattle.splice.specs.declared.Replacement.{Replacement}
-use Rattle.outcomes.specs.Stored.{Stored, stored, spans, ranges, Spare, AllFit}
+use Rattle.outcomes.specs.Stored.{stored, spans, ranges, Spare, AllFit}
+use Rattle.outcomes.specs.declared.Stored.{Stored}
 use Rattle.outcomes.specs.Outcomes.{Edited, leaving}
 use Rattle.edit.specs.declared.Change.{Change}
 use Rattle.edit.specs.declared.Met.{Met}
-use Rattle.edit.specs.declared.plan.Part.{Part}
 
 -- A CHANGE
+
+-- the value that it has in the code
+abbrev pub New : Type 0
+New = Maybe ℕ
 
 -- its range has a key: it is neither empty nor reversed
 abbrev pub HasKey : Kind → Change → Type 0
 HasKey kind change = rank change.start < kind.past change.end
 
 -- a value that comes, or none
-abbrev pub value_if : Bool → ℕ → Option ℕ
-value_if true v = some v
-value_if false v = none
+abbrev pub value_if : New → Option ℕ
+value_if (Some v) = some v
+value_if None = none
 
 -- what a change gives: a value, or none
 abbrev pub asked : Change → Option ℕ
-asked change = value_if change.comes change.value
+asked change = value_if change.new
 
 -- it is the value that a range has
 abbrev pub Same : ℕ → Option ℕ → Type 0
@@ -82,18 +88,20 @@ pub data Beside (Beyond : Type 0) (p : ℕ) (new : Option ℕ) (own far : ℤ) :
   b_joined : Beyond → Same p new → Beside Beyond p new own far false far
   b_kept : Beyond → (Same p new → ⊥) → Beside Beyond p new own far true own
 
--- an entry from its parts
-abbrev pub entry : ℤ → ℤ → ℕ → Entry
-entry s e v = record { start = s; end = e; value = v }
-
 -- an entry put in front, if it is kept
 abbrev pub kept : Bool → Entry → List Entry → List Entry
 kept true x xs = x ∷ xs
 kept false x xs = xs
 
--- a part put in front, if it is kept
-abbrev pub in_front : Part → List Entry → List Entry
-in_front x xs = kept x.kept (entry x.start x.end x.value) xs
+-- the same of an entry that there is, or not
+abbrev pub in_front : Maybe Entry → List Entry → List Entry
+in_front (Some x) xs = x ∷ xs
+in_front None xs = xs
+
+-- the range that comes, if a value does
+abbrev pub placed : ℤ → ℤ → New → Maybe Entry
+placed s e (Some v) = Some (entry s e v)
+placed s e None = None
 
 -- the entries that come
 abbrev pub coming : Replacement → List Entry
@@ -123,7 +131,7 @@ pub record Overlaid (starts ends : List ℤ) (values : List ℕ) (met : Met) (ch
       change.end (get_or ends (met.to - 1) (pos 0)) right_kept end
   pub brings : Brings p met.from met.to 3
       (kept left_kept (entry (get_or starts met.from (pos 0)) met.below (get_or values met.from 0))
-      (kept change.comes (entry start end change.value)
+      (in_front (placed start end change.new)
       (kept right_kept (entry met.above (get_or ends (met.to - 1) (pos 0)) (get_or values (met.to - 1) 0)) [])))
 
 -- carried out, the plan is the change

@@ -9,26 +9,24 @@ mod sides;
 ghost use Rattle.std.specs.Prelude.{◌≡◌, ◌<◌, ◌≤◌, length};
 ghost use Rattle.std.proofs.Math.Option.{some, none};
 ghost use Rattle.key.specs.Range.{kind_of};
-ghost use Rattle.outcomes.specs.Stored.{places, stored, Sound};
-ghost use Rattle.outcomes.specs.Outcomes.{leaving, edit_sound};
+ghost use Rattle.outcomes.specs.Stored.{places, Sound};
+ghost use Rattle.outcomes.specs.Outcomes.{edit_sound};
 ghost use Rattle.outcomes.specs.InnerOutcome.{Leaves};
-ghost use Rattle.edit.specs.InnerPlan.{HasKey, Meets, Overlaid, Planned, asked};
+ghost use Rattle.edit.specs.InnerPlan.{HasKey, Meets, Overlaid, Planned, asked, placed};
 
-use answers::EMPTY_RANGE;
-use key::{RangeKind, Value, full};
-use outcomes::{Outcome, PLACES, outcome_of};
-use plan::Part;
+use answers::Refusal;
+use key::{Entry, RangeKind, Value, full};
+use outcomes::Stored;
 use splice::Replacement;
 use store::search::reaching;
 use store::walk::first_past;
 
-// What is asked: the instants of a range get the value, or where none comes they get none.
+// What is asked: the instants of a range get the new value, or where there is none they get none.
 #[derive(Clone, Copy)]
 pub struct Change {
     pub start: i64,
     pub end: i64,
-    pub comes: bool,
-    pub value: Value,
+    pub new: Option<Value>,
 }
 
 // The places from `from` up to `to` are those that a change meets or touches. A range that ends with `below` just touches it, and so does one that
@@ -43,181 +41,109 @@ pub struct Met {
 
 // The places that a change meets or touches: from the first that ends no earlier than the least end that touches it, up to the first that
 // starts later than the greatest start that does.
-fn touched(
-    kind: RangeKind,
-    count: usize,
-    starts: &[i64],
-    ends: &[i64],
-    values: &[Value],
-    change: Change,
-) -> Met
-    requires { Sound (kind_of kind) (stored count starts.now ends.now values.now) × HasKey (kind_of kind) change }
-    ensures { Meets (kind_of kind) (stored count starts.now ends.now values.now) change result }
+fn touched(kind: RangeKind, m: &Stored, change: Change) -> Met
+    requires { Sound (kind_of kind) m.now × HasKey (kind_of kind) change }
+    ensures { Meets (kind_of kind) m.now change result }
 {
-    let start = change.start;
-    let end = change.end;
-    let below = crate::sides::least_end(kind, start);
-    let above = crate::sides::greatest_start(kind, end);
-    let from = reaching(RangeKind::Inclusive, ends, count, below);
-    let to = first_past(RangeKind::Inclusive, starts, from, count, above);
+    let below = crate::sides::least_end(kind, change.start);
+    let above = crate::sides::greatest_start(kind, change.end);
+    let from = reaching(RangeKind::Inclusive, &m.ends, m.count, below);
+    let to = first_past(RangeKind::Inclusive, &m.starts, from, m.count, above);
     Met {
-        from: from,
-        to: to,
-        below: below,
-        above: above,
+        from,
+        to,
+        below,
+        above,
     }
 }
 
-// The plan of a change that meets or touches some place: what goes beyond it on either side is joined or kept.
-fn plan_over(
-    starts: &[i64],
-    ends: &[i64],
-    values: &[Value],
-    met: Met,
-    change: Change,
-) -> Replacement
-    requires { (met.from < met.to) × (met.to ≤ length starts.now) × (met.to ≤ length ends.now) × (met.to ≤ length values.now) }
-    ensures { Overlaid starts.now ends.now values.now met change result }
+// The range that comes, if a value does.
+fn placed(start: i64, end: i64, new: Option<Value>) -> Option<Entry>
+    ensures { result ≡ placed start end new }
 {
-    let from = met.from;
-    let to = met.to;
-    let below = met.below;
-    let above = met.above;
+    Some(Entry {
+        start,
+        end,
+        value: new?,
+    })
+}
+
+// The plan of a change that meets or touches some place: what goes beyond it on either side is joined or kept.
+fn plan_over(m: &Stored, met: Met, change: Change) -> Replacement
+    requires { (met.from < met.to) × (met.to ≤ length m.now.starts) × (met.to ≤ length m.now.ends) × (met.to ≤ length m.now.values) }
+    ensures { Overlaid m.now.starts m.now.ends m.now.values met change result }
+{
     let start = change.start;
     let end = change.end;
-    let first = starts[from];
-    let first_value = values[from];
-    let last = ends[to - 1];
-    let last_value = values[to - 1];
+    let first = m.starts[met.from];
+    let first_value = m.values[met.from];
+    let last = m.ends[met.to - 1];
+    let last_value = m.values[met.to - 1];
     let left = crate::sides::join_or_keep(first < start, first_value, change, start, first);
     let right = crate::sides::join_or_keep(end < last, last_value, change, end, last);
-    let low = left.key;
-    let high = right.key;
+    let before = Entry {
+        start: first,
+        end: met.below,
+        value: first_value,
+    };
+    let after = Entry {
+        start: met.above,
+        end: last,
+        value: last_value,
+    };
     crate::plan::bring(
         met,
-        Part {
-            kept: left.kept,
-            start: first,
-            end: below,
-            value: first_value,
-        },
-        Part {
-            kept: change.comes,
-            start: low,
-            end: high,
-            value: change.value,
-        },
-        Part {
-            kept: right.kept,
-            start: above,
-            end: last,
-            value: last_value,
-        },
+        left.kept.then_some(before),
+        placed(left.key, right.key, change.new),
+        right.kept.then_some(after),
     )
 }
 
 // The plan of a change.
-fn plan_of(
-    kind: RangeKind,
-    count: usize,
-    starts: &[i64],
-    ends: &[i64],
-    values: &[Value],
-    change: Change,
-) -> Replacement
-    requires { Sound (kind_of kind) (stored count starts.now ends.now values.now) × HasKey (kind_of kind) change }
-    ensures { Planned (kind_of kind) (stored count starts.now ends.now values.now) change result }
+fn plan_of(kind: RangeKind, m: &Stored, change: Change) -> Replacement
+    requires { Sound (kind_of kind) m.now × HasKey (kind_of kind) change }
+    ensures { Planned (kind_of kind) m.now change result }
 {
-    let start = change.start;
-    let end = change.end;
-    let met = touched(kind, count, starts, ends, values, change);
-    let from = met.from;
-    let to = met.to;
-    if from < to {
-        return plan_over(starts, ends, values, met, change);
+    let met = touched(kind, m, change);
+    if met.from < met.to {
+        return plan_over(m, met, change);
     }
-    let value = change.value;
-    let nothing = Part {
-        kept: false,
-        start: start,
-        end: end,
-        value: value,
-    };
-    let new = Part {
-        kept: change.comes,
-        start: start,
-        end: end,
-        value: value,
-    };
-    crate::plan::bring(met, nothing, new, nothing)
+    let new = placed(change.start, change.end, change.new);
+    crate::plan::bring(met, None, new, None)
 }
 
 // Gives the value to each instant of the range and to no other; where none comes, uncovers exactly these.
-fn edit(
-    kind: RangeKind,
-    count: &mut usize,
-    starts: &mut [i64],
-    ends: &mut [i64],
-    values: &mut [Value],
-    change: Change,
-) -> u8
-    requires { Sound (kind_of kind) (stored count.old starts.old ends.old values.old) }
-    ensures { leaving result (stored count.new starts.new ends.new values.new)
-        ≡ edit_sound (kind_of kind) (length starts.old) (stored count.old starts.old ends.old values.old)
-        change.start change.end (asked change) }
+fn edit(kind: RangeKind, m: &mut Stored, change: Change) -> Result<(), Refusal>
+    requires { Sound (kind_of kind) m.old }
+    ensures { Leaves result m.new (edit_sound (kind_of kind) places m.old change.start change.end (asked change)) }
 {
-    let start = change.start;
-    let end = change.end;
-    if !full(kind, start, end) {
-        return EMPTY_RANGE;
+    if !full(kind, change.start, change.end) {
+        return Err(Refusal::EmptyRange);
     }
-    let plan = plan_of(kind, *count, starts, ends, values, change);
-    crate::plan::carry_out(count, starts, ends, values, plan)
+    let plan = plan_of(kind, m, change);
+    crate::plan::carry_out(m, plan)
 }
 
 // Gives the value to each instant of the range and to no other.
 pub fn insert(
     kind: RangeKind,
-    count: &mut usize,
-    starts: &mut [i64; PLACES],
-    ends: &mut [i64; PLACES],
-    values: &mut [Value; PLACES],
+    m: &mut Stored,
     start: i64,
     end: i64,
     value: Value,
-) -> Outcome
-    requires { Sound (kind_of kind) (stored count.old starts.old ends.old values.old) }
-    ensures { Leaves result (stored count.new starts.new ends.new values.new)
-        (edit_sound (kind_of kind) places (stored count.old starts.old ends.old values.old) start end (some value)) }
+) -> Result<(), Refusal>
+    requires { Sound (kind_of kind) m.old }
+    ensures { Leaves result m.new (edit_sound (kind_of kind) places m.old start end (some value)) }
 {
-    let change = Change {
-        start: start,
-        end: end,
-        comes: true,
-        value: value,
-    };
-    outcome_of(edit(kind, count, starts, ends, values, change))
+    let new = Some(value);
+    edit(kind, m, Change { start, end, new })
 }
 
 // Uncovers exactly the instants of the range.
-pub fn remove(
-    kind: RangeKind,
-    count: &mut usize,
-    starts: &mut [i64; PLACES],
-    ends: &mut [i64; PLACES],
-    values: &mut [Value; PLACES],
-    start: i64,
-    end: i64,
-) -> Outcome
-    requires { Sound (kind_of kind) (stored count.old starts.old ends.old values.old) }
-    ensures { Leaves result (stored count.new starts.new ends.new values.new)
-        (edit_sound (kind_of kind) places (stored count.old starts.old ends.old values.old) start end none) }
+pub fn remove(kind: RangeKind, m: &mut Stored, start: i64, end: i64) -> Result<(), Refusal>
+    requires { Sound (kind_of kind) m.old }
+    ensures { Leaves result m.new (edit_sound (kind_of kind) places m.old start end none) }
 {
-    let nothing = Change {
-        start: start,
-        end: end,
-        comes: false,
-        value: 0,
-    };
-    outcome_of(edit(kind, count, starts, ends, values, nothing))
+    let new = None;
+    edit(kind, m, Change { start, end, new })
 }

@@ -1,52 +1,36 @@
 // A plan is made from what comes, and carried out.
-ghost use Rattle.std.specs.Prelude.{◌≡◌, [], suc, ◌≤◌};
-ghost use Rattle.outcomes.specs.Stored.{stored};
-ghost use Rattle.outcomes.specs.Outcomes.{leaving};
+ghost use Rattle.std.specs.Prelude.{◌≡◌, [], suc, ◌≤◌, length};
+ghost use Rattle.outcomes.specs.Stored.{places};
+ghost use Rattle.outcomes.specs.InnerOutcome.{Leaves};
 ghost use Rattle.splice.specs.InnerReplace.{Apt};
 ghost use Rattle.edit.specs.InnerPlan.{Blank, Brings, coming, in_front, carried, ColumnsOf};
 
 use crate::Met;
-use answers::{DONE, TOO_MANY};
-use key::Value;
-use splice::{Entry, Replacement};
+use answers::Refusal;
+use key::Entry;
+use outcomes::Stored;
+use splice::Replacement;
 
-// A range, and whether the plan keeps it.
-#[derive(Clone, Copy)]
-pub struct Part {
-    pub kept: bool,
-    pub start: i64,
-    pub end: i64,
-    pub value: Value,
-}
-
-// A plan by which one more range comes, before the others, if it is kept.
-fn in_front(part: Part, p: Replacement) -> Replacement
+// A plan by which one more range comes, before the others, if there is one.
+fn in_front(part: Option<Entry>, p: Replacement) -> Replacement
     requires { (p.n ≤ 2) × Blank p }
     ensures { Brings result p.from p.to (suc p.n) (in_front part (coming p)) }
 {
-    let kept = part.kept;
-    if !kept {
-        return p;
-    }
-    let new = Entry {
-        start: part.start,
-        end: part.end,
-        value: part.value,
-    };
-    let x = p.x;
-    let y = p.y;
-    Replacement {
-        from: p.from,
-        to: p.to,
-        n: p.n + 1,
-        x: new,
-        y: x,
-        z: y,
+    match part {
+        Some(new) => Replacement {
+            from: p.from,
+            to: p.to,
+            n: p.n + 1,
+            x: new,
+            y: p.x,
+            z: p.y,
+        },
+        None => p,
     }
 }
 
-// The plan by which the new range comes between what is left on the two sides; each of the three only if it is kept.
-pub fn bring(met: Met, left: Part, new: Part, right: Part) -> Replacement
+// The plan by which the new range comes between what is left on the two sides; each of the three only if there is one.
+pub fn bring(met: Met, left: Option<Entry>, new: Option<Entry>, right: Option<Entry>) -> Replacement
     ensures { Brings result met.from met.to 3 (in_front left (in_front new (in_front right []))) }
 {
     let unused = Entry {
@@ -67,27 +51,18 @@ pub fn bring(met: Met, left: Part, new: Part, right: Part) -> Replacement
     in_front(left, two)
 }
 
-// Carries a plan out, unless the map would need more places than it has: answer 2.
-pub fn carry_out(
-    count: &mut usize,
-    starts: &mut [i64],
-    ends: &mut [i64],
-    values: &mut [Value],
-    p: Replacement,
-) -> u8
-    requires { ColumnsOf (stored count.old starts.old ends.old values.old) × Apt count.old p }
-    ensures { leaving result (stored count.new starts.new ends.new values.new)
-        ≡ carried (stored count.old starts.old ends.old values.old) p }
+// Carries a plan out, unless the map would need more places than it has.
+pub fn carry_out(m: &mut Stored, p: Replacement) -> Result<(), Refusal>
+    requires { ColumnsOf m.old × Apt m.old.count p }
+    ensures leaves { Leaves result m.new (carried m.old p) }
+    ensures starts_len { length m.old.starts ≡ places }
 {
-    let held = *count;
-    let from = p.from;
-    let to = p.to;
-    let n = p.n;
-    let next = from + n + (held - to);
-    if starts.len() < next {
-        return TOO_MANY;
+    let held = m.count;
+    let next = p.from + p.n + (held - p.to);
+    if m.starts.len() < next {
+        return Err(Refusal::TooMany);
     }
-    splice::splice(held, starts, ends, values, p);
-    *count = next;
-    DONE
+    splice::splice(held, &mut m.starts, &mut m.ends, &mut m.values, p);
+    m.count = next;
+    Ok(())
 }

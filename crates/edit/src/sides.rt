@@ -31,15 +31,7 @@ pub fn greatest_start(kind: RangeKind, end: i64) -> i64
 fn same(old: Value, change: Change) -> bool
     ensures { Decides result (Same old (asked change)) }
 {
-    let comes = change.comes;
-    let value = change.value;
-    if !comes {
-        return false;
-    }
-    if old == value {
-        return true;
-    }
-    false
+    change.new == Some(old)
 }
 
 // One side of a change: whether a part of the old range there is kept, and the key with which the new range starts or ends there.

@@ -2,26 +2,31 @@
 use Prim.Native.Nat.{ℕ, suc, ◌+◌, ◌-◌, ◌≤◌, ◌<◌}
 use native.Mathlib.Omega.{arith}
 use native.Mathlib.Numerals.{add-one}
-use mathlib.Core.Path.{◌≡◌, refl, ◌∙◌}
-use mathlib.Core.Bool.{Bool, true, false, cond}
+use native.Mathlib.Decide.{dec_lt}
+use mathlib.Core.Path.{◌≡◌, refl, sym, ◌∙◌}
+use mathlib.Core.Bool.{Bool, true, false, cond, not}
 use mathlib.Core.List.{List, [], ◌∷◌}
 use lib.Dec.{eqb}
-use lib.ListN.{length, get_or, take, drop, length-drop, drop_of_length-le}
-use lib.Seq.{take-length, take_all, drop-drop, drop-cons, length-take-le}
-use Rattle.std.proofs.lemmas.List.{get_or-take}
-use borrow.Author.Tests.{eq-eqb, ne_eqb}
+use lib.Pointwise.{pointwise}
+use Rattle.byte_form.specs.Form.{same_bytes}
+use Rattle.byte_form.proofs.Forms.{told_same}
+use Rattle.std.proofs.lemmas.Slice.Eq.{bytes_eq-Decides}
+use lib.ListN.{length, take, drop, length-drop, drop_of_length-le}
+use lib.Seq.{take-length, take_all}
+use Rattle.std.specs.List.{position, position_or_len}
+use Rattle.std.specs.Prelude.{Some, None, Result, Ok, Err}
+use Rattle.std.specs.Result.{OkIff, result_ok}
+use Rattle.std.proofs.lemmas.List.Quantifiers.{position-Some}
+use Rattle.std.proofs.lemmas.List.Sums.{position_or_len_is}
+use Rattle.std.proofs.lemmas.List.Recursion.{is_position_or_len}
+use borrow.Author.Tests.{lt-ltb}
 use Rattle.edit_lines.specs.Making.{words_line}
-use Rattle.edit_lines.specs.InnerStep.{index_of, SpaceAt}
-use Rattle.edit_lines.specs.declared.Line.TheVariants as Line
+use Rattle.edit_lines.specs.InnerStep.{index_of}
 use Rattle.edit_lines.specs.Parts.{ahead, parts_at, lines_of, words_of}
 
 -- where a byte is, by whether it is the first, and where it is behind that
 abbrev index_after : Bool → ℕ → ℕ
 index_after t n = cond t 0 (suc n)
-
--- what a search of a whole text from a place on finds
-pub found : (text : List ℕ) (from b : ℕ) → from + index_of b (drop from (take (length text) text)) ≡ from + index_of b (drop from text)
-found text from b = rw (take-length text)
 
 -- a byte in front of a text of which the first part is known
 module _ (b : ℕ) (e : List (List ℕ)) (x : ℕ) (xs : List ℕ) where
@@ -65,19 +70,34 @@ words_last (x ∷ xs) h = let ih = words_last xs in go (eqb x 32) ih h
     go true ih h = absurd (omega arith)
     go false ih h = rw (ih (omega arith))
 
--- the same from a place of the text on, where the search found r
-module _ (b : ℕ) (text : List ℕ) (from r : ℕ) (is : r ≡ from + index_of b (drop from (take (length text) text))) where
-  index_is : index_of b (drop from text) ≡ r - from
-  index_is = omega (arith, is, found text from b)
+-- where a byte is, by what the search of a text found
+index_position : (b : ℕ) (xs : List ℕ) → index_of b xs ≡ position_or_len (λ x. eqb x b) xs
+unfolding index_of
+index_position b xs = is_position_or_len (index_of b) (λ x. eqb x b) refl (λ x xs. one (eqb x b) (index_of b xs)) xs
+  where
+    one : (t : Bool) (n : ℕ) → cond t 0 (suc n) ≡ cond t 0 (1 + n)
+    one true n = refl
+    one false n = omega arith
 
-  behind_is : (e : List (List ℕ)) → parts_at b e (drop (suc (index_of b (drop from text))) (drop from text)) ≡ parts_at b e (drop (r + 1) text)
-  behind_is e =
-      let n : from + suc (index_of b (drop from text)) ≡ r + 1 = omega (arith, is, found text from b) in
-      rw (drop-drop (suc (index_of b (drop from text))) from text, n)
+index_within : (b : ℕ) (xs : List ℕ) → index_of b xs ≤ length xs
+unfolding index_of
+index_within b [] = omega arith
+index_within b (x ∷ xs) = go (eqb x b) (index_within b xs)
+  where
+    go : (t : Bool) → index_of b xs ≤ length xs → index_after t (index_of b xs) ≤ suc (length xs)
+    go true h = omega arith
+    go false h = omega arith
 
-pub line_more : (text : List ℕ) (from r : ℕ) → r ≡ from + index_of 10 (drop from (take (length text) text)) → from < length text
-    → lines_of (drop from text) ≡ take (r - from) (drop from text) ∷ lines_of (drop (r + 1) text)
-line_more text from r is h = lines_more (drop from text) (simp length-drop (omega arith)) ∙ rw (behind_is 10 text from r is [], index_is 10 text from r is)
+pub place_some : (b : ℕ) (xs : List ℕ) (i : ℕ) → position (λ x. eqb x b) xs ≡ Some i → (i ≡ index_of b xs) × (i < length xs)
+place_some b xs i e =
+    let (within, here, before) = position-Some (λ x. eqb x b) xs i 0 e in
+    (sym (index_position b xs ∙ position_or_len_is (λ x. eqb x b) xs i 0 (omega arith) before (λ _. here)), within)
+
+pub place_none : (b : ℕ) (xs : List ℕ) → position (λ x. eqb x b) xs ≡ None → index_of b xs ≡ length xs
+place_none b xs e = elim (dec_lt (index_of b xs) (length xs)) [
+  | yes h ↦ absurd (let z : Some (position_or_len (λ x. eqb x b) xs) ≡ None = rw (lt-ltb _ _ (rw (index_position b xs) at h)) at e in let y : ◌≡◌ {A = ℕ} 0 1 = cc in omega arith)
+  | no h ↦ omega (arith, index_within b xs)
+]
 
 -- a line has a word
 words_some : (xs : List ℕ) → (p : List ℕ) × ((ps : List (List ℕ)) × (words_of xs ≡ p ∷ ps))
@@ -90,40 +110,58 @@ words_some (x ∷ xs) = let (p, (ps, e)) = words_some xs in go (eqb x 32) p ps e
     go true p ps e = ([], (words_of xs, refl))
     go false p ps e = (x ∷ p, (ps, rw e))
 
+-- a text compared with a word
+module _ (a b : List ℕ) {r : Bool} (compared : r ≡ not (pointwise eqb a b)) where
+  pub is_word : r ≡ false → same_bytes a b ≡ true
+  is_word e = told_same (pointwise eqb a b) a b (bytes_eq-Decides a b) ∙ turn (pointwise eqb a b) (sym compared ∙ e)
+    where
+      turn : (t : Bool) → not t ≡ false → t ≡ true
+      turn true h = refl
+      turn false h = sym h
+
+  pub no_word : r ≡ true → same_bytes a b ≡ false
+  no_word e = told_same (pointwise eqb a b) a b (bytes_eq-Decides a b) ∙ turn (pointwise eqb a b) (sym compared ∙ e)
+    where
+      turn : (t : Bool) → not t ≡ true → t ≡ false
+      turn true h = sym h
+      turn false h = refl
+
+-- a value that is a byte
+pub a_byte : {E : Type 0} {n v : ℕ} (r : Result ℕ E) → OkIff r (n < 256) n → Some v ≡ result_ok r → (n < 256) × (v ≡ n)
+a_byte {v = v} (Ok x) s e = let z : v ≡ x = cc in (s.0, z ∙ s.1)
+a_byte {v = v} (Err x) s e = absurd (let z : Some v ≡ None = e in let y : ◌≡◌ {A = ℕ} 0 1 = cc in omega arith)
+
 -- the words of a text in which a space was looked for
-module _ (xs : List ℕ) (r : ℕ) (space : SpaceAt xs r) where
-  pub no_space : r ≡ length xs → words_of xs ≡ xs ∷ []
-  no_space e = words_last xs (omega (arith, space.is))
+module _ (xs : List ℕ) where
+  pub no_space : position (λ x. eqb x 32) xs ≡ None → words_of xs ≡ xs ∷ []
+  no_space e = words_last xs (place_none 32 xs e)
 
   -- what is behind the space goes to the end of the text, as a part of a slice says it
-  pub a_space : (r ≡ length xs → ⊥) → words_of xs ≡ take r xs ∷ words_of (take (length xs - (r + 1)) (drop (r + 1) xs))
-  a_space n =
-      let h : index_of 32 xs < length xs = omega (arith, space.is, space.within) in
-      let whole : length (drop (r + 1) xs) ≤ length xs - (r + 1) = simp length-drop (omega arith) in
-      parts_more 32 ([] ∷ []) xs h ∙ rw (take_all (length xs - (r + 1)) (drop (r + 1) xs) whole, space.is, add-one)
+  pub a_space : {i : ℕ} → position (λ x. eqb x 32) xs ≡ Some i → words_of xs ≡ take i xs ∷ words_of (take (length xs - (i + 1)) (drop (i + 1) xs))
+  a_space {i} e =
+      let (is, within) = place_some 32 xs i e in
+      let whole : length (drop (i + 1) xs) ≤ length xs - (i + 1) = simp length-drop (omega arith) in
+      parts_more 32 ([] ∷ []) xs (omega arith) ∙ rw (take_all (length xs - (i + 1)) (drop (i + 1) xs) whole, is, add-one)
+
+-- no line is in a text of no bytes
+pub no_text : (xs : List ℕ) → length xs ≡ 0 → lines_of xs ≡ []
+unfolding parts_at
+no_text [] e = refl
+no_text (x ∷ xs) e = absurd (omega arith)
+
+-- the first line of a text, in which a newline was looked for
+module _ (xs : List ℕ) where
+  pub a_line : {i : ℕ} → position (λ x. eqb x 10) xs ≡ Some i → lines_of xs ≡ take i xs ∷ lines_of (take (length xs - (i + 1)) (drop (i + 1) xs))
+  a_line {i} e =
+      let (is, within) = place_some 10 xs i e in
+      let whole : length (drop (i + 1) xs) ≤ length xs - (i + 1) = simp length-drop (omega arith) in
+      lines_more xs (omega arith) ∙ rw (take_all (length xs - (i + 1)) (drop (i + 1) xs) whole, is, add-one)
+
+  pub only_line : 0 < length xs → position (λ x. eqb x 10) xs ≡ None → lines_of xs ≡ xs ∷ lines_of []
+  only_line h e =
+      let n = place_none 10 xs e in
+      lines_more xs h ∙ rw (n, take-length xs, drop_of_length-le xs {i = suc (length xs)} (omega arith))
 
 -- a line of five words or more is no edit
-pub five_words : (w s e v xs : List ℕ) → words_line (w ∷ s ∷ e ∷ v ∷ words_of xs) ≡ Line.Neither
+pub five_words : (w s e v xs : List ℕ) → words_line (w ∷ s ∷ e ∷ v ∷ words_of xs) ≡ None
 five_words w s e v xs = let (p, (ps, is)) = words_some xs in rw is
-
--- A SEARCH
-
--- a byte that is not at a place is behind it
-pub find_more : (text : List ℕ) (to i b : ℕ) {r : ℕ} → i < to → to ≤ length text → (get_or text i 0 ≡ b → ⊥)
-    → r ≡ i + index_of b (drop i (take to text)) → r ≡ i + 1 + index_of b (drop (i + 1) (take to text))
-unfolding index_of
-find_more text to i b h w n e =
-    let l : length (take to text) ≡ to = length-take-le to text w in
-    e ∙ rw (drop-cons (take to text) i 0 (omega arith), get_or-take to text i 0 h, ne_eqb (get_or text i 0) b n, add-one i) (omega arith)
-
--- one that is at a place is found there
-pub find_here : (text : List ℕ) (to i b : ℕ) → i < to → to ≤ length text → get_or text i 0 ≡ b → i ≡ i + index_of b (drop i (take to text))
-unfolding index_of
-find_here text to i b h w e =
-    let l : length (take to text) ≡ to = length-take-le to text w in
-    rw (drop-cons (take to text) i 0 (omega arith), get_or-take to text i 0 h, eq-eqb (get_or text i 0) b e) (omega arith)
-
--- one that is nowhere is found at the end
-pub find_none : (text : List ℕ) (to b : ℕ) → to ≤ length text → to ≡ to + index_of b (drop to (take to text))
-unfolding index_of
-find_none text to b w = rw (drop_of_length-le (take to text) {i = to} (omega (arith, length-take-le to text w))) (omega arith)

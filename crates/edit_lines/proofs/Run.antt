@@ -4,19 +4,25 @@ use mathlib.Core.Path.{◌≡◌, refl, ap}
 use mathlib.Core.Bool.{Bool, true, false, cond}
 use mathlib.Core.List.{List, [], ◌∷◌}
 use mathlib.Core.Option.{some}
+use native.Mathlib.Omega.{arith}
+use Rattle.std.specs.Prelude.{Some, None, Result, Ok, Err, ⊤}
+use Rattle.answers.specs.Refusals.{number}
+use Rattle.answers.specs.declared.Refusal.{Refusal}
+use Rattle.outcomes.specs.Answered.{Outcome}
+use Rattle.outcomes.proofs.Went.{number_one}
 use lib.Dec.{eqb}
 use lib.IntN.{pos, negsuc}
 use Rattle.key.specs.Range.{half_open}
 use Rattle.key.proofs.Answers.{one_answer}
-use Rattle.outcomes.specs.Stored.{Stored}
+use Rattle.outcomes.specs.declared.Stored.{Stored}
 use Rattle.outcomes.specs.Outcomes.{Edited, Change, edit, clear, edits}
 use Rattle.byte_form.specs.Form.{same_bytes}
 use Rattle.decimal.specs.Reading.{no_leading_zero, next_of, read_on, read_number, as_natural, as_negative, read_signed}
 use Rattle.filling.specs.Filling.{ascii}
 use Rattle.edit_lines.specs.Parts.{ahead, parts_at, lines_of}
-use Rattle.edit_lines.specs.Making.{line_of, change_of, Making, making, makes, made_of}
+use Rattle.edit_lines.specs.Making.{line_of, change_of, Made, Done, Refused, NotAnEdit, made, Making, making, makes, made_of}
 use Rattle.edit_lines.specs.declared.Line.TheVariants as Line
-use Rattle.edit_lines.specs.declared.Made.{Made}
+use Rattle.edit_lines.specs.declared.NotMade.{NotMade}
 
 -- lines that are these edits
 pub data Edits : List (List ℕ) → List Change → Type 0 where
@@ -25,9 +31,9 @@ pub data Edits : List (List ℕ) → List Change → Type 0 where
 
 -- the number of what `make` answers
 abbrev pub answer_of : Made → ℕ
-answer_of Made.Done = 0
-answer_of (Made.Refused n a) = a
-answer_of (Made.NotAnEdit n) = 0
+answer_of Done = 0
+answer_of (Refused n a) = a
+answer_of (NotAnEdit n) = 0
 
 pub record Same (r : Making) (o : Edited) : Type 0 where
   pub answer : answer_of r.told ≡ o.answer
@@ -42,7 +48,7 @@ same_lines n m (more {ls = ls} {c = c} {cs = cs} is rest) =
     rw is (go one ih (eqb one.answer 0))
   where
     go : (one : Edited) → Same (makes (suc n) one.left ls) (edits half_open one.left cs) → (t : Bool)
-        → Same (cond t (makes (suc n) one.left ls) (making (Made.Refused (suc n) one.answer) one.left)) (cond t (edits half_open one.left cs) one)
+        → Same (cond t (makes (suc n) one.left ls) (making (Refused (suc n) one.answer) one.left)) (cond t (edits half_open one.left cs) one)
     go one ih true = ih
     go one ih false = record { answer = refl; left = refl }
 
@@ -56,23 +62,23 @@ unfoldable all : Unit {0}
 unfolding ahead parts_at same_bytes no_leading_zero next_of read_on read_number as_natural as_negative read_signed line_of
 all = tt
 
-pub an_insert : line_of (ascii "insert -5 5 255") ≡ Line.Insert (negsuc 4) (pos 5) 255
+pub an_insert : line_of (ascii "insert -5 5 255") ≡ Some (Line.Insert (negsuc 4) (pos 5) 255)
 unfolding all
 an_insert = refl
 
-pub a_remove : line_of (ascii "remove 3 6") ≡ Line.Remove (pos 3) (pos 6)
+pub a_remove : line_of (ascii "remove 3 6") ≡ Some (Line.Remove (pos 3) (pos 6))
 unfolding all
 a_remove = refl
 
-pub value_256 : line_of (ascii "insert 0 5 256") ≡ Line.Neither
+pub value_256 : line_of (ascii "insert 0 5 256") ≡ None
 unfolding all
 value_256 = refl
 
-pub two_spaces : line_of (ascii "remove  3 6") ≡ Line.Neither
+pub two_spaces : line_of (ascii "remove  3 6") ≡ None
 unfolding all
 two_spaces = refl
 
-pub leading_zero : line_of (ascii "remove 03 6") ≡ Line.Neither
+pub leading_zero : line_of (ascii "remove 03 6") ≡ None
 unfolding all
 leading_zero = refl
 
@@ -84,6 +90,36 @@ pub ended_line : lines_of (ascii "a\n\n") ≡ ascii "a" ∷ [] ∷ []
 unfolding all
 ended_line = refl
 
+-- the number of a refusal is of no other
+number_told : {a b : Refusal} → number a ≡ number b → a ≡ b
+number_told {a} {b} e = ap (why_of a) (number_one (Err a) (Err b) e)
+  where
+    why_of : Refusal → Outcome → Refusal
+    why_of other (Ok u) = other
+    why_of other (Err why) = why
+
+-- what `make` answers, by how it is told
+abbrev kind_of_made : Made → ℕ
+kind_of_made Done = 0
+kind_of_made (Refused n a) = 1
+kind_of_made (NotAnEdit n) = 2
+
+abbrev line_of_made : Made → ℕ
+line_of_made Done = 0
+line_of_made (Refused n a) = n
+line_of_made (NotAnEdit n) = n
+
+made_one : (r t : Result ⊤ NotMade) → made r ≡ made t → r ≡ t
+made_one (Ok u) (Ok v) e = refl
+made_one (Ok u) (Err (NotMade.Refused n a)) e = absurd (omega (arith, ap kind_of_made e))
+made_one (Ok u) (Err (NotMade.NotAnEdit n)) e = absurd (omega (arith, ap kind_of_made e))
+made_one (Err (NotMade.Refused n a)) (Ok u) e = absurd (omega (arith, ap kind_of_made e))
+made_one (Err (NotMade.Refused n a)) (Err (NotMade.Refused m b)) e = rw (ap line_of_made e, number_told {a = a} {b = b} (ap answer_of e))
+made_one (Err (NotMade.Refused n a)) (Err (NotMade.NotAnEdit m)) e = absurd (omega (arith, ap kind_of_made e))
+made_one (Err (NotMade.NotAnEdit n)) (Ok u) e = absurd (omega (arith, ap kind_of_made e))
+made_one (Err (NotMade.NotAnEdit n)) (Err (NotMade.Refused m b)) e = absurd (omega (arith, ap kind_of_made e))
+made_one (Err (NotMade.NotAnEdit n)) (Err (NotMade.NotAnEdit m)) e = rw (ap line_of_made e)
+
 -- ONE OUTCOME of `make`: what it answers, and the map that it leaves
-pub making_one : {r t : Made} {m n : Stored} {o : Making} → making r m ≡ o → making t n ≡ o → (r ≡ t) × (m ≡ n)
-making_one a b = (ap (λ (o : Making). o.told) (one_answer a b), ap (λ (o : Making). o.left) (one_answer a b))
+pub making_one : {r t : Result ⊤ NotMade} {m n : Stored} {o : Making} → making (made r) m ≡ o → making (made t) n ≡ o → (r ≡ t) × (m ≡ n)
+making_one {r} {t} a b = (made_one r t (ap (λ (o : Making). o.told) (one_answer a b)), ap (λ (o : Making). o.left) (one_answer a b))

@@ -1,19 +1,7 @@
 -- What the functions of this crate say to each other.
-use Rattle.std.specs.Prelude.{ℕ, suc, ◌≤◌, ◌≡◌, cond, List, [], ◌∷◌, length, eqb}
-use Rattle.outcomes.specs.declared.Outcome.{Outcome}
-use Rattle.edit_lines.specs.declared.Made.{Made}
-
--- how line n went, by its edit
-abbrev pub made_by : ℕ → Outcome → Made
-made_by n Outcome.Done = Made.Done
-made_by n (Outcome.Refused a) = Made.Refused n a
+use Rattle.std.specs.Prelude.{ℕ, suc, cond, List, [], ◌∷◌, eqb}
 
 -- where a byte first stands in a text, or the text's length
 unfoldable pub index_of : ℕ → List ℕ → ℕ
 index_of b [] = 0
 index_of b (x ∷ xs) = cond (eqb x b) 0 (suc (index_of b xs))
-
--- where the first space of a text is, or the text's length
-pub record SpaceAt (text : List ℕ) (r : ℕ) : Type 0 where
-  pub is : r ≡ index_of 32 text
-  pub within : r ≤ length text

@@ -5,114 +5,79 @@ pub mod said;
 mod scan;
 mod words;
 
-ghost use Rattle.std.specs.Prelude.{◌≡◌, ◌+◌, ◌≤◌, min};
-ghost use Rattle.outcomes.specs.Stored.{stored};
-ghost use Rattle.edit_lines.specs.InnerStep.{made_by};
+ghost use Rattle.std.specs.Prelude.{◌≡◌, ◌<◌, [], ◌∷◌, length};
+ghost use Rattle.std.specs.Option.{MatchOption};
 ghost use Rattle.edit_lines.specs.Parts.{lines_of};
-ghost use Rattle.edit_lines.specs.Making.{line_of, change_of, making, line_done, makes, made_of};
+ghost use Rattle.edit_lines.specs.Making.{line_of, change_of, Done, made, making, line_done, makes, made_of};
 
-use key::{RangeKind, Value};
-use outcomes::{Outcome, PLACES};
-use scan::find;
+use answers::Refusal;
+use key::RangeKind;
+use outcomes::Stored;
+use scan::place_of;
 
-// What a line is.
+// What a line that is an edit asks for.
 #[derive(Clone, Copy)]
 pub enum Line {
     Insert(i64, i64, u8),
     Remove(i64, i64),
-    Neither,
 }
 
-// How the lines of a text went. Lines count from 1; a refusal has the number of document 01's table.
+// Why the lines of a text were not all done, and at which line. Lines count from 1.
 #[derive(Clone, Copy)]
-pub enum Made {
-    Done,
-    Refused(usize, u8),
+pub enum NotMade {
+    Refused(usize, Refusal),
     NotAnEdit(usize),
 }
 
 const NEWLINE: u8 = 10;
 
-// How line `n` went, by its edit.
-fn told(n: usize, went: Outcome) -> Made
-    ensures { result ≡ made_by n went }
-{
-    match went {
-        Outcome::Done => Made::Done,
-        Outcome::Refused(answer) => Made::Refused(n, answer),
-    }
-}
-
 // Line `n`, done on a map.
-fn line_done(
-    line: &[u8],
-    n: usize,
-    count: &mut usize,
-    starts: &mut [i64; PLACES],
-    ends: &mut [i64; PLACES],
-    values: &mut [Value; PLACES],
-) -> Made
-    ensures { making result (stored count.new starts.new ends.new values.new)
-        ≡ line_done n (stored count.old starts.old ends.old values.old)
-        (change_of (line_of line.now)) (making Made.Done) }
+fn line_done(line: &[u8], n: usize, m: &mut Stored) -> Result<(), NotMade>
+    ensures { making (made result) m.new
+        ≡ line_done n m.old
+        (change_of (line_of line.now)) (making Done) }
 {
-    let is = words::line_of(line);
-    match is {
-        Line::Insert(s, e, v) => told(
-            n,
-            map_ops::change::insert(RangeKind::HalfOpen, count, starts, ends, values, s, e, v),
-        ),
-        Line::Remove(s, e) => told(
-            n,
-            map_ops::change::remove(RangeKind::HalfOpen, count, starts, ends, values, s, e),
-        ),
-        Line::Neither => Made::NotAnEdit(n),
-    }
+    let edit = words::line_of(line).ok_or(NotMade::NotAnEdit(n))?;
+    let went = match edit {
+        Line::Insert(s, e, v) => map_ops::change::insert(RangeKind::HalfOpen, m, s, e, v),
+        Line::Remove(s, e) => map_ops::change::remove(RangeKind::HalfOpen, m, s, e),
+    };
+    went.map_err(|why| NotMade::Refused(n, why))
 }
 
-// The place behind the newline at `end`, or the end of the text.
-fn behind(end: usize, length: usize) -> usize
-    requires { end ≤ length }
-    ensures { result ≡ min (end + 1) length }
+// The first line and what is behind its newline, or nothing where the text is empty.
+fn first_line(text: &[u8]) -> Option<(&[u8], &[u8])>
+    ensures { MatchOption result (lines_of text.now ≡ [])
+        (λ cut. (lines_of text.now ≡ cut.0.now ∷ lines_of cut.1.now) × (length cut.1.now < length text.now)) }
 {
-    if end < length { end + 1 } else { length }
+    if text.is_empty() {
+        return None;
+    }
+    match place_of(text, NEWLINE) {
+        Some(end) => Some((&text[..end], &text[end + 1..])),
+        None => Some((text, &text[..0])),
+    }
 }
 
 // The lines of a text, done on a map.
-fn lines_done(
-    text: &[u8],
-    count: &mut usize,
-    starts: &mut [i64; PLACES],
-    ends: &mut [i64; PLACES],
-    values: &mut [Value; PLACES],
-) -> Made
-    ensures { making result (stored count.new starts.new ends.new values.new)
-        ≡ makes 0 (stored count.old starts.old ends.old values.old) (lines_of text.now) }
+fn lines_done(text: &[u8], m: &mut Stored) -> Result<(), NotMade>
+    ensures { making (made result) m.new
+        ≡ makes 0 m.old (lines_of text.now) }
 {
-    let mut from = 0;
+    let mut rest = text;
     let mut n = 0;
-    while from < text.len() {
-        let end = find(text, from, text.len(), NEWLINE);
+    while let Some((line, behind)) = first_line(rest) {
         n += 1;
-        let done = line_done(&text[from..end], n, count, starts, ends, values);
-        let Made::Done = done else {
-            return done;
-        };
-        from = behind(end, text.len());
+        line_done(line, n, m)?;
+        rest = behind;
     }
-    Made::Done
+    Ok(())
 }
 
 // What a text makes from nothing. It overwrites its map, so it does not check it.
-pub fn make(
-    text: &[u8],
-    count: &mut usize,
-    starts: &mut [i64; PLACES],
-    ends: &mut [i64; PLACES],
-    values: &mut [Value; PLACES],
-) -> Made
-    ensures { making result (stored count.new starts.new ends.new values.new) ≡ made_of text.now }
+pub fn make(text: &[u8], m: &mut Stored) -> Result<(), NotMade>
+    ensures { making (made result) m.new ≡ made_of text.now }
 {
-    map_ops::change::clear(count, starts, ends, values);
-    lines_done(text, count, starts, ends, values)
+    map_ops::change::clear(m);
+    lines_done(text, m)
 }

@@ -1,24 +1,24 @@
 // What is said of a text that makes nothing.
 ghost use Rattle.filling.specs.Filling.{AddsWithin};
-ghost use Rattle.edit_lines.specs.Making.{told_text};
+ghost use Rattle.edit_lines.specs.Making.{made, told_text};
 
-use crate::Made;
+use crate::NotMade;
 use filling::fill;
 
 // The most bytes that it takes: two numbers of 20 bytes, and the words around them.
 pub const TOLD_ROOM: usize = 50;
 
 // It is put at the start of lent bytes, and its length is answered: 0 of a text that was done.
-pub fn told_text(made: Made, out: &mut [u8; TOLD_ROOM]) -> usize
-    ensures { AddsWithin 50 (told_text made) out.old 0 out.new result }
+pub fn told_text(went: Result<(), NotMade>, out: &mut [u8; TOLD_ROOM]) -> usize
+    ensures { AddsWithin 50 (told_text (made went)) out.old 0 out.new result }
 {
-    match made {
-        Made::Done => 0,
-        Made::Refused(n, answer) => {
-            let numbers = [n as u64, answer as u64];
+    match went {
+        Ok(()) => 0,
+        Err(NotMade::Refused(n, why)) => {
+            let numbers = [n as u64, u64::from(why.number())];
             fill(out, 0, b"line {: {\n", &numbers)
         }
-        Made::NotAnEdit(n) => {
+        Err(NotMade::NotAnEdit(n)) => {
             let numbers = [n as u64];
             fill(out, 0, b"line {: not an edit\n", &numbers)
         }

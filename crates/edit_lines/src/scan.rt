@@ -1,18 +1,9 @@
 // A search for a byte.
-ghost use Rattle.std.specs.Prelude.{◌≡◌, ◌+◌, ◌≤◌, length, take, drop};
-ghost use Rattle.edit_lines.specs.InnerStep.{index_of};
+ghost use Rattle.std.specs.Prelude.{◌≡◌, ◌==◌, position};
 
-// Where a byte first stands in the part `from..to` of a text, or the part's end where it does not.
-pub fn find(text: &[u8], from: usize, to: usize, byte: u8) -> usize
-    requires { (from ≤ to) × (to ≤ length text.now) }
-    ensures { (result ≡ from + index_of byte (drop from (take to text.now))) × (result ≤ to) }
+// Where a byte first stands in a text.
+pub fn place_of(text: &[u8], byte: u8) -> Option<usize>
+    ensures { result ≡ position (λ b. b == byte) text.now }
 {
-    let mut i = from;
-    while i < to {
-        if text[i] == byte {
-            return i;
-        }
-        i += 1;
-    }
-    to
+    text.iter().position(|b| *b == byte)
 }

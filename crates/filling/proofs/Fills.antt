@@ -1,18 +1,18 @@
 -- The steps of the loop that fills numbers in.
-use Prim.Native.Nat.{ℕ, suc, ◌+◌, ◌*◌, ◌^◌, ◌≤◌, ◌<◌}
+use Prim.Native.Nat.{ℕ, ◌+◌, ◌*◌, ◌^◌, ◌≤◌, ◌<◌}
 use native.Mathlib.Omega.{arith}
 use native.Mathlib.Numerals.{add-one}
 use mathlib.Core.Path.{◌≡◌, refl, sym, ap, ◌∙◌}
 use mathlib.Core.List.{List, [], ◌∷◌, ◌++◌, append_assoc, append-nil}
 use borrow.Author.Tests.{eq-eqb, ne_eqb}
-use lib.ListN.{length, get_or, take, drop, drop_of_length-le, take-append-drop}
-use lib.Seq.{take-suc, drop-cons}
+use lib.ListN.{length, get_or, take}
+use lib.Seq.{take-suc, take_all}
 use Rattle.text.specs.Text.{Adds}
 use Rattle.text.proofs.Laws.{adds_none, adds_then, adds_as}
 use Rattle.decimal.specs.Decimal.{longest_number, decimal_text}
 use Rattle.decimal.proofs.Digits.{length_u64}
 use Rattle.filling.specs.Filling.{hole, piece_of, left_by, filled_in, filled_room, AddsWithin}
-use Rattle.filling.specs.InnerFill.{left_after, Piece, NextNumber}
+use Rattle.filling.specs.InnerFill.{left_after, Piece}
 
 -- one byte more
 filled_end : (t : List ℕ) (c : ℕ) (ns : List ℕ) → filled_in (t ++ (c ∷ [])) ns ≡ filled_in t ns ++ piece_of c (left_after t ns)
@@ -25,37 +25,32 @@ unfolding left_after
 after_end [] c ns = refl
 after_end (b ∷ t) c ns = after_end t c (left_by b ns)
 
--- WHAT THE LOOP KNOWS before the byte i, where k numbers are used
-pub record FilledUpto (t ns out : List ℕ) (at i k : ℕ) (out₁ : List ℕ) (r : ℕ) : Type 0 where
-  pub passed : i ≤ length t
-  pub used : k ≤ length ns
-  pub left : drop k ns ≡ left_after (take i t) ns
+-- WHAT THE LOOP KNOWS before the byte i, where the numbers `left` are not used yet
+pub record FilledUpto (t ns out : List ℕ) (at i : ℕ) (left out₁ : List ℕ) (r : ℕ) : Type 0 where
+  pub rest : left ≡ left_after (take i t) ns
   pub adds : Adds (filled_in (take i t) ns) out at out₁ r
-  pub room : r + longest_number * length (drop k ns) ≤ at + i + longest_number * length ns
+  pub room : r + longest_number * length left ≤ at + i + longest_number * length ns
 
-pub filling_none : (t ns out : List ℕ) (at : ℕ) → FilledUpto t ns out at 0 0 out at
+pub filling_none : (t ns out : List ℕ) (at : ℕ) → FilledUpto t ns out at 0 ns out at
 unfolding filled_in left_after
-filling_none t ns out at = record { passed = omega arith; used = omega arith; left = refl; adds = adds_none out at; room = omega arith }
+filling_none t ns out at = record { rest = refl; adds = adds_none out at; room = omega arith }
 
-pub filling_more : {t ns out out₁ out₂ : List ℕ} {at i k l r₁ r₂ : ℕ} → i < length t → FilledUpto t ns out at i k out₁ r₁
-    → Piece (get_or t i 0) (drop k ns) out₁ r₁ out₂ r₂ → NextNumber (get_or t i 0) k ns l → FilledUpto t ns out at (i + 1) l out₂ r₂
-filling_more {t} {ns} {out} {out₁} {out₂} {at} {i} {k} {l} {r₁} {r₂} h f p n =
+pub filling_more : {t ns out out₁ out₂ left less : List ℕ} {at i r₁ r₂ : ℕ} → i < length t → FilledUpto t ns out at i left out₁ r₁
+    → Piece (get_or t i 0) left out₁ r₁ out₂ r₂ → less ≡ left_by (get_or t i 0) left → FilledUpto t ns out at (i + 1) less out₂ r₂
+filling_more {t} {ns} {out} {out₁} {out₂} {left} {less} {at} {i} {r₁} {r₂} h f p n =
     let c : ℕ = get_or t i 0 in
     let s : take (i + 1) t ≡ take i t ++ (c ∷ []) = rw (add-one i) (take-suc t i 0 h) in
-    let same : filled_in (take i t) ns ++ piece_of c (drop k ns) ≡ filled_in (take (i + 1) t) ns = rw (s, f.left) (sym (filled_end (take i t) c ns)) in
+    let same : filled_in (take i t) ns ++ piece_of c left ≡ filled_in (take (i + 1) t) ns = rw (s, f.rest) (sym (filled_end (take i t) c ns)) in
     record {
-      passed = omega arith;
-      used = n.held;
-      left = n.left ∙ rw (s, f.left) (sym (after_end (take i t) c ns));
+      rest = n ∙ rw (s, f.rest) (sym (after_end (take i t) c ns));
       adds = adds_as same (adds_then f.adds p.adds);
-      room = omega (arith, f.room, p.room, ap length n.left);
+      room = omega (arith, f.room, p.room, ap length n);
     }
 
-pub filling_done : {t ns out out₁ : List ℕ} {at i k r : ℕ} → length t ≤ i → FilledUpto t ns out at i k out₁ r
+pub filling_done : {t ns out out₁ left : List ℕ} {at i r : ℕ} → i ≡ length t → FilledUpto t ns out at i left out₁ r
     → AddsWithin (filled_room t ns) (filled_in t ns) out at out₁ r
 filling_done {t} {ns} {i = i} h f =
-    let w : take i t ≡ t = rw (drop_of_length-le t {i = i} h, append-nil) at (take-append-drop i t) in
-    record { adds = adds_as (ap (λ (u : List ℕ). filled_in u ns) w) f.adds; within = omega (arith, f.room, f.passed) }
+    record { adds = adds_as (ap (λ (u : List ℕ). filled_in u ns) (take_all i t (omega arith))) f.adds; within = omega (arith, f.room) }
 
 -- A BYTE THAT IS NO HOLE, a hole with a number, and one with none
 no_hole : (c : ℕ) (ns : List ℕ) → (c ≡ hole → ⊥) → (piece_of c ns ≡ c ∷ []) × (left_by c ns ≡ ns)
@@ -71,25 +66,21 @@ a_hole : (c n : ℕ) (ns : List ℕ) → c ≡ hole → (piece_of c (n ∷ ns) �
 unfolding piece_of left_by
 a_hole c n ns h = (rw (eq-eqb c hole h), rw (eq-eqb c hole h))
 
-module _ (c : ℕ) (ns : List ℕ) (k : ℕ) where
-  pub plain_piece : {out out₁ : List ℕ} {at r : ℕ} → (c ≡ hole → ⊥) → Adds (c ∷ []) out at out₁ r → Piece c (drop k ns) out at out₁ r
-  plain_piece h a = let p = no_hole c (drop k ns) h in record { adds = adds_as (sym p.0) a; room = rw p.1 (omega (arith, a.upto)) }
+no_elements : (l : List ℕ) → length l ≡ 0 → l ≡ []
+no_elements [] e = refl
+no_elements (a ∷ l) e = absurd (omega arith)
 
-  pub plain_next : (c ≡ hole → ⊥) → k ≤ length ns → NextNumber c k ns k
-  plain_next h b = record { held = b; left = sym (no_hole c (drop k ns) h).1 }
+module _ (c : ℕ) (ns : List ℕ) {out out₁ : List ℕ} {at r : ℕ} where
+  pub plain_piece : (c ≡ hole → ⊥) → Adds (c ∷ []) out at out₁ r → Piece c ns out at out₁ r × (ns ≡ left_by c ns)
+  plain_piece h a = let p = no_hole c ns h in (record { adds = adds_as (sym p.0) a; room = rw p.1 (omega (arith, a.upto)) }, sym p.1)
 
-  pub last_piece : {out out₁ : List ℕ} {at r : ℕ} → length ns ≤ k → Adds (c ∷ []) out at out₁ r → Piece c (drop k ns) out at out₁ r
-  last_piece b a = rw (drop_of_length-le ns {i = k} b) (record { adds = adds_as (sym (no_numbers c).0) a; room = rw (no_numbers c).1 (omega (arith, a.upto)) })
+  pub last_piece : length ns ≡ 0 → Adds (c ∷ []) out at out₁ r → Piece c ns out at out₁ r × (ns ≡ left_by c ns)
+  last_piece e a =
+      let p = no_numbers c in
+      let none : ns ≡ [] = no_elements ns e in
+      rw none (record { adds = adds_as (sym p.0) a; room = rw p.1 (omega (arith, a.upto)) }, sym p.1)
 
-  pub last_next : length ns ≤ k → k ≤ length ns → NextNumber c k ns k
-  last_next b h = record { held = h; left = drop_of_length-le ns {i = k} b ∙ sym (no_numbers c).1 ∙ ap (left_by c) (sym (drop_of_length-le ns {i = k} b)) }
-
-  pub number_piece : {out out₁ : List ℕ} {at r n : ℕ} → c ≡ hole → k < length ns → n ≡ get_or ns k 0 → n < 2 ^ 64 → Adds (decimal_text n) out at out₁ r
-      → Piece c (drop k ns) out at out₁ r
-  number_piece {n = n} h b e f a =
-      let p = a_hole c n (drop (suc k) ns) h in
-      let d : drop k ns ≡ n ∷ drop (suc k) ns = drop-cons ns k 0 b ∙ rw e in
-      rw d (record { adds = adds_as (sym p.0) a; room = rw p.1 (omega (arith, a.upto, length_u64 n f)) })
-
-  pub number_next : c ≡ hole → k < length ns → NextNumber c k ns (k + 1)
-  number_next h b = record { held = omega arith; left = rw (add-one k, drop-cons ns k 0 b) (sym (a_hole c (get_or ns k 0) (drop (suc k) ns) h).1) }
+  pub number_piece : {n : ℕ} {rest : List ℕ} → c ≡ hole → ns ≡ n ∷ rest → n < 2 ^ 64 → Adds (decimal_text n) out at out₁ r → Piece c ns out at out₁ r × (rest ≡ left_by c ns)
+  number_piece {n} {rest} h e f a =
+      let p = a_hole c n rest h in
+      rw e (record { adds = adds_as (sym p.0) a; room = rw p.1 (omega (arith, a.upto, length_u64 n f)) }, sym p.1)

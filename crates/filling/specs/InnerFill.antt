@@ -1,5 +1,5 @@
 -- What the functions that fill numbers in say to each other.
-use Rattle.std.specs.Prelude.{ℕ, ◌+◌, ◌*◌, ◌≤◌, ◌≡◌, List, [], ◌∷◌, length, drop}
+use Rattle.std.specs.Prelude.{ℕ, ◌+◌, ◌*◌, ◌≤◌, List, [], ◌∷◌, length}
 use Rattle.text.specs.Text.{Adds}
 use Rattle.decimal.specs.Decimal.{longest_number}
 use Rattle.filling.specs.Filling.{piece_of, left_by}
@@ -13,8 +13,3 @@ left_after (c ∷ t) ns = left_after t (left_by c ns)
 pub record Piece (c : ℕ) (ns out : List ℕ) (at : ℕ) (out₁ : List ℕ) (r : ℕ) : Type 0 where
   pub adds : Adds (piece_of c ns) out at out₁ r
   pub room : r + longest_number * length (left_by c ns) ≤ at + 1 + longest_number * length ns
-
--- r is the place of the next number behind a byte that has its numbers from the place k on
-pub record NextNumber (c k : ℕ) (ns : List ℕ) (r : ℕ) : Type 0 where
-  pub held : r ≤ length ns
-  pub left : drop r ns ≡ left_by c (drop k ns)

@@ -9,79 +9,57 @@ ghost use Rattle.std.specs.Prelude.{◌≡◌, ◌+◌, ◌≤◌, ◌<◌, leng
 ghost use Rattle.key.specs.InnerDecides.{Decides};
 ghost use Rattle.key.specs.Rank.{rank};
 ghost use Rattle.key.specs.Range.{kind_of};
-ghost use Rattle.outcomes.specs.Stored.{Sound, stored};
+ghost use Rattle.outcomes.specs.Stored.{Sound};
 ghost use Rattle.outcomes.specs.Outcomes.{gaps_sound};
 ghost use Rattle.range_list.specs.InnerLists.{wrote, ListRoom, Puts};
-ghost use Rattle.gaps.specs.InnerWalk.{gap, gaps_found, Places};
+ghost use Rattle.gaps.specs.InnerWalk.{gap, gaps_found};
 
-use answers::{EMPTY_RANGE, TOO_SHORT};
-use key::{Bounds, RangeKind, Value, after, end_before, full};
-use outcomes::Counted;
-use range_list::{put, shorter};
+use answers::Refusal;
+use key::{Bounds, RangeKind, after, end_before, full};
+use outcomes::Stored;
+use range_list::put;
 use store::search::reaching;
 
 // How many gaps lie between the cursor and the next range: one or none.
 fn between(cursor: i64, start: i64) -> usize
     ensures { result ≡ length (gap (rank cursor) (rank start)) }
 {
-    if cursor < start {
-        return 1;
-    }
-    0
+    usize::from(cursor < start)
 }
 
 // How many gaps the places from `from` on leave in the outer range.
-fn counted(
-    kind: RangeKind,
-    starts: &[i64],
-    ends: &[i64],
-    count: usize,
-    from: usize,
-    outer: Bounds,
-) -> usize
-    requires { Places count from starts.now ends.now × (rank outer.start < (kind_of kind).past outer.end) }
-    ensures { result ≡ length (gaps_found (kind_of kind) starts.now ends.now count from outer) }
+fn counted(kind: RangeKind, m: &Stored, from: usize, outer: Bounds) -> usize
+    requires sound { Sound (kind_of kind) m.now }
+    requires from_in { from ≤ m.now.count }
+    requires outer_full { rank outer.start < (kind_of kind).past outer.end }
+    ensures { result ≡ length (gaps_found (kind_of kind) m.now from outer) }
 {
     let end = outer.end;
     let mut n = 0;
     let mut cursor = outer.start;
-    let mut k = from;
-    while k < count {
-        let s = starts[k];
-        if !full(kind, s, end) {
+    for k in from..m.count {
+        let first = m.starts[k];
+        if !full(kind, first, end) {
             return n + 1;
         }
-        n += between(cursor, s);
-        let e = ends[k];
-        if end <= e {
+        n += between(cursor, first);
+        let stop = m.ends[k];
+        if end <= stop {
             return n;
         }
-        cursor = after(kind, e);
-        k += 1;
+        cursor = after(kind, stop);
     }
     n + 1
 }
 
 // Whether `room` places are enough for the gaps. There is at most one before each range, and one more, so mostly none is counted.
-fn fits(
-    kind: RangeKind,
-    starts: &[i64],
-    ends: &[i64],
-    count: usize,
-    from: usize,
-    outer: Bounds,
-    room: usize,
-) -> bool
-    requires { Places count from starts.now ends.now × (rank outer.start < (kind_of kind).past outer.end) }
-    ensures { Decides result (length (gaps_found (kind_of kind) starts.now ends.now count from outer) ≤ room) }
+fn fits(kind: RangeKind, m: &Stored, from: usize, outer: Bounds, room: usize) -> bool
+    requires sound { Sound (kind_of kind) m.now }
+    requires from_in { from ≤ m.now.count }
+    requires outer_full { rank outer.start < (kind_of kind).past outer.end }
+    ensures { Decides result (length (gaps_found (kind_of kind) m.now from outer) ≤ room) }
 {
-    if count - from < room {
-        return true;
-    }
-    if room < counted(kind, starts, ends, count, from, outer) {
-        return false;
-    }
-    true
+    m.count - from < room || counted(kind, m, from, outer) <= room
 }
 
 // Writes the gap from the cursor up to the next range into place `n`, if there is one, and answers the next place.
@@ -106,70 +84,65 @@ fn write_before(
 }
 
 // Writes the gaps, and answers how many there are. The cursor goes past a range only where the outer end was seen to lie after it.
+// It has the loop of `counted` again: a closure that puts a gap can be called only while there is room, which one loop would have to promise at each step.
 fn write(
     kind: RangeKind,
-    starts: &[i64],
-    ends: &[i64],
-    count: usize,
+    m: &Stored,
     from: usize,
     outer: Bounds,
     out_starts: &mut [i64],
     out_ends: &mut [i64],
 ) -> usize
-    requires { Places count from starts.now ends.now × (rank outer.start < (kind_of kind).past outer.end)
-        × ListRoom 0 (gaps_found (kind_of kind) starts.now ends.now count from outer) out_starts.old out_ends.old }
-    ensures { (result ≡ length (gaps_found (kind_of kind) starts.now ends.now count from outer))
-        × Puts (kind_of kind) 0 (gaps_found (kind_of kind) starts.now ends.now count from outer)
+    requires sound { Sound (kind_of kind) m.now }
+    requires from_in { from ≤ m.now.count }
+    requires outer_full { rank outer.start < (kind_of kind).past outer.end }
+    requires room { ListRoom 0 (gaps_found (kind_of kind) m.now from outer) out_starts.old out_ends.old }
+    ensures { (result ≡ length (gaps_found (kind_of kind) m.now from outer))
+        × Puts (kind_of kind) 0 (gaps_found (kind_of kind) m.now from outer)
         out_starts.old out_ends.old out_starts.new out_ends.new }
 {
     let end = outer.end;
     let mut at = 0;
     let mut cursor = outer.start;
-    let mut k = from;
-    while k < count {
-        let next = starts[k];
+    for k in from..m.count {
+        let next = m.starts[k];
         if !full(kind, next, end) {
             put(out_starts, out_ends, at, cursor, end);
             return at + 1;
         }
         at = write_before(kind, out_starts, out_ends, at, cursor, next);
-        let last = ends[k];
+        let last = m.ends[k];
         if end <= last {
             return at;
         }
         cursor = after(kind, last);
-        k += 1;
     }
     put(out_starts, out_ends, at, cursor, end);
     at + 1
 }
 
-// GAPS. The walk begins at the first range that the outer range's start has not passed. The values are lent as a part of the map, and none is read.
+// GAPS. The walk begins at the first range that the outer range's start has not passed. No value is read.
 pub fn gaps(
     kind: RangeKind,
-    count: usize,
-    starts: &[i64],
-    ends: &[i64],
-    values: &[Value],
+    m: &Stored,
     start: i64,
     end: i64,
     out_starts: &mut [i64],
     out_ends: &mut [i64],
-) -> Counted
-    requires { Sound (kind_of kind) (stored count starts.now ends.now values.now) }
+) -> Result<usize, Refusal>
+    requires { Sound (kind_of kind) m.now }
     ensures { wrote result out_starts.new out_ends.new
-        ≡ gaps_sound (kind_of kind) (stored count starts.now ends.now values.now) start end
+        ≡ gaps_sound (kind_of kind) m.now start end
         out_starts.old out_ends.old }
 {
     if !full(kind, start, end) {
-        return Counted::Refused(EMPTY_RANGE);
+        return Err(Refusal::EmptyRange);
     }
-    let from = reaching(kind, ends, count, start);
-    let room = shorter(out_starts.len(), out_ends.len());
+    let from = reaching(kind, &m.ends, m.count, start);
+    let room = out_starts.len().min(out_ends.len());
     let outer = Bounds { start, end };
-    if !fits(kind, starts, ends, count, from, outer, room) {
-        return Counted::Refused(TOO_SHORT);
+    if !fits(kind, m, from, outer, room) {
+        return Err(Refusal::TooShort);
     }
-    let n = write(kind, starts, ends, count, from, outer, out_starts, out_ends);
-    Counted::Count(n)
+    Ok(write(kind, m, from, outer, out_starts, out_ends))
 }

@@ -8,21 +8,21 @@ use lib.IntN.{ℤ}
 use Rattle.key.specs.Rank.{rank}
 use Rattle.key.specs.Range.{half_open}
 use Rattle.key.proofs.Laws.{rank_pos}
-use Rattle.outcomes.specs.Stored.{Stored, Sound}
+use Rattle.outcomes.specs.Stored.{Sound}
+use Rattle.outcomes.specs.declared.Stored.{Stored}
 use Rattle.duty.specs.declared.Totals.{Totals}
 use Rattle.calendar.specs.declared.Date.{Date}
 use Rattle.calendar.specs.Calendar.{date}
-use Rattle.log_day.specs.Days.{day_of}
-use Rattle.log_day.specs.declared.Day.TheVariants as Day
+use Rattle.log_day.specs.Days.{bounds, day_of}
+use Rattle.std.specs.Prelude.{Ok}
 use Rattle.log_day.proofs.Spans.{Length, held}
-use Rattle.report.specs.Report.{day_report}
-use Rattle.report.specs.declared.Reported.TheVariants as Reported
+use Rattle.report.specs.Report.{day_totals, day_report}
 use Rattle.report.proofs.Returns.{day_window}
 use Rattle.report.proofs.Laws.{told}
 use Rattle.graph_text.specs.Grid.{quarters_in, Drawable}
 
 -- what a grid asks of its map and day, a report has shown
-pub reported_day : (m : Stored) (z y mo d : ℕ) {s e : ℤ} {t : Totals} → Sound half_open m → day_report m z y mo d ≡ Reported.Totals s e t → Drawable m s e
+pub reported_day : (m : Stored) (z y mo d : ℕ) {s e : ℤ} {t : Totals} → Sound half_open m → day_report m z y mo d ≡ Ok (day_totals s e t) → Drawable m s e
 reported_day m z y mo d f q =
     let r = told m z y mo d q in
     let w = day_window z y mo d r.day in
@@ -33,7 +33,7 @@ pub record DayColumns (z : ℕ) (d : Date) (s e : ℤ) : Type 0 where
   pub whole : 900 * quarters_in s e ≡ rank e - rank s
   pub kind : Length z d (900 * quarters_in s e)
 
-pub day_columns : (z y m d : ℕ) {s e : ℤ} → day_of z y m d ≡ Day.Span s e → DayColumns z (date y m d) s e
+pub day_columns : (z y m d : ℕ) {s e : ℤ} → day_of z y m d ≡ Ok (bounds s e) → DayColumns z (date y m d) s e
 day_columns z y m d {s} {e} q =
     let h = held z y m d q in
     let a : rank s ≡ 2 ^ 63 + h.from = ap rank h.start_is ∙ rank_pos h.from (lt→ltb h.from (2 ^ 63) (omega arith)) in
@@ -48,7 +48,7 @@ day_columns z y m d {s} {e} q =
     whole (Length.plain p c i) l = omega arith
 
 -- so a line has 92, 96 or 100 columns
-pub three_widths : (z y m d : ℕ) {s e : ℤ} → day_of z y m d ≡ Day.Span s e → (quarters_in s e ≡ 92) ⊎ ((quarters_in s e ≡ 96) ⊎ (quarters_in s e ≡ 100))
+pub three_widths : (z y m d : ℕ) {s e : ℤ} → day_of z y m d ≡ Ok (bounds s e) → (quarters_in s e ≡ 92) ⊎ ((quarters_in s e ≡ 96) ⊎ (quarters_in s e ≡ 100))
 three_widths z y m d {s} {e} q = one_of (day_columns z y m d q).kind
   where
     one_of : Length z (date y m d) (900 * quarters_in s e) → (quarters_in s e ≡ 92) ⊎ ((quarters_in s e ≡ 96) ⊎ (quarters_in s e ≡ 100))

@@ -15,10 +15,11 @@ use Rattle.span.proofs.Tests.{neither}
 use Rattle.key.specs.Rank.{above_least, bit_rank, rank, keys}
 use Rattle.key.specs.Range.{half_open}
 use Rattle.key.proofs.Laws.{to_z_fit, rank_place, rank_below}
-use Rattle.outcomes.specs.Stored.{Stored, ranges}
+use Rattle.outcomes.specs.Stored.{ranges}
+use Rattle.outcomes.specs.declared.Stored.{Stored}
 use Rattle.duty.specs.Duty.{is_status, strange, tally_sound}
 use Rattle.duty.specs.declared.Totals.{Totals}
-use Rattle.duty.specs.declared.Tallied.TheVariants as Tallied
+use Rattle.std.specs.Prelude.{Result, Ok}
 use Rattle.duty.proofs.Laws.{within_cons, strange_cons, strange_alike, strange_none}
 use Rattle.report_text.specs.Rows.{row_of}
 use Rattle.graph_text.specs.Grid.{quarters_in, in_quarter, is_marked, Drawable}
@@ -86,12 +87,12 @@ day_quarters {m} {s} {e} d =
 
 -- WHAT IS ANSWERED of a quarter: its totals
 pub quarter_totals : {m : Stored} {s : ℤ} {q : ℕ} (a b : ℤ) → Quarter m s q → rank a ≡ rank s + 900 * q → rank b ≡ rank s + 900 * (q + 1)
-    → tally_sound m a b ≡ Tallied.Seconds (in_quarter (ranges half_open m) s q)
+    → tally_sound m a b ≡ Ok (in_quarter (ranges half_open m) s q)
 unfolding tally_sound in_quarter
 quarter_totals a b d p r = rw (p, r, d.calm)
 
 -- and its mark
-pub marked_is : (m : List Span) (s : ℤ) (j q : ℕ) {t : Totals} {n : ℕ} → Tallied.Seconds t ≡ Tallied.Seconds (in_quarter m s q) → n ≡ row_of t j
+pub marked_is : (m : List Span) (s : ℤ) (j q : ℕ) {E : Type 0} {t : Totals} {n : ℕ} → ◌≡◌ {A = Result Totals E} (Ok t) (Ok (in_quarter m s q)) → n ≡ row_of t j
     → ltb 0 n ≡ is_marked m s j q
 unfolding is_marked
 marked_is m s j q {t} e r = let u : t ≡ in_quarter m s q = cc in rw (r, u)

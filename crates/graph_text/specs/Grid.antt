@@ -4,7 +4,8 @@ use Prim.Native.Char.{code}
 use Rattle.span.specs.Span.{Span}
 use Rattle.key.specs.Rank.{rank}
 use Rattle.key.specs.Range.{half_open}
-use Rattle.outcomes.specs.Stored.{Stored, Sound, ranges}
+use Rattle.outcomes.specs.Stored.{Sound, ranges}
+use Rattle.outcomes.specs.declared.Stored.{Stored}
 use Rattle.duty.specs.declared.Totals.{Totals}
 use Rattle.duty.specs.Duty.{totals_of, strange}
 use Rattle.report_text.specs.Rows.{row_of}

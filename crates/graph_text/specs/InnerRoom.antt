@@ -2,7 +2,8 @@
 use Rattle.std.specs.Prelude.{ℕ, ◌+◌, ◌*◌, ◌≤◌, ◌<◌, ◌≡◌, false, ℤ}
 use Rattle.key.specs.Rank.{rank, keys}
 use Rattle.key.specs.Range.{half_open}
-use Rattle.outcomes.specs.Stored.{Stored, Sound, ranges}
+use Rattle.outcomes.specs.Stored.{Sound, ranges}
+use Rattle.outcomes.specs.declared.Stored.{Stored}
 use Rattle.duty.specs.Duty.{strange}
 
 -- the most quarters and hours of a day

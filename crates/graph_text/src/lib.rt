@@ -4,7 +4,7 @@
 ghost use Rattle.std.specs.Prelude.{◌≡◌, ◌+◌, ◌*◌, ◌≤◌, ◌<◌, length};
 ghost use Rattle.key.specs.Rank.{rank, keys};
 ghost use Rattle.key.specs.Range.{half_open};
-ghost use Rattle.outcomes.specs.Stored.{stored, ranges};
+ghost use Rattle.outcomes.specs.Stored.{ranges};
 ghost use Rattle.filling.specs.Filling.{series, AddsWithin};
 ghost use Rattle.report_text.specs.Rows.{row_count};
 ghost use Rattle.graph_text.specs.Grid.{quarters_in, clock_hour, is_marked, mark_of, blank_of, shown, cell, Drawable};
@@ -12,21 +12,28 @@ ghost use Rattle.graph_text.specs.GraphText.{hour_column, hours_line, total_colu
 ghost use Rattle.graph_text.specs.InnerRoom.{most_quarters, most_hours, graph_line_room, graph_room, Quarters, Quarter};
 
 use decimal::put_u64;
-use duty::{Tallied, Totals};
+use duty::Totals;
 use key::Bounds;
+use outcomes::Stored;
 use report_text::{
-    ROWS, put_clock_column, put_name_column, put_row_column, seconds_between, seconds_of, sum_of,
+    ROWS, UNRECORDED, put_clock_column, put_name_column, put_row_column, seconds_between,
+    seconds_of, sum_of,
 };
 use text::{put_byte, put_spaces};
 
 // The seconds of a quarter of an hour.
 const QUARTER: usize = 900;
 
-// The row of unrecorded time.
-const UNRECORDED: usize = 4;
-
 // The most bytes that a grid takes: seven lines of at most 150 bytes.
 pub const GRAPH_ROOM: usize = 1050;
+
+// A day as it is drawn: its start, how many quarters of an hour it has, and its totals.
+#[derive(Clone, Copy, Debug, PartialEq, Eq)]
+pub struct DrawnDay {
+    pub start: i64,
+    pub quarters: usize,
+    pub totals: Totals,
+}
 
 // How many quarters of an hour a day has.
 pub fn quarters_of(start: i64, end: i64) -> usize
@@ -36,14 +43,12 @@ pub fn quarters_of(start: i64, end: i64) -> usize
 }
 
 // The hour that the clock shows in the hour h of a day of n hours.
+#[tactic(auto, unfolding(crate::specs::Grid::clock_hour))]
 pub fn clock_hour(n: usize, h: usize) -> usize
     requires { (n ≤ most_hours) × (h < n) }
     ensures { (result ≡ clock_hour n h) × (result < 26) }
 {
-    if h < 2 {
-        return h;
-    }
-    h + 24 - n
+    if h < 2 { h } else { h + 24 - n }
 }
 
 // The key at which the quarter q of a day begins.
@@ -55,89 +60,58 @@ fn quarter_start(start: i64, q: usize) -> i64
 }
 
 // Whether a quarter has a second of a row.
-pub fn is_marked(
-    count: usize,
-    starts: &[i64],
-    ends: &[i64],
-    values: &[u8],
-    start: i64,
-    row: usize,
-    q: usize,
-) -> bool
-    requires { Quarter (stored count starts.now ends.now values.now) start q × (row < row_count) × (q < most_quarters) }
-    ensures { result ≡ is_marked (ranges half_open (stored count starts.now ends.now values.now)) start row q }
+pub fn is_marked(m: &Stored, start: i64, row: usize, q: usize) -> bool
+    requires { Quarter m.now start q × (row < row_count) × (q < most_quarters) }
+    ensures { result ≡ is_marked (ranges half_open m.now) start row q }
 {
     let quarter = Bounds {
         start: quarter_start(start, q),
         end: quarter_start(start, q + 1),
     };
-    let t = duty::between(count, starts, ends, values, quarter);
-    match t {
-        Tallied::Seconds(totals) => 0 < seconds_of(totals, row),
-        Tallied::Refused(_) => false,
+    match duty::between(m, quarter) {
+        Ok(totals) => 0 < seconds_of(totals, row),
+        Err(_) => false,
     }
 }
 
 // The mark of a row.
+#[tactic(auto, unfolding(crate::specs::Grid::mark_of))]
 fn mark_of(row: usize) -> u8
     ensures { result ≡ mark_of row }
 {
-    if row == UNRECORDED {
-        return b'?';
-    }
-    b'#'
+    if row == UNRECORDED { b'?' } else { b'#' }
 }
 
 // What a quarter with no mark shows.
+#[tactic(auto, unfolding(crate::specs::Grid::blank_of))]
 fn blank_of(q: usize) -> u8
     ensures { result ≡ blank_of q }
 {
-    if q % 4 == 0 {
-        return b':';
-    }
-    b'.'
+    if q % 4 == 0 { b':' } else { b'.' }
 }
 
 // What a quarter shows in a row.
-fn shown_at(
-    count: usize,
-    starts: &[i64],
-    ends: &[i64],
-    values: &[u8],
-    start: i64,
-    row: usize,
-    q: usize,
-) -> u8
-    requires { Quarter (stored count starts.now ends.now values.now) start q × (row < row_count) × (q < most_quarters) }
-    ensures { result ≡ shown (ranges half_open (stored count starts.now ends.now values.now)) start row q }
+#[tactic(auto, unfolding(crate::specs::Grid::shown))]
+fn shown_at(m: &Stored, start: i64, row: usize, q: usize) -> u8
+    requires { Quarter m.now start q × (row < row_count) × (q < most_quarters) }
+    ensures { result ≡ shown (ranges half_open m.now) start row q }
 {
-    if is_marked(count, starts, ends, values, start, row, q) {
-        return mark_of(row);
+    if is_marked(m, start, row, q) {
+        mark_of(row)
+    } else {
+        blank_of(q)
     }
-    blank_of(q)
 }
 
 // The quarters of a row.
-fn put_cells(
-    count: usize,
-    starts: &[i64],
-    ends: &[i64],
-    values: &[u8],
-    start: i64,
-    n: usize,
-    row: usize,
-    out: &mut [u8],
-    at: usize,
-) -> usize
-    requires { Quarters (stored count starts.now ends.now values.now) start n × (row < row_count) × (at + n ≤ length out.old) }
-    ensures { AddsWithin n (series (cell (ranges half_open (stored count starts.now ends.now values.now)) start row) n) out.old at out.new result }
+fn put_cells(m: &Stored, day: DrawnDay, row: usize, out: &mut [u8], at: usize) -> usize
+    requires { Quarters m.now day.start day.quarters × (row < row_count) × (at + day.quarters ≤ length out.old) }
+    ensures { AddsWithin day.quarters (series (cell (ranges half_open m.now) day.start row) day.quarters) out.old at out.new result }
 {
     let mut to = at;
-    let mut q = 0;
-    while q < n {
-        let byte = shown_at(count, starts, ends, values, start, row, q);
+    for q in 0..day.quarters {
+        let byte = shown_at(m, day.start, row, q);
         to = put_byte(out, to, byte);
-        q += 1;
     }
     to
 }
@@ -152,47 +126,24 @@ fn put_total(out: &mut [u8], at: usize, n: u64) -> usize
 }
 
 // The line of a row.
-fn put_row(
-    count: usize,
-    starts: &[i64],
-    ends: &[i64],
-    values: &[u8],
-    start: i64,
-    n: usize,
-    t: Totals,
-    row: usize,
-    out: &mut [u8],
-    at: usize,
-) -> usize
-    requires { Quarters (stored count starts.now ends.now values.now) start n × (row < row_count) × (at + graph_line_room ≤ length out.old) }
-    ensures { AddsWithin graph_line_room (row_line (ranges half_open (stored count starts.now ends.now values.now)) start n t row) out.old at out.new result }
+fn put_row(m: &Stored, day: DrawnDay, row: usize, out: &mut [u8], at: usize) -> usize
+    requires { Quarters m.now day.start day.quarters × (row < row_count) × (at + graph_line_room ≤ length out.old) }
+    ensures { AddsWithin graph_line_room (row_line (ranges half_open m.now) day.start day.quarters day.totals row) out.old at out.new result }
 {
     let cells = put_row_column(out, at, row);
-    let total = put_cells(count, starts, ends, values, start, n, row, out, cells);
-    put_total(out, total, seconds_of(t, row) as u64)
+    let total = put_cells(m, day, row, out, cells);
+    put_total(out, total, u64::from(seconds_of(day.totals, row)))
 }
 
 // The lines of the five rows.
-fn put_rows(
-    count: usize,
-    starts: &[i64],
-    ends: &[i64],
-    values: &[u8],
-    start: i64,
-    n: usize,
-    t: Totals,
-    out: &mut [u8],
-    at: usize,
-) -> usize
-    requires { Quarters (stored count starts.now ends.now values.now) start n × (at + row_count * graph_line_room ≤ length out.old) }
+fn put_rows(m: &Stored, day: DrawnDay, out: &mut [u8], at: usize) -> usize
+    requires { Quarters m.now day.start day.quarters × (at + row_count * graph_line_room ≤ length out.old) }
     ensures { AddsWithin (row_count * graph_line_room) (series
-        (row_line (ranges half_open (stored count starts.now ends.now values.now)) start n t) row_count) out.old at out.new result }
+        (row_line (ranges half_open m.now) day.start day.quarters day.totals) row_count) out.old at out.new result }
 {
     let mut to = at;
-    let mut row = 0;
-    while row < ROWS {
-        to = put_row(count, starts, ends, values, start, n, t, row, out, to);
-        row += 1;
+    for row in 0..ROWS {
+        to = put_row(m, day, row, out, to);
     }
     to
 }
@@ -212,10 +163,8 @@ fn put_hours(out: &mut [u8], at: usize, n: usize) -> usize
     ensures { AddsWithin 100 (series (hour_column n) n) out.old at out.new result }
 {
     let mut to = at;
-    let mut h = 0;
-    while h < n {
+    for h in 0..n {
         to = put_hour(out, to, n, h);
-        h += 1;
     }
     to
 }
@@ -231,31 +180,27 @@ fn put_hours_line(out: &mut [u8], at: usize, n: usize) -> usize
 }
 
 // The line of the sum.
-fn put_sum_line(out: &mut [u8], at: usize, n: usize, t: Totals) -> usize
-    requires { (n ≤ most_quarters) × (at + graph_line_room ≤ length out.old) }
-    ensures { AddsWithin graph_line_room (sum_line n t) out.old at out.new result }
+fn put_sum_line(out: &mut [u8], at: usize, day: DrawnDay) -> usize
+    requires { (day.quarters ≤ most_quarters) × (at + graph_line_room ≤ length out.old) }
+    ensures { AddsWithin graph_line_room (sum_line day.quarters day.totals) out.old at out.new result }
 {
     let blank = put_name_column(out, at, b"sum");
-    let total = put_spaces(out, blank, n);
-    put_total(out, total, sum_of(t))
+    let total = put_spaces(out, blank, day.quarters);
+    put_total(out, total, sum_of(day.totals))
 }
 
 // THE GRID of a day.
-pub fn graph_text(
-    count: usize,
-    starts: &[i64],
-    ends: &[i64],
-    values: &[u8],
-    start: i64,
-    end: i64,
-    t: Totals,
-    out: &mut [u8; GRAPH_ROOM],
-) -> usize
-    requires { Drawable (stored count starts.now ends.now values.now) start end }
-    ensures { AddsWithin graph_room (graph_text (ranges half_open (stored count starts.now ends.now values.now)) start end t) out.old 0 out.new result }
+pub fn graph_text(m: &Stored, start: i64, end: i64, t: Totals, out: &mut [u8; GRAPH_ROOM]) -> usize
+    requires { Drawable m.now start end }
+    ensures { AddsWithin graph_room (graph_text (ranges half_open m.now) start end t) out.old 0 out.new result }
 {
-    let n = quarters_of(start, end);
-    let first = put_hours_line(out, 0, n / 4);
-    let sum = put_rows(count, starts, ends, values, start, n, t, out, first);
-    put_sum_line(out, sum, n, t)
+    let quarters = quarters_of(start, end);
+    let day = DrawnDay {
+        start,
+        quarters,
+        totals: t,
+    };
+    let first = put_hours_line(out, 0, quarters / 4);
+    let sum = put_rows(m, day, out, first);
+    put_sum_line(out, sum, day)
 }

@@ -8,12 +8,14 @@ use borrow.Author.Tests.{ltb-false}
 use lib.Dec.{ltb}
 use lib.ListN.{length, drop}
 use lib.IntN.{ℤ}
-use Rattle.answers.specs.Answers.{empty_range, too_short, not_formed, bad_query}
 use Rattle.key.specs.Rank.{rank}
 use Rattle.key.specs.Range.{half_open}
-use Rattle.outcomes.specs.Stored.{places, Stored}
-use Rattle.outcomes.specs.Outcomes.{not_written, formed, leaving, Written, into_lists}
-use Rattle.outcomes.specs.declared.Counted.{Counted}
+use Rattle.outcomes.specs.Stored.{places}
+use Rattle.outcomes.specs.declared.Stored.{Stored}
+use Rattle.outcomes.specs.Outcomes.{not_written, formed, Written, into_lists}
+use Rattle.outcomes.specs.Answered.{Counted, Outcome}
+use Rattle.outcomes.specs.InnerOutcome.{Leaves}
+use Rattle.outcomes.proofs.Went.{numbered}
 use Rattle.outcomes.proofs.Formed as well
 use Rattle.byte_form.specs.Layout.{rm01}
 use Rattle.byte_form.specs.Form.{form_of, Output, output, into_output, read}
@@ -25,15 +27,18 @@ use Rattle.range_list.specs.InnerLists.{wrote}
 use Rattle.query_text.specs.Reader.{Read, got, bad, query_of}
 use Rattle.query.specs.Answers.{by_query, result_of, query_ranges_sound, query_ranges}
 use Rattle.hourledger.specs.InnerInput.{Loaded}
+use Rattle.std.specs.Prelude.{Ok, Err, OnOk}
+use Rattle.answers.specs.declared.Refusal.TheVariants.{EmptyRange, TooShort, NotFormed, BadQuery}
 
 -- a form that was read
-pub read_loaded : (old : Stored) {m : Stored} (bs : List ℕ) {r : ℕ} → leaving r m ≡ read rm01 old bs → r ≡ 0 → Loaded m
-read_loaded old {m} bs is e =
-    let r = read_write rm01_lawful old bs (sym is ∙ ap (λ (n : ℕ). leaving n m) e) in
+pub read_loaded : (old : Stored) {m : Stored} (bs : List ℕ) (r : Outcome) → Leaves r m (read rm01 old bs) → OnOk r (Loaded m)
+read_loaded old {m} bs (Ok u) l =
+    let r = read_write rm01_lawful old bs (sym (numbered l)) in
     record { sound = r.sound; held = (well.formed half_open places m (sound_formed r.sound r.all_places)).held }
+read_loaded old bs (Err why) l = tt
 
 -- a form that is written has room
-pub written_within : (m : Stored) (out : List ℕ) {out₁ : List ℕ} {r : Counted} {n : ℕ} → output r out₁ ≡ form.write rm01 m out → r ≡ Counted.Count n
+pub written_within : (m : Stored) (out : List ℕ) {out₁ : List ℕ} {r : Counted} {n : ℕ} → output r out₁ ≡ form.write rm01 m out → r ≡ Ok n
     → n ≤ length out
 unfolding form.write into_output
 written_within m out {out₁} {r} {n} is e =
@@ -41,32 +46,32 @@ written_within m out {out₁} {r} {n} is e =
   where
     go : (t u : Bool) → ltb (length out) (length (form_of rm01 m)) ≡ u
         → (cond t
-        (cond u (output (Counted.Refused too_short) out) (output (Counted.Count (length (form_of rm01 m))) (form_of rm01 m ++ drop (length (form_of rm01 m)) out)))
-        (output (Counted.Refused not_formed) out)
+        (cond u (output (Err TooShort) out) (output (Ok (length (form_of rm01 m))) (form_of rm01 m ++ drop (length (form_of rm01 m)) out)))
+        (output (Err NotFormed) out)
         ).answer
-        ≡ Counted.Count n
+        ≡ Ok n
         → n ≤ length out
-    go true true h q = absurd (let z : ◌≡◌ {A = ℕ} 0 1 = cc in omega arith)
+    go true true h q = cc
     go true false h q = let z : n ≡ length (form_of rm01 m) = cc in omega (arith, ltb-false (length out) (length (form_of rm01 m)) h)
-    go false u h q = absurd (let z : ◌≡◌ {A = ℕ} 0 1 = cc in omega arith)
+    go false u h q = cc
 
 -- the ranges of a query that were written have room
 pub queried_within : (a b : Stored) (s e : ℤ) (bytes : List ℕ) (os oe : List ℤ) {os₁ oe₁ : List ℤ} {r : Counted} {n : ℕ}
-    → wrote r os₁ oe₁ ≡ query_ranges a b s e bytes os oe → r ≡ Counted.Count n → n ≤ length os
+    → wrote r os₁ oe₁ ≡ query_ranges a b s e bytes os oe → r ≡ Ok n → n ≤ length os
 unfolding query_ranges query_ranges_sound into_lists
 queried_within a b s e bytes os oe {r = r} {n = n} is q =
     any (formed half_open a && formed half_open b) (ltb (rank s) (rank e)) (query_of bytes) (sym (ap (λ (w : Written). w.answer) is) ∙ q)
   where
-    one : (x : ℕ) (u : Bool) (w : Written) → ltb (min (length os) (length oe)) x ≡ u → w.answer ≡ Counted.Count x
-        → (cond u (not_written too_short os oe) w).answer ≡ Counted.Count n → n ≤ length os
-    one x true w h i q = absurd (let z : ◌≡◌ {A = ℕ} 0 1 = cc in omega arith)
+    one : (x : ℕ) (u : Bool) (w : Written) → ltb (min (length os) (length oe)) x ≡ u → w.answer ≡ Ok x
+        → (cond u (not_written TooShort os oe) w).answer ≡ Ok n → n ≤ length os
+    one x true w h i q = cc
     one x false w h i q = let z : n ≡ x = cc in omega (arith, ltb-false (min (length os) (length oe)) x h)
 
     any : (t u : Bool) (x : Read)
-        → (cond t (cond u (by_query x (λ y. into_lists half_open (result_of a b s e y) os oe) (not_written bad_query os oe)) (not_written empty_range os oe)) (not_written not_formed os oe)).answer
-        ≡ Counted.Count n
+        → (cond t (cond u (by_query x (λ y. into_lists half_open (result_of a b s e y) os oe) (not_written BadQuery os oe)) (not_written EmptyRange os oe)) (not_written NotFormed os oe)).answer
+        ≡ Ok n
         → n ≤ length os
     any true true (got y rest) q = one (length (result_of a b s e y)) (ltb (min (length os) (length oe)) (length (result_of a b s e y))) _ refl refl q
-    any true true bad q = absurd (let z : ◌≡◌ {A = ℕ} 0 1 = cc in omega arith)
-    any true false x q = absurd (let z : ◌≡◌ {A = ℕ} 0 1 = cc in omega arith)
-    any false u x q = absurd (let z : ◌≡◌ {A = ℕ} 0 1 = cc in omega arith)
+    any true true bad q = cc
+    any true false x q = cc
+    any false u x q = cc

@@ -4,20 +4,30 @@ ghost use Rattle.range_text.specs.RangeText.{results};
 
 use crate::form::{ROOM, load, read_form};
 use crate::output::{fail, print, refuse};
-use crate::words::{LONGEST, word};
-use answers::EMPTY_RANGE;
-use key::Value;
-use outcomes::{Counted, PLACES};
+use crate::words::Argument;
+use answers::Refusal;
+use outcomes::Stored;
 use range_text::{RESULTS, RESULTS_ROOM, result_text};
 use std::fs::File;
 use std::io;
 
-// A file that is asked of: its map was loaded, or it was refused, or it could not be opened, which was said.
-#[derive(Clone, Copy)]
-enum Taken {
-    Map,
-    Refused(u8),
-    NotOpened,
+// Why there is no map: the file could not be opened, or what it holds is no form.
+#[derive(Drop)]
+enum NoMap {
+    NotOpened(io::Error),
+    Refused(Refusal),
+}
+
+impl From<io::Error> for NoMap {
+    fn from(error: io::Error) -> NoMap {
+        NoMap::NotOpened(error)
+    }
+}
+
+impl From<Refusal> for NoMap {
+    fn from(why: Refusal) -> NoMap {
+        NoMap::Refused(why)
+    }
 }
 
 // Opens a file. The system takes any bytes as a name, and the library only what is UTF-8.
@@ -29,50 +39,27 @@ fn open(rt: &HostRuntime, path: &[u8]) -> io::Result<File> {
 }
 
 // Loads the form of a file.
-fn take(
-    rt: &HostRuntime,
-    path: &[u8],
-    count: &mut usize,
-    starts: &mut [i64; PLACES],
-    ends: &mut [i64; PLACES],
-    values: &mut [Value; PLACES],
-) -> Taken {
-    match open(rt, path) {
-        Ok(mut file) => {
-            let mut bytes = [0u8; ROOM];
-            let n = read_form(&mut file, &mut bytes);
-            let answer = load(&bytes[..n], count, starts, ends, values);
-            if answer != 0 {
-                return Taken::Refused(answer);
-            }
-            Taken::Map
-        }
-        Err(e) => {
-            fail(rt, path, &e);
-            Taken::NotOpened
-        }
-    }
+fn take(rt: &HostRuntime, path: &[u8], m: &mut Stored) -> Result<(), NoMap> {
+    let mut file = open(rt, path)?;
+    let mut bytes = [0u8; ROOM];
+    let n = read_form(&mut file, &mut bytes);
+    load(&bytes[..n], m)?;
+    Ok(())
 }
 
-// Loads the form of the file that a word names, and says whether there is a map.
-fn is_taken(
-    rt: &HostRuntime,
-    place: usize,
-    count: &mut usize,
-    starts: &mut [i64; PLACES],
-    ends: &mut [i64; PLACES],
-    values: &mut [Value; PLACES],
-) -> bool {
-    let mut path = [0u8; LONGEST];
-    let n = word(rt, place, &mut path);
-    let taken = take(rt, &path[..n], count, starts, ends, values);
-    match taken {
-        Taken::Map => true,
-        Taken::Refused(answer) => {
-            refuse(rt, answer);
+// Loads the form of the file that a word names, and says whether there is a map. Why there is none is said.
+fn is_taken(rt: &HostRuntime, place: usize, m: &mut Stored) -> bool {
+    let path = Argument::read(rt, place);
+    match take(rt, path.text(), m) {
+        Ok(()) => true,
+        Err(NoMap::Refused(why)) => {
+            refuse(rt, why);
             false
         }
-        Taken::NotOpened => false,
+        Err(NoMap::NotOpened(error)) => {
+            fail(rt, path.text(), &error);
+            false
+        }
     }
 }
 
@@ -84,107 +71,24 @@ fn show(rt: &HostRuntime, n: usize, starts: &[i64; RESULTS], ends: &[i64; RESULT
     print(rt, &out, k);
 }
 
-fn of_query<'a, 'b>(
-    rt: &HostRuntime,
-    count_a: &'a usize,
-    starts_a: &'a [i64; PLACES],
-    ends_a: &'a [i64; PLACES],
-    values_a: &'a [Value; PLACES],
-    count_b: &'b usize,
-    starts_b: &'b [i64; PLACES],
-    ends_b: &'b [i64; PLACES],
-    values_b: &'b [Value; PLACES],
-    start: i64,
-    end: i64,
-    query: &[u8],
-) {
+fn of_query(rt: &HostRuntime, a: &Stored, b: &Stored, start: i64, end: i64, query: &[u8]) {
     let mut starts = [0i64; RESULTS];
     let mut ends = [0i64; RESULTS];
-    let counted = query::ranges::query(
-        count_a,
-        starts_a,
-        ends_a,
-        values_a,
-        count_b,
-        starts_b,
-        ends_b,
-        values_b,
-        start,
-        end,
-        query,
-        &mut starts,
-        &mut ends,
-    );
-    match counted {
-        Counted::Count(n) => show(rt, n, &starts, &ends),
-        Counted::Refused(answer) => refuse(rt, answer),
+    match query::ranges::query(a, b, start, end, query, &mut starts, &mut ends) {
+        Ok(n) => show(rt, n, &starts, &ends),
+        Err(why) => refuse(rt, why),
     }
-}
-
-fn of_maps<'a, 'b>(
-    rt: &HostRuntime,
-    count_a: &'a usize,
-    starts_a: &'a [i64; PLACES],
-    ends_a: &'a [i64; PLACES],
-    values_a: &'a [Value; PLACES],
-    count_b: &'b usize,
-    starts_b: &'b [i64; PLACES],
-    ends_b: &'b [i64; PLACES],
-    values_b: &'b [Value; PLACES],
-    start: i64,
-    end: i64,
-) {
-    let mut query = [0u8; LONGEST];
-    let n = word(rt, 4, &mut query);
-    of_query(
-        rt,
-        count_a,
-        starts_a,
-        ends_a,
-        values_a,
-        count_b,
-        starts_b,
-        ends_b,
-        values_b,
-        start,
-        end,
-        &query[..n],
-    );
-}
-
-// The second file, once the first is there.
-fn of_first<'a>(
-    rt: &HostRuntime,
-    count_a: &'a usize,
-    starts_a: &'a [i64; PLACES],
-    ends_a: &'a [i64; PLACES],
-    values_a: &'a [Value; PLACES],
-    start: i64,
-    end: i64,
-) {
-    let mut count = 0;
-    let mut starts = [0i64; PLACES];
-    let mut ends = [0i64; PLACES];
-    let mut values = [0u8; PLACES];
-    if !is_taken(rt, 6, &mut count, &mut starts, &mut ends, &mut values) {
-        return;
-    }
-    of_maps(
-        rt, count_a, starts_a, ends_a, values_a, &count, &starts, &ends, &values, start, end,
-    );
 }
 
 pub fn run(rt: &HostRuntime, start: i64, end: i64) {
     if start >= end {
-        refuse(rt, EMPTY_RANGE);
+        refuse(rt, Refusal::EmptyRange);
         return;
     }
-    let mut count = 0;
-    let mut starts = [0i64; PLACES];
-    let mut ends = [0i64; PLACES];
-    let mut values = [0u8; PLACES];
-    if !is_taken(rt, 5, &mut count, &mut starts, &mut ends, &mut values) {
-        return;
+    let mut a = Stored::new();
+    let mut b = Stored::new();
+    if is_taken(rt, 5, &mut a) && is_taken(rt, 6, &mut b) {
+        let query = Argument::read(rt, 4);
+        of_query(rt, &a, &b, start, end, query.text());
     }
-    of_first(rt, &count, &starts, &ends, &values, start, end);
 }

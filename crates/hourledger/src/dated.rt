@@ -1,126 +1,84 @@
 // `day` and `graph`: what is shown of a day. The zone and the date are judged before the form is read.
 ghost use Rattle.key.specs.Range.{half_open};
-ghost use Rattle.outcomes.specs.Stored.{stored, Sound};
+ghost use Rattle.outcomes.specs.Stored.{Sound};
 ghost use Rattle.graph_text.specs.Grid.{Drawable};
 
 use crate::form::{ROOM, load, read_form};
 use crate::output::{print, refuse};
+use calendar::Date;
 use command::View;
-use duty::Totals;
 use graph_text::{GRAPH_ROOM, graph_text};
-use key::Value;
-use log_day::Day;
-use outcomes::PLACES;
-use report::Reported;
+use outcomes::Stored;
+use report::DayTotals;
 use report_text::{REPORT_ROOM, report_text};
 use svg_text::{SVG_ROOM, svg_text};
 
-fn show_report(rt: &HostRuntime, start: i64, end: i64, t: Totals) {
+// Which day is asked for, and how it is shown.
+#[derive(Clone, Copy)]
+struct Asked {
+    view: View,
+    zone: u8,
+    date: Date,
+}
+
+fn show_report(rt: &HostRuntime, told: DayTotals) {
     let mut out = [0u8; REPORT_ROOM];
-    let n = report_text(start, end, t, &mut out);
+    let n = report_text(told.day.start, told.day.end, told.totals, &mut out);
     print(rt, &out, n);
 }
 
-fn show_graph(
-    rt: &HostRuntime,
-    count: usize,
-    starts: &[i64; PLACES],
-    ends: &[i64; PLACES],
-    values: &[Value; PLACES],
-    start: i64,
-    end: i64,
-    t: Totals,
-)
-    requires { Drawable (stored count starts.now ends.now values.now) start end }
+fn show_graph(rt: &HostRuntime, m: &Stored, told: DayTotals)
+    requires { Drawable m.now told.day.start told.day.end }
 {
     let mut out = [0u8; GRAPH_ROOM];
-    let n = graph_text(count, starts, ends, values, start, end, t, &mut out);
+    let n = graph_text(m, told.day.start, told.day.end, told.totals, &mut out);
     print(rt, &out, n);
 }
 
-fn show_picture(
-    rt: &HostRuntime,
-    count: usize,
-    starts: &[i64; PLACES],
-    ends: &[i64; PLACES],
-    values: &[Value; PLACES],
-    start: i64,
-    end: i64,
-    t: Totals,
-)
-    requires { Drawable (stored count starts.now ends.now values.now) start end }
+fn show_picture(rt: &HostRuntime, m: &Stored, told: DayTotals)
+    requires { Drawable m.now told.day.start told.day.end }
 {
     let mut out = [0u8; SVG_ROOM];
-    let n = svg_text(count, starts, ends, values, start, end, t, &mut out);
+    let n = svg_text(m, told.day.start, told.day.end, told.totals, &mut out);
     print(rt, &out, n);
 }
 
-fn show(
-    rt: &HostRuntime,
-    view: View,
-    count: usize,
-    starts: &[i64; PLACES],
-    ends: &[i64; PLACES],
-    values: &[Value; PLACES],
-    start: i64,
-    end: i64,
-    t: Totals,
-)
-    requires { Drawable (stored count starts.now ends.now values.now) start end }
+fn show(rt: &HostRuntime, view: View, m: &Stored, told: DayTotals)
+    requires { Drawable m.now told.day.start told.day.end }
 {
     match view {
-        View::Report => show_report(rt, start, end, t),
-        View::Graph => show_graph(rt, count, starts, ends, values, start, end, t),
-        View::Picture => show_picture(rt, count, starts, ends, values, start, end, t),
+        View::Report => show_report(rt, told),
+        View::Graph => show_graph(rt, m, told),
+        View::Picture => show_picture(rt, m, told),
     }
 }
 
-fn of_map<'a>(
-    rt: &HostRuntime,
-    view: View,
-    count: &'a usize,
-    starts: &'a [i64; PLACES],
-    ends: &'a [i64; PLACES],
-    values: &'a [Value; PLACES],
-    zone: u8,
-    year: u16,
-    month: u8,
-    day: u8,
-)
-    requires { Sound half_open (stored count.now starts.now ends.now values.now) }
+fn of_map(rt: &HostRuntime, asked: Asked, m: &Stored)
+    requires { Sound half_open m.now }
 {
-    let told = report::checked(count, starts, ends, values, zone, year, month, day);
-    match told {
-        Reported::Totals(start, end, t) => {
-            show(rt, view, *count, starts, ends, values, start, end, t)
-        }
-        Reported::Refused(n) => refuse(rt, n),
+    let Date { year, month, day } = asked.date;
+    match report::checked(m, asked.zone, year, month, day) {
+        Ok(told) => show(rt, asked.view, m, told),
+        Err(why) => refuse(rt, why),
     }
 }
 
-fn of_form(rt: &HostRuntime, form: &[u8], view: View, zone: u8, year: u16, month: u8, day: u8) {
-    let mut count = 0;
-    let mut starts = [0i64; PLACES];
-    let mut ends = [0i64; PLACES];
-    let mut values = [0u8; PLACES];
-    let answer = load(form, &mut count, &mut starts, &mut ends, &mut values);
-    if answer != 0 {
-        refuse(rt, answer);
-        return;
+fn of_form(rt: &HostRuntime, asked: Asked, form: &[u8]) {
+    let mut m = Stored::new();
+    match load(form, &mut m) {
+        Ok(()) => of_map(rt, asked, &m),
+        Err(why) => refuse(rt, why),
     }
-    of_map(
-        rt, view, &count, &starts, &ends, &values, zone, year, month, day,
-    );
 }
 
 pub fn run(rt: &HostRuntime, view: View, zone: u8, year: u16, month: u8, day: u8) {
-    let judged = log_day::day_of(zone, year, month, day);
-    match judged {
-        Day::Refused(n) => refuse(rt, n),
-        Day::Span(_, _) => {
+    match log_day::day_of(zone, year, month, day) {
+        Err(why) => refuse(rt, why),
+        Ok(_) => {
             let mut bytes = [0u8; ROOM];
             let n = read_form(&mut rt.stdin(), &mut bytes);
-            of_form(rt, &bytes[..n], view, zone, year, month, day);
+            let date = Date { year, month, day };
+            of_form(rt, Asked { view, zone, date }, &bytes[..n]);
         }
     }
 }

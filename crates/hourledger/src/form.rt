@@ -1,15 +1,14 @@
 // A byte form: read to its end, and loaded into a map.
-ghost use Rattle.std.specs.Prelude.{◌≡◌, ◌≤◌, length};
-ghost use Rattle.outcomes.specs.Stored.{stored};
-ghost use Rattle.outcomes.specs.Outcomes.{leaving};
+ghost use Rattle.std.specs.Prelude.{◌≤◌, length, OnOk};
+ghost use Rattle.outcomes.specs.InnerOutcome.{Leaves};
 ghost use Rattle.byte_form.specs.Layout.{rm01};
 ghost use Rattle.byte_form.specs.Form.{read};
 ghost use Rattle.hourledger.specs.InnerInput.{Loaded};
 
-use crate::input::{Input, read_all};
+use crate::input::read_all;
+use answers::Refusal;
 use byte_form::rm01::LONGEST;
-use key::Value;
-use outcomes::PLACES;
+use outcomes::Stored;
 use std::io::Read;
 
 // The longest form, and a byte more.
@@ -19,25 +18,16 @@ pub const ROOM: usize = LONGEST + 1;
 pub fn read_form<R: Read>(reader: &mut R, bytes: &mut [u8; ROOM]) -> usize
     ensures { result ≤ length bytes.new }
 {
-    let got = read_all(reader, bytes);
-    match got {
-        Input::Bytes(n) => n,
-        Input::TooLong => ROOM,
-        Input::Failed(_) => ROOM,
+    match read_all(reader, bytes) {
+        Ok(n) => n,
+        Err(_) => ROOM,
     }
 }
 
-// Loads a form: 0 and its map, or 6.
-pub fn load(
-    form: &[u8],
-    count: &mut usize,
-    starts: &mut [i64; PLACES],
-    ends: &mut [i64; PLACES],
-    values: &mut [Value; PLACES],
-) -> u8
-    ensures values_value { leaving result (stored count.new starts.new ends.new values.new)
-        ≡ read rm01 (stored count.old starts.old ends.old values.old) form.now }
-    ensures loaded { result ≡ 0 → Loaded (stored count.new starts.new ends.new values.new) }
+// Loads a form, and then its map is sound.
+pub fn load(form: &[u8], m: &mut Stored) -> Result<(), Refusal>
+    ensures leaves { Leaves result m.new (read rm01 m.old form.now) }
+    ensures loaded { OnOk result (Loaded m.new) }
 {
-    byte_io::read::read(count, starts, ends, values, form)
+    byte_io::read::read(m, form)
 }

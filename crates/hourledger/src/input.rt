@@ -4,29 +4,31 @@ ghost use Rattle.hourledger.specs.InnerInput.{Held};
 use std::io;
 use std::io::Read;
 
-// How many bytes were read; or that there are too many; or why a read failed.
+// Why there is no whole text: it is too long, or a read failed.
 #[derive(Drop)]
-pub enum Input {
-    Bytes(usize),
+pub enum NoText {
     TooLong,
     Failed(io::Error),
 }
 
-// Reads to the end, into lent bytes that have room for one byte more than is taken: each turn leaves less room.
-pub fn read_all<R: Read>(reader: &mut R, bytes: &mut [u8]) -> Input
+impl From<io::Error> for NoText {
+    fn from(error: io::Error) -> NoText {
+        NoText::Failed(error)
+    }
+}
+
+// Reads to the end, into lent bytes that have room for one byte more than is taken, and answers how many bytes there are.
+// Each turn leaves less room.
+pub fn read_all<R: Read>(reader: &mut R, bytes: &mut [u8]) -> Result<usize, NoText>
     ensures { Held result bytes.new }
 {
     let mut n = 0;
     while n < bytes.len() {
-        match reader.read(&mut bytes[n..]) {
-            Ok(more) => {
-                if more == 0 {
-                    return Input::Bytes(n);
-                }
-                n += more;
-            }
-            Err(e) => return Input::Failed(e),
+        let more = reader.read(&mut bytes[n..])?;
+        if more == 0 {
+            return Ok(n);
         }
+        n += more;
     }
-    Input::TooLong
+    Err(NoText::TooLong)
 }

@@ -4,35 +4,23 @@ ghost use Rattle.outcomes.specs.Stored.{places};
 
 use crate::form::{ROOM, load, read_form};
 use crate::output::{print, refuse};
-use key::Value;
-use outcomes::PLACES;
+use outcomes::Stored;
 use range_text::{RANGES_ROOM, ranges_text};
 
-fn show(
-    rt: &HostRuntime,
-    count: usize,
-    starts: &[i64; PLACES],
-    ends: &[i64; PLACES],
-    values: &[Value; PLACES],
-)
-    requires { count ≤ places }
+fn show(rt: &HostRuntime, m: &Stored)
+    requires { m.now.count ≤ places }
 {
     let mut out = [0u8; RANGES_ROOM];
-    let n = ranges_text(count, starts, ends, values, &mut out);
+    let n = ranges_text(m, &mut out);
     print(rt, &out, n);
 }
 
 fn of_form(rt: &HostRuntime, form: &[u8]) {
-    let mut count = 0;
-    let mut starts = [0i64; PLACES];
-    let mut ends = [0i64; PLACES];
-    let mut values = [0u8; PLACES];
-    let answer = load(form, &mut count, &mut starts, &mut ends, &mut values);
-    if answer != 0 {
-        refuse(rt, answer);
-        return;
+    let mut m = Stored::new();
+    match load(form, &mut m) {
+        Ok(()) => show(rt, &m),
+        Err(why) => refuse(rt, why),
     }
-    show(rt, count, &starts, &ends, &values);
 }
 
 pub fn run(rt: &HostRuntime) {

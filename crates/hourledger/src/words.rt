@@ -1,5 +1,5 @@
 // The words of the command line, read and judged. One that is missing or too long is empty, and so no word of a command.
-ghost use Rattle.std.specs.Prelude.{◌≤◌, length};
+ghost use Rattle.std.specs.Prelude.{◌≡◌, ◌≤◌, length, take};
 
 use command::Command;
 use std::env::FillError;
@@ -31,59 +31,67 @@ fn word_count(rt: &HostRuntime) -> usize {
     8
 }
 
+// A word in memory of its own, of which it takes the first `count` bytes.
+#[derive(Drop)]
+pub struct Argument {
+    bytes: [u8; LONGEST],
+    count: usize,
+    ghost in_bytes: { count ≤ 4096 },
+}
+
+impl Argument {
+    pub fn read(rt: &HostRuntime, i: usize) -> Argument {
+        let mut bytes = [0u8; LONGEST];
+        let count = word(rt, i, &mut bytes);
+        Argument { bytes, count }
+    }
+
+    pub fn text(&self) -> &[u8]
+        ensures { result.now ≡ take self.now.count self.now.bytes }
+    {
+        &self.bytes[..self.count]
+    }
+}
+
 // The one word.
 fn one(rt: &HostRuntime) -> Command {
-    let mut bytes = [0u8; LONGEST];
-    let n = word(rt, 1, &mut bytes);
-    command::one(&bytes[..n])
+    command::one(Argument::read(rt, 1).text())
 }
 
 // The five words.
 fn five(rt: &HostRuntime) -> Command {
-    let mut name = [0u8; LONGEST];
-    let mut zone = [0u8; LONGEST];
-    let mut year = [0u8; LONGEST];
-    let mut month = [0u8; LONGEST];
-    let mut day = [0u8; LONGEST];
-    let n = word(rt, 1, &mut name);
-    let z = word(rt, 2, &mut zone);
-    let y = word(rt, 3, &mut year);
-    let m = word(rt, 4, &mut month);
-    let d = word(rt, 5, &mut day);
-    command::five(&name[..n], &zone[..z], &year[..y], &month[..m], &day[..d])
+    let name = Argument::read(rt, 1);
+    let zone = Argument::read(rt, 2);
+    let year = Argument::read(rt, 3);
+    let month = Argument::read(rt, 4);
+    let day = Argument::read(rt, 5);
+    command::five(
+        name.text(),
+        zone.text(),
+        year.text(),
+        month.text(),
+        day.text(),
+    )
 }
 
 // The six words.
 fn six(rt: &HostRuntime) -> Command {
-    let mut name = [0u8; LONGEST];
-    let mut a = [0u8; LONGEST];
-    let mut b = [0u8; LONGEST];
-    let mut c = [0u8; LONGEST];
-    let mut d = [0u8; LONGEST];
-    let mut e = [0u8; LONGEST];
-    let n = word(rt, 1, &mut name);
-    let i = word(rt, 2, &mut a);
-    let j = word(rt, 3, &mut b);
-    let k = word(rt, 4, &mut c);
-    let l = word(rt, 5, &mut d);
-    let m = word(rt, 6, &mut e);
-    command::six(&name[..n], &a[..i], &b[..j], &c[..k], &d[..l], &e[..m])
+    let a = Argument::read(rt, 1);
+    let b = Argument::read(rt, 2);
+    let c = Argument::read(rt, 3);
+    let d = Argument::read(rt, 4);
+    let e = Argument::read(rt, 5);
+    let f = Argument::read(rt, 6);
+    command::six(a.text(), b.text(), c.text(), d.text(), e.text(), f.text())
 }
 
 // The command that the program was started with. Its own name is not counted.
 pub fn asked(rt: &HostRuntime) -> Command {
-    let words = word_count(rt);
-    if words == 1 {
-        return Command::Ranges;
+    match word_count(rt) {
+        1 => Command::Ranges,
+        2 => one(rt),
+        6 => five(rt),
+        7 => six(rt),
+        _ => Command::Other,
     }
-    if words == 2 {
-        return one(rt);
-    }
-    if words == 6 {
-        return five(rt);
-    }
-    if words == 7 {
-        return six(rt);
-    }
-    Command::Other
 }

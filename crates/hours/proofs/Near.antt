@@ -4,7 +4,7 @@
 use mathlib.Core.Path.{◌≡◌, refl, sym, ◌∙◌, ap, subst}
 use mathlib.Core.Logic.{◌⊎◌, inl, inr}
 use Prim.Native.Nat.{ℕ, zero, suc, ◌+◌, ◌-◌, ◌*◌, ◌/◌, ◌%◌, ◌^◌, ◌≤◌, ◌<◌, zero-le, compare, Ordering}
-use native.Mathlib.Nat.{le_trans, le_of_eq, le_of_lt, lt_of_lt_of_le, lt_of_le_of_lt, lt_trans, eq-zero-or-pos, mul-one, mul_comm, mul_assoc, mul_right_comm, mul-le-mul_right, mul-lt-mul_of_pos_right, lt_of_mul-lt-mul_right, eq_of_mul-eq-mul_right, mul-pos, mul-sub, div-add-mod', mod-lt, le-div_iff_mul-le, div-le_self, div-div-eq-div-mul, suc-mul, zero-mul, one-mul, add-mul, mul-add, lt_of_not-le, le_of_suc-le-suc, lt_irrefl}
+use native.Mathlib.Nat.{le_trans, le_of_eq, lt_of_lt_of_le, lt_of_le_of_lt, lt_trans, eq-zero-or-pos, mul-one, mul_comm, mul_assoc, mul_right_comm, mul-le-mul_right, mul-lt-mul_of_pos_right, lt_of_mul-lt-mul_right, eq_of_mul-eq-mul_right, mul-pos, mul-sub, div-add-mod', mod-lt, le-div_iff_mul-le, div-le_self, div-div-eq-div-mul, suc-mul, zero-mul, one-mul, add-mul, mul-add, lt_of_not-le, le_of_suc-le-suc, lt_irrefl}
 use native.Mathlib.Omega.{arith}
 use mathlib.Core.Bool.{Bool, true, false, not, ◌&&◌, true≢false}
 use native.Mathlib.Decide.{dec_lt}

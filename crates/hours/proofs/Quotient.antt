@@ -1,6 +1,6 @@
 -- Seconds as a double, divided by 3600 as a double, are the hours: the two are exact, so only the quotient rounds. Assumes nothing.
 use mathlib.Core.Path.{◌≡◌, refl, ◌∙◌, ap}
-use Prim.Native.Nat.{ℕ, ◌*◌, ◌^◌, ◌≤◌, ◌<◌}
+use Prim.Native.Nat.{ℕ, ◌*◌, ◌^◌, ◌<◌}
 use native.Mathlib.Nat.{le_of_lt, lt_of_lt_of_le, mul_comm, mul_assoc, mul-pos}
 use mathlib.Core.Bool.{true, false, true≢false}
 use lib.IntN.{pos}

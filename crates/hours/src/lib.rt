@@ -11,6 +11,5 @@ const HOUR: f64 = 3600.0;
 pub fn hours(seconds: u32) -> f64
     ensures { result ≡ hours_of seconds }
 {
-    let s = seconds as f64;
-    s / HOUR
+    f64::from(seconds) / HOUR
 }

@@ -87,7 +87,7 @@ RangeInclusiveMapExtend m m' starts ends values r = extended r (held m') ≡ bul
 
 -- `range_inclusive_map_well_formed`: whether a map is well formed. Where it is, it is what an unchecked door requires, and has all its places.
 abbrev pub RangeInclusiveMapWellFormed : RangeInclusiveMap → Bool → Type 0
-RangeInclusiveMapWellFormed m r = (r ≡ formed inclusive (held m)) × (r ≡ true → Sound inclusive (held m) × (length m.starts ≡ places))
+RangeInclusiveMapWellFormed m r = (r ≡ formed inclusive (held m)) × (r ≡ true → Sound inclusive (held m) × (length m.stored.starts ≡ places))
 
 -- `range_inclusive_map_get_key_value_unchecked`: lookup through the unchecked door: the map must be well formed.
 abbrev pub RangeInclusiveMapGetKeyValueUnchecked : RangeInclusiveMap → ℤ → Range → Type 0

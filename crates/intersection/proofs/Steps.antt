@@ -16,11 +16,11 @@ use Rattle.span.proofs.Walks.{Spaced, meet, common_left, common_right, common_no
 use Rattle.key.specs.Rank.{rank, key_at}
 use Rattle.key.specs.Range.{kind_of}
 use Rattle.key.specs.declared.RangeKind.{RangeKind}
+use Rattle.outcomes.specs.declared.Stored.{Stored}
 use Rattle.key.proofs.Answers.{one_answer}
 use Rattle.key.proofs.Laws.{rank_one}
 use Rattle.two_sets.specs.InnerKind.{wide}
-use Rattle.range_list.specs.InnerColumns.{column_rows}
-use Rattle.two_sets.specs.InnerSides.{Side}
+use Rattle.two_sets.specs.InnerSides.{Side, rows}
 use Rattle.two_sets.proofs.Columns.{length_rows, spaced_rows, spaced_rest, rest_more, rest_none, rest_all}
 use Rattle.two_sets.specs.InnerLists.{Going}
 use Rattle.two_sets.proofs.Writing.{going_step}
@@ -49,37 +49,37 @@ module _ (w s e t f : ℕ) (xs ys : List Span) (a : Spaced 0 (span s (w + e) 0 �
       ∙ rw (meet_is) (cons_or (ltb (max s t) (w + min e f)) (span (max s t) (w + min e f) 0) _)
 
 -- what the sets have in common after a step: the left range went, or the right one
-abbrev pub shared_next : RangeKind → List ℤ → List ℤ → ℕ → ℕ → List ℤ → List ℤ → ℕ → ℕ → Bool → List Span
-shared_next kind sa ea na i sb eb nb j left = shared_from kind sa ea na (i + bool_byte left) sb eb nb (j + bool_byte (not left))
+abbrev pub shared_next : RangeKind → Stored → ℕ → Stored → ℕ → Bool → List Span
+shared_next kind a i b j left = shared_from kind a (i + bool_byte left) b (j + bool_byte (not left))
 
-module _ (kind : RangeKind) {sa ea sb eb : List ℤ} {na nb : ℕ} (a : Side (kind_of kind) sa ea na) (b : Side (kind_of kind) sb eb nb) where
+module _ (kind : RangeKind) {m other : Stored} (a : Side (kind_of kind) m) (b : Side (kind_of kind) other) where
   -- at most as many as the sets have together
-  pub most : length (shared kind sa ea na sb eb nb) ≤ na + nb
+  pub most : length (shared kind m other) ≤ m.count + other.count
   most =
       omega (
         arith,
-        length_common (column_rows (kind_of kind) sa ea na) (column_rows (kind_of kind) sb eb nb) (spaced_rows (kind_of kind) a) (spaced_rows (kind_of kind) b),
+        length_common (rows (kind_of kind) m) (rows (kind_of kind) other) (spaced_rows (kind_of kind) a) (spaced_rows (kind_of kind) b),
         length_rows (kind_of kind) a,
         length_rows (kind_of kind) b,
       )
 
   -- from the first places on it is all
-  pub found_all : shared kind sa ea na sb eb nb ≡ shared_from kind sa ea na 0 sb eb nb 0
+  pub found_all : shared kind m other ≡ shared_from kind m 0 other 0
   found_all = rw (rest_all (kind_of kind) a, rest_all (kind_of kind) b)
 
   -- past the end of either nothing is found
-  pub found_none : (i j : ℕ) → na ≤ i → shared_from kind sa ea na i sb eb nb j ≡ []
+  pub found_none : (i j : ℕ) → m.count ≤ i → shared_from kind m i other j ≡ []
   found_none i j h = rw (rest_none (kind_of kind) a i h) (common_none _)
 
-  pub found_no : (i j : ℕ) → nb ≤ j → shared_from kind sa ea na i sb eb nb j ≡ []
+  pub found_no : (i j : ℕ) → other.count ≤ j → shared_from kind m i other j ≡ []
   found_no i j h = rw (rest_none (kind_of kind) b j h) (common_no _ (spaced_rest (kind_of kind) a i))
 
   -- A STEP: s and t are the ranks of the starts at hand, e and f those of the ends
-  module _ {i j s e t f : ℕ} (p : i < na) (q : j < nb)
-      (s-is : s ≡ key_rank sa i) (e-is : e ≡ key_rank ea i) (t-is : t ≡ key_rank sb j) (f-is : f ≡ key_rank eb j) where
-    found_by_lem : (left : Bool) → left ≡ ltb e f → shared_from kind sa ea na i sb eb nb j
-        ≡ cond (ltb (max s t) (wide kind + min e f)) (span (max s t) (wide kind + min e f) 0 ∷ shared_next kind sa ea na i sb eb nb j left)
-        (shared_next kind sa ea na i sb eb nb j left)
+  module _ {i j s e t f : ℕ} (p : i < m.count) (q : j < other.count)
+      (s-is : s ≡ key_rank m.starts i) (e-is : e ≡ key_rank m.ends i) (t-is : t ≡ key_rank other.starts j) (f-is : f ≡ key_rank other.ends j) where
+    found_by_lem : (left : Bool) → left ≡ ltb e f → shared_from kind m i other j
+        ≡ cond (ltb (max s t) (wide kind + min e f)) (span (max s t) (wide kind + min e f) 0 ∷ shared_next kind m i other j left)
+        (shared_next kind m i other j left)
     found_by_lem true h =
         let x = rest_more kind a i p s-is e-is in
         let y = rest_more kind b j q t-is f-is in
@@ -94,8 +94,8 @@ module _ (kind : RangeKind) {sa ea sb eb : List ℤ} {na nb : ℕ} (a : Side (ki
         (step_right (wide kind) s e t f _ _ (rw x at (spaced_rest (kind_of kind) a i)) (rw y at (spaced_rest (kind_of kind) b j)) (ltb-false e f (sym h)))
 
     found_step : {lo hi : ℕ} (left found : Bool) → left ≡ ltb e f → lo ≡ max s t → hi ≡ min e f → found ≡ ltb lo (wide kind + hi)
-        → shared_from kind sa ea na i sb eb nb j
-        ≡ cond found (span lo (wide kind + hi) 0 ∷ shared_next kind sa ea na i sb eb nb j left) (shared_next kind sa ea na i sb eb nb j left)
+        → shared_from kind m i other j
+        ≡ cond found (span lo (wide kind + hi) 0 ∷ shared_next kind m i other j left) (shared_next kind m i other j left)
     found_step left found l lo hi g = rw (g, lo, hi) (found_by_lem left l)
 
 -- THE ENDS AT HAND after a step: of the side that goes the next one, which was read ahead, and of the other the same
@@ -121,26 +121,26 @@ open_step : (found : Bool) (w lo hi s e lo₁ hi₁ : ℕ) (all more : List Span
 open_step true w lo hi s e lo₁ hi₁ all more a l h = rw (a, l, h)
 open_step false w lo hi s e lo₁ hi₁ all more a l h = rw (a, l, h)
 
-module _ (kind : RangeKind) {sa ea sb eb : List ℤ} {na nb : ℕ} (a : Side (kind_of kind) sa ea na) (b : Side (kind_of kind) sb eb nb)
-    {i j : ℕ} (p : i < na) (q : j < nb) {start end : ℤ} {found left : Bool}
-    (e : Stepped kind (key_rank sa i) (key_rank ea i) (key_rank sb j) (key_rank eb j) start end found left) where
-  pub step_found : shared_from kind sa ea na i sb eb nb j
-      ≡ cond found (span (rank start) (wide kind + rank end) 0 ∷ shared_next kind sa ea na i sb eb nb j left) (shared_next kind sa ea na i sb eb nb j left)
+module _ (kind : RangeKind) {m other : Stored} (a : Side (kind_of kind) m) (b : Side (kind_of kind) other)
+    {i j : ℕ} (p : i < m.count) (q : j < other.count) {start end : ℤ} {found left : Bool}
+    (e : Stepped kind (key_rank m.starts i) (key_rank m.ends i) (key_rank other.starts j) (key_rank other.ends j) start end found left) where
+  pub step_found : shared_from kind m i other j
+      ≡ cond found (span (rank start) (wide kind + rank end) 0 ∷ shared_next kind m i other j left) (shared_next kind m i other j left)
   step_found = found_step kind a b p q refl refl refl refl left found e.first e.start e.end e.met
 
   -- the first that is found; and none yet
-  pub first_found : {goal : List Span} → found ≡ true → goal ≡ shared_from kind sa ea na i sb eb nb j
-      → goal ≡ span (rank start) (wide kind + rank end) 0 ∷ shared_next kind sa ea na i sb eb nb j left
+  pub first_found : {goal : List Span} → found ≡ true → goal ≡ shared_from kind m i other j
+      → goal ≡ span (rank start) (wide kind + rank end) 0 ∷ shared_next kind m i other j left
   first_found f g = g ∙ (rw f at step_found)
 
-  pub none_found : {goal : List Span} → found ≡ false → goal ≡ shared_from kind sa ea na i sb eb nb j → goal ≡ shared_next kind sa ea na i sb eb nb j left
+  pub none_found : {goal : List Span} → found ≡ false → goal ≡ shared_from kind m i other j → goal ≡ shared_next kind m i other j left
   none_found f g = g ∙ (rw f at step_found)
 
   pub going_found : {os oe os₁ oe₁ os₂ oe₂ : List ℤ} {goal : List Span} {n at : ℕ} (lo hi lo₁ hi₁ : ℕ)
-      → Going (kind_of kind) n os oe goal at (span lo (wide kind + hi) 0 ∷ shared_from kind sa ea na i sb eb nb j) os₁ oe₁
+      → Going (kind_of kind) n os oe goal at (span lo (wide kind + hi) 0 ∷ shared_from kind m i other j) os₁ oe₁
       → lo₁ ≡ cond found (rank start) lo → hi₁ ≡ cond found (rank end) hi
       → os₂ ≡ set os₁ at (key_at lo) → oe₂ ≡ set oe₁ at ((kind_of kind).ending (wide kind + hi))
-      → Going (kind_of kind) n os oe goal (at + bool_byte found) (span lo₁ (wide kind + hi₁) 0 ∷ shared_next kind sa ea na i sb eb nb j left) os₂ oe₂
+      → Going (kind_of kind) n os oe goal (at + bool_byte found) (span lo₁ (wide kind + hi₁) 0 ∷ shared_next kind m i other j left) os₂ oe₂
   going_found lo hi lo₁ hi₁ g l h s t =
       going_step (kind_of kind) g found (span lo (wide kind + hi) 0)
       (open_step found (wide kind) lo hi (rank start) (rank end) lo₁ hi₁ _ _ step_found l h) (omega arith) s t

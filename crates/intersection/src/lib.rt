@@ -13,28 +13,19 @@ ghost use Rattle.intersection.specs.InnerFound.{shared};
 
 use crate::walk::{step, write_from};
 use key::RangeKind;
+use outcomes::Stored;
 use two_sets::Position;
 
 // How many ranges the two sets have in common.
-pub fn counted(
-    kind: RangeKind,
-    starts_a: &[i64],
-    ends_a: &[i64],
-    count_a: usize,
-    starts_b: &[i64],
-    ends_b: &[i64],
-    count_b: usize,
-) -> usize
-    requires { Side (kind_of kind) starts_a.now ends_a.now count_a
-        × Side (kind_of kind) starts_b.now ends_b.now count_b }
-    ensures { result ≡ length (shared kind starts_a.now ends_a.now count_a
-        starts_b.now ends_b.now count_b) }
+pub fn counted(kind: RangeKind, a: &Stored, b: &Stored) -> usize
+    requires { Side (kind_of kind) a.now × Side (kind_of kind) b.now }
+    ensures { result ≡ length (shared kind a.now b.now) }
 {
     let mut n = 0;
     let mut i = 0;
     let mut j = 0;
-    while i < count_a && j < count_b {
-        let s = step(kind, starts_a, ends_a, i, starts_b, ends_b, j);
+    while i < a.count && j < b.count {
+        let s = step(kind, a, i, b, j);
         i += s.left as usize;
         j += !s.left as usize;
         n += s.found as usize;
@@ -45,27 +36,20 @@ pub fn counted(
 // Writes what the sets have in common, and answers how many ranges that is. The first is looked for, and then the rest is written.
 pub fn write(
     kind: RangeKind,
-    starts_a: &[i64],
-    ends_a: &[i64],
-    count_a: usize,
-    starts_b: &[i64],
-    ends_b: &[i64],
-    count_b: usize,
+    a: &Stored,
+    b: &Stored,
     out_starts: &mut [i64],
     out_ends: &mut [i64],
 ) -> usize
-    requires { Side (kind_of kind) starts_a.now ends_a.now count_a
-        × Side (kind_of kind) starts_b.now ends_b.now count_b
-        × ListRoom 0 (shared kind starts_a.now ends_a.now count_a starts_b.now ends_b.now count_b)
-        out_starts.old out_ends.old }
-    ensures { Ended (kind_of kind) 0 (shared kind starts_a.now ends_a.now count_a
-        starts_b.now ends_b.now count_b)
+    requires { Side (kind_of kind) a.now × Side (kind_of kind) b.now
+        × ListRoom 0 (shared kind a.now b.now) out_starts.old out_ends.old }
+    ensures { Ended (kind_of kind) 0 (shared kind a.now b.now)
         out_starts.old out_ends.old result out_starts.new out_ends.new }
 {
     let mut i = 0;
     let mut j = 0;
-    while i < count_a && j < count_b {
-        let s = step(kind, starts_a, ends_a, i, starts_b, ends_b, j);
+    while i < a.count && j < b.count {
+        let s = step(kind, a, i, b, j);
         i += s.left as usize;
         j += !s.left as usize;
         if s.found {
@@ -76,10 +60,7 @@ pub fn write(
                 start: s.start,
                 end: s.end,
             };
-            return write_from(
-                kind, starts_a, ends_a, count_a, starts_b, ends_b, count_b, first, out_starts,
-                out_ends,
-            );
+            return write_from(kind, a, b, first, out_starts, out_ends);
         }
     }
     0

@@ -6,11 +6,13 @@ ghost use Rattle.two_sets.specs.InnerLists.{Ended};
 ghost use Rattle.intersection.specs.InnerFound.{open_shared, key_rank, Stepped, Ready, Gone};
 ghost use Rattle.intersection.specs.InnerAhead.{Carries};
 
-use key::RangeKind;
+use key::{Bounds, RangeKind};
+use outcomes::Stored;
 use range_list::put;
 use two_sets::{Position, meets, pick};
 
 // A step of the walk: what the two ranges at hand have in common, whether that is anything, and whether the left one goes.
+// `found` stands beside the keys, and no `Option` holds them: to take them out of one is a branch that depends on the keys.
 #[derive(Clone, Copy)]
 pub struct Overlap {
     pub start: i64,
@@ -20,54 +22,48 @@ pub struct Overlap {
 }
 
 // The step over a range of each set.
-fn step_over(kind: RangeKind, start_a: i64, end_a: i64, start_b: i64, end_b: i64) -> Overlap
-    ensures { Stepped kind (rank start_a) (rank end_a) (rank start_b) (rank end_b) result.start result.end result.found result.left }
+fn step_over(kind: RangeKind, a: Bounds, b: Bounds) -> Overlap
+    ensures { Stepped kind (rank a.start) (rank a.end) (rank b.start) (rank b.end) result.start result.end result.found result.left }
 {
-    let start = key::max(start_a, start_b);
-    let end = key::min(end_a, end_b);
+    let start = key::max(a.start, b.start);
+    let end = key::min(a.end, b.end);
     Overlap {
         start,
         end,
         found: meets(kind, start, end),
-        left: end_a < end_b,
+        left: a.end < b.end,
     }
 }
 
 // The step at places `i` and `j`.
-pub fn step(
-    kind: RangeKind,
-    starts_a: &[i64],
-    ends_a: &[i64],
-    i: usize,
-    starts_b: &[i64],
-    ends_b: &[i64],
-    j: usize,
-) -> Overlap
-    requires { (i < length starts_a.now) × (i < length ends_a.now) × (j < length starts_b.now) × (j < length ends_b.now) }
-    ensures { Stepped kind (key_rank starts_a.now i) (key_rank ends_a.now i)
-        (key_rank starts_b.now j) (key_rank ends_b.now j) result.start result.end result.found result.left }
+pub fn step(kind: RangeKind, a: &Stored, i: usize, b: &Stored, j: usize) -> Overlap
+    requires { (i < length a.now.starts) × (i < length a.now.ends) × (j < length b.now.starts) × (j < length b.now.ends) }
+    ensures { Stepped kind (key_rank a.now.starts i) (key_rank a.now.ends i)
+        (key_rank b.now.starts j) (key_rank b.now.ends j) result.start result.end result.found result.left }
 {
-    step_over(kind, starts_a[i], ends_a[i], starts_b[j], ends_b[j])
+    let here = Bounds {
+        start: a.starts[i],
+        end: a.ends[i],
+    };
+    let there = Bounds {
+        start: b.starts[j],
+        end: b.ends[j],
+    };
+    step_over(kind, here, there)
 }
 
 // The end at place `i`, if the set has such a place.
-fn end_at(ends: &[i64], count: usize, i: usize) -> i64
-    requires { count ≤ length ends.now }
-    ensures { i < count → rank result ≡ key_rank ends.now i }
+fn end_at(m: &Stored, i: usize) -> i64
+    requires { m.now.count ≤ length m.now.ends }
+    ensures { i < m.now.count → rank result ≡ key_rank m.now.ends i }
 {
-    if i < count {
-        return ends[i];
-    }
-    0
+    if i < m.count { m.ends[i] } else { 0 }
 }
 
 // A step, and the ends at hand after it, of the first set and of the second.
 #[derive(Clone, Copy)]
 struct Carried {
-    start: i64,
-    end: i64,
-    found: bool,
-    left: bool,
+    step: Overlap,
     here: i64,
     there: i64,
 }
@@ -76,27 +72,30 @@ struct Carried {
 // so no comparison waits for a read that waits for the comparison before.
 fn step_ahead(
     kind: RangeKind,
-    starts_a: &[i64],
-    ends_a: &[i64],
+    a: &Stored,
     i: usize,
     end_a: i64,
-    starts_b: &[i64],
-    ends_b: &[i64],
+    b: &Stored,
     j: usize,
     end_b: i64,
 ) -> Carried
-    requires { (i < length starts_a.now) × (i + 1 < length ends_a.now) × (j < length starts_b.now) × (j + 1 < length ends_b.now)
-        × (rank end_a ≡ key_rank ends_a.now i) × (rank end_b ≡ key_rank ends_b.now j) }
-    ensures { Carries kind starts_a.now ends_a.now i starts_b.now ends_b.now j result }
+    requires { (i < length a.now.starts) × (i + 1 < length a.now.ends) × (j < length b.now.starts) × (j + 1 < length b.now.ends)
+        × (rank end_a ≡ key_rank a.now.ends i) × (rank end_b ≡ key_rank b.now.ends j) }
+    ensures { Carries kind a.now i b.now j result }
 {
-    let next_a = ends_a[i + 1];
-    let next_b = ends_b[j + 1];
-    let s = step_over(kind, starts_a[i], end_a, starts_b[j], end_b);
+    let next_a = a.ends[i + 1];
+    let next_b = b.ends[j + 1];
+    let here = Bounds {
+        start: a.starts[i],
+        end: end_a,
+    };
+    let there = Bounds {
+        start: b.starts[j],
+        end: end_b,
+    };
+    let s = step_over(kind, here, there);
     Carried {
-        start: s.start,
-        end: s.end,
-        found: s.found,
-        left: s.left,
+        step: s,
         here: pick(s.left, next_a, end_a),
         there: pick(s.left, end_b, next_b),
     }
@@ -106,105 +105,73 @@ fn step_ahead(
 // Each step writes the open range, and a range that is found becomes the open one: so no branch depends on the keys.
 fn write_most(
     kind: RangeKind,
-    starts_a: &[i64],
-    ends_a: &[i64],
-    count_a: usize,
-    starts_b: &[i64],
-    ends_b: &[i64],
-    count_b: usize,
+    a: &Stored,
+    b: &Stored,
     from: Position,
     out_starts: &mut [i64],
     out_ends: &mut [i64],
 ) -> Position
-    requires { Ready kind starts_a.now ends_a.now count_a starts_b.now ends_b.now count_b from out_starts.old out_ends.old }
-    ensures { Gone kind starts_a.now ends_a.now count_a starts_b.now ends_b.now count_b
-        from out_starts.old out_ends.old result out_starts.new out_ends.new }
+    requires { Ready kind a.now b.now from out_starts.old out_ends.old }
+    ensures { Gone kind a.now b.now from out_starts.old out_ends.old result out_starts.new out_ends.new }
 {
-    let mut at = from.at;
-    let mut i = from.i;
-    let mut j = from.j;
-    let mut lo = from.start;
-    let mut hi = from.end;
-    let mut end_a = end_at(ends_a, count_a, i);
-    let mut end_b = end_at(ends_b, count_b, j);
-    while i + 1 < count_a && j + 1 < count_b {
-        put(out_starts, out_ends, at, lo, hi);
-        let t = step_ahead(kind, starts_a, ends_a, i, end_a, starts_b, ends_b, j, end_b);
-        end_a = t.here;
-        end_b = t.there;
-        i += t.left as usize;
-        j += !t.left as usize;
-        at += t.found as usize;
-        lo = pick(t.found, t.start, lo);
-        hi = pick(t.found, t.end, hi);
+    let mut here = from;
+    let mut end_a = end_at(a, from.i);
+    let mut end_b = end_at(b, from.j);
+    while here.i + 1 < a.count && here.j + 1 < b.count {
+        put(out_starts, out_ends, here.at, here.start, here.end);
+        let carried = step_ahead(kind, a, here.i, end_a, b, here.j, end_b);
+        end_a = carried.here;
+        end_b = carried.there;
+        let t = carried.step;
+        here.i += t.left as usize;
+        here.j += !t.left as usize;
+        here.at += t.found as usize;
+        here.start = pick(t.found, t.start, here.start);
+        here.end = pick(t.found, t.end, here.end);
     }
-    Position {
-        at,
-        i,
-        j,
-        start: lo,
-        end: hi,
-    }
+    here
 }
 
 // Writes the open range and all that the sets have in common from there on, and answers how many ranges are written then.
 fn write_rest(
     kind: RangeKind,
-    starts_a: &[i64],
-    ends_a: &[i64],
-    count_a: usize,
-    starts_b: &[i64],
-    ends_b: &[i64],
-    count_b: usize,
+    a: &Stored,
+    b: &Stored,
     from: Position,
     out_starts: &mut [i64],
     out_ends: &mut [i64],
 ) -> usize
-    requires { Ready kind starts_a.now ends_a.now count_a starts_b.now ends_b.now count_b from out_starts.old out_ends.old }
-    ensures { Ended (kind_of kind) from.at (open_shared kind starts_a.now ends_a.now count_a
-        starts_b.now ends_b.now count_b from)
+    requires { Ready kind a.now b.now from out_starts.old out_ends.old }
+    ensures { Ended (kind_of kind) from.at (open_shared kind a.now b.now from)
         out_starts.old out_ends.old result out_starts.new out_ends.new }
 {
-    let mut at = from.at;
-    let mut i = from.i;
-    let mut j = from.j;
-    let mut lo = from.start;
-    let mut hi = from.end;
-    while i < count_a && j < count_b {
-        put(out_starts, out_ends, at, lo, hi);
-        let s = step(kind, starts_a, ends_a, i, starts_b, ends_b, j);
-        i += s.left as usize;
-        j += !s.left as usize;
-        at += s.found as usize;
-        lo = pick(s.found, s.start, lo);
-        hi = pick(s.found, s.end, hi);
+    let mut here = from;
+    while here.i < a.count && here.j < b.count {
+        put(out_starts, out_ends, here.at, here.start, here.end);
+        let s = step(kind, a, here.i, b, here.j);
+        here.i += s.left as usize;
+        here.j += !s.left as usize;
+        here.at += s.found as usize;
+        here.start = pick(s.found, s.start, here.start);
+        here.end = pick(s.found, s.end, here.end);
     }
-    put(out_starts, out_ends, at, lo, hi);
-    at + 1
+    put(out_starts, out_ends, here.at, here.start, here.end);
+    here.at + 1
 }
 
 // The same, in two parts: the ends are read ahead as long as both sets have a next range.
 pub fn write_from(
     kind: RangeKind,
-    starts_a: &[i64],
-    ends_a: &[i64],
-    count_a: usize,
-    starts_b: &[i64],
-    ends_b: &[i64],
-    count_b: usize,
+    a: &Stored,
+    b: &Stored,
     from: Position,
     out_starts: &mut [i64],
     out_ends: &mut [i64],
 ) -> usize
-    requires { Ready kind starts_a.now ends_a.now count_a starts_b.now ends_b.now count_b from out_starts.old out_ends.old }
-    ensures { Ended (kind_of kind) from.at (open_shared kind starts_a.now ends_a.now count_a
-        starts_b.now ends_b.now count_b from)
+    requires { Ready kind a.now b.now from out_starts.old out_ends.old }
+    ensures { Ended (kind_of kind) from.at (open_shared kind a.now b.now from)
         out_starts.old out_ends.old result out_starts.new out_ends.new }
 {
-    let most = write_most(
-        kind, starts_a, ends_a, count_a, starts_b, ends_b, count_b, from, out_starts, out_ends,
-    );
-    write_rest(
-        kind, starts_a, ends_a, count_a, starts_b, ends_b, count_b, most, out_starts, out_ends,
-    )
+    let most = write_most(kind, a, b, from, out_starts, out_ends);
+    write_rest(kind, a, b, most, out_starts, out_ends)
 }

@@ -11,43 +11,45 @@ ghost use Rattle.key.specs.Range.{kind_of};
 pub type Value = u8;
 
 // The least key, of rank 0.
-pub const LEAST: i64 = -9223372036854775808;
+pub const LEAST: i64 = i64::MIN;
 
 // The greatest key: no key comes after it.
-pub const GREATEST: i64 = 9223372036854775807;
+pub const GREATEST: i64 = i64::MAX;
 
 // The two kinds of range: start..end, and start..=end.
-#[derive(Clone, Copy)]
+#[derive(Clone, Copy, Debug, PartialEq, Eq)]
 pub enum RangeKind {
     HalfOpen,
     Inclusive,
 }
 
 // The start and the end of a range, of either kind.
-#[derive(Clone, Copy)]
+#[derive(Clone, Copy, Debug, PartialEq, Eq)]
 pub struct Bounds {
     pub start: i64,
     pub end: i64,
+}
+
+// A range and its value.
+#[derive(Clone, Copy, Debug, PartialEq, Eq)]
+pub struct Entry {
+    pub start: i64,
+    pub end: i64,
+    pub value: Value,
 }
 
 // The lesser of two keys.
 pub fn min(a: i64, b: i64) -> i64
     ensures { result ≡ lesser a b }
 {
-    if a < b {
-        return a;
-    }
-    b
+    a.min(b)
 }
 
 // The greater of two keys.
 pub fn max(a: i64, b: i64) -> i64
     ensures { result ≡ greater a b }
 {
-    if a < b {
-        return b;
-    }
-    a
+    a.max(b)
 }
 
 // The next key, after any but the greatest.
@@ -81,18 +83,8 @@ pub fn full(kind: RangeKind, start: i64, end: i64) -> bool
     ensures { Decides result (rank start < (kind_of kind).past end) }
 {
     match kind {
-        RangeKind::HalfOpen => {
-            if start < end {
-                return true;
-            }
-            false
-        }
-        RangeKind::Inclusive => {
-            if start <= end {
-                return true;
-            }
-            false
-        }
+        RangeKind::HalfOpen => start < end,
+        RangeKind::Inclusive => start <= end,
     }
 }
 

@@ -4,36 +4,42 @@ use native.Mathlib.Omega.{arith}
 use mathlib.Core.Path.{◌≡◌, sym, ap, ◌∙◌}
 use mathlib.Core.Bool.{true, false, ◌&&◌}
 use lib.Dec.{ltb, leb}
-use borrow.Author.Tests.{ltb-true, leb-true, lt-ltb, le-ltb, le-leb, lt-leb}
-use Rattle.answers.specs.Answers.{bad_day}
+use borrow.Author.Tests.{ltb-true, leb-true, lt-ltb, le-ltb, le-leb}
+use Rattle.std.specs.Prelude.{Ok, Err}
+use Rattle.answers.specs.declared.Refusal.TheVariants.{BadDay}
 use Rattle.calendar.specs.declared.Date.{Date}
 use Rattle.calendar.specs.Calendar.{date, is_date, next_date}
 use Rattle.calendar.specs.Years.{Known}
 use Rattle.calendar.proofs.Every.{both}
 use Rattle.calendar.proofs.Numbers.{There, there, Follows, Onward, same_year, new_year, follows}
-use Rattle.log_day.specs.declared.Day.TheVariants.{Span, Refused}
-use Rattle.log_day.specs.Days.{zones, midnight, accepted, day_of}
+use Rattle.log_day.specs.declared.TimeZone.{TimeZone}
+use Rattle.log_day.specs.declared.TimeZone.TheVariants.{Eastern, Central, Mountain, Pacific, Alaska, Hawaii, MountainFixed}
+use Rattle.log_day.specs.Days.{zones, midnight, accepted, bounds, day_of}
+use Rattle.log_day.specs.InnerZones.{zone_number, in_ledger}
 
--- a refusal: the zone, the year
+-- a zone of the code is there
+pub number_below : (z : TimeZone) → zone_number z < zones
+number_below Eastern = omega arith
+number_below Central = omega arith
+number_below Mountain = omega arith
+number_below Pacific = omega arith
+number_below Alaska = omega arith
+number_below Hawaii = omega arith
+number_below MountainFixed = omega arith
+
+-- a number that is no zone's is refused; and else the date decides
 module _ (z : ℕ) (d : Date) where
-  pub no_zone : zones ≤ z → false ≡ accepted z d
+  pub no_zone : zones ≤ z → accepted z d ≡ false
   unfolding accepted
   no_zone h = rw (le-ltb z zones h)
 
-  module _ (h : z < zones) where
-    pub too_early : d.year < 2007 → false ≡ accepted z d
-    unfolding accepted
-    too_early i = rw (lt-ltb z zones h, lt-leb 2007 d.year i)
+  pub by_date : z < zones → in_ledger d ≡ accepted z d
+  unfolding accepted in_ledger
+  by_date h = rw (lt-ltb z zones h)
 
-    module _ (i : 2007 ≤ d.year) where
-      pub too_late : 2099 < d.year → false ≡ accepted z d
-      unfolding accepted
-      too_late j = rw (lt-ltb z zones h, le-leb 2007 d.year i, lt-leb d.year 2099 j)
-
-      -- and else the date
-      pub by_date : d.year ≤ 2099 → is_date d ≡ accepted z d
-      unfolding accepted
-      by_date j = rw (lt-ltb z zones h, le-leb 2007 d.year i, le-leb d.year 2099 j)
+  by_year : 2007 ≤ d.year → d.year ≤ 2099 → is_date d ≡ in_ledger d
+  unfolding in_ledger
+  by_year i j = rw (le-leb 2007 d.year i, le-leb d.year 2099 j)
 
 -- what is known where a zone and a date are accepted
 pub record Good (z : ℕ) (d : Date) : Type 0 where
@@ -52,7 +58,11 @@ good z d e =
     record { zone = ltb-true z zones a; from = leb-true 2007 d.year b; to = leb-true d.year 2099 c; is_date_lem = t; is_there = there d t }
 
 pub good_accepted : (z : ℕ) (d : Date) → Good z d → accepted z d ≡ true
-good_accepted z d g = sym (by_date z d g.zone g.from g.to) ∙ g.is_date_lem
+good_accepted z d g = sym (by_year z d g.from g.to ∙ by_date z d g.zone) ∙ g.is_date_lem
+
+-- the zone that the code finds
+pub good_zone : (z : TimeZone) {n : ℕ} {d : Date} → zone_number z ≡ n → accepted n d ≡ true → Good (zone_number z) d
+good_zone z {n} {d} e a = good (zone_number z) d (ap (λ (k : ℕ). accepted k d) e ∙ a)
 
 -- the next date: at most a year later
 pub next_follows : (z : ℕ) (d : Date) → Good z d → Follows d (next_date d)
@@ -68,10 +78,10 @@ pub next_known : (z : ℕ) (d : Date) → Good z d → Known (next_date d).year
 next_known z d g = onward_known (next_follows z d g).onward g.from g.to
 
 -- the answers
-pub accepts : (z y m d : ℕ) → accepted z (date y m d) ≡ true → Span (midnight z (date y m d)) (midnight z (next_date (date y m d))) ≡ day_of z y m d
+pub accepts : (z y m d : ℕ) → accepted z (date y m d) ≡ true → Ok (bounds (midnight z (date y m d)) (midnight z (next_date (date y m d)))) ≡ day_of z y m d
 unfolding day_of
 accepts z y m d e = rw e
 
-pub refuses : (z y m d : ℕ) → accepted z (date y m d) ≡ false → Refused bad_day ≡ day_of z y m d
+pub refuses : (z y m d : ℕ) → accepted z (date y m d) ≡ false → Err BadDay ≡ day_of z y m d
 unfolding day_of
 refuses z y m d e = rw e

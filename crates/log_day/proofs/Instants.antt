@@ -7,8 +7,8 @@ use lib.IntN.{pos, nat_abs}
 use Rattle.calendar.specs.declared.Date.{Date}
 use Rattle.calendar.specs.Calendar.{date, leap, year_length, month_length, sum_of_first, years_before, months_before, day_number, next_date}
 use Rattle.calendar.proofs.Numbers.{There, Onward, same_year, new_year, follows, one_date, number_of, years_mono, date_yes}
-use Rattle.log_day.specs.declared.Day.TheVariants.{Span}
-use Rattle.log_day.specs.Days.{zones, day_of}
+use Rattle.std.specs.Prelude.{Ok}
+use Rattle.log_day.specs.Days.{zones, bounds, day_of}
 use Rattle.log_day.proofs.Keys.{seconds}
 use Rattle.log_day.proofs.Accepted.{Good, next_follows}
 use Rattle.log_day.proofs.Spans.{held, day_is, starts_ascend}
@@ -17,7 +17,7 @@ use Rattle.log_day.proofs.Spans.{held, day_is, starts_ascend}
 pub record In (z t : ℕ) (d : Date) : Type 0 where
   pub from : ℕ
   pub to : ℕ
-  pub day : day_of z d.year d.month d.day ≡ Span (pos from) (pos to)
+  pub day : day_of z d.year d.month d.day ≡ Ok (bounds (pos from) (pos to))
   pub after : from ≤ t
   pub before : t < to
 
@@ -117,13 +117,13 @@ last_date : next_date (date 2099 12 31) ≡ past
 unfolding next_date month_length
 last_date = refl
 
-pub last_day : (z : ℕ) → z < zones → day_of z 2099 12 31 ≡ Span (pos (seconds z (date 2099 12 31))) (pos (seconds z past))
+pub last_day : (z : ℕ) → z < zones → day_of z 2099 12 31 ≡ Ok (bounds (pos (seconds z (date 2099 12 31))) (pos (seconds z past)))
 unfolding month_length
 last_day z h =
     let last = date 2099 12 31 in
     let t : There last = record { day_from = omega arith; day_to = omega arith; month_from = omega arith; month_to = omega arith } in
     let g : Good z last = record { zone = h; from = omega arith; to = omega arith; is_date_lem = date_yes last (omega arith) (omega arith); is_there = t } in
-    day_is z 2099 12 31 g ∙ ap (λ (d : Date). Span (pos (seconds z last)) (pos (seconds z d))) last_date
+    day_is z 2099 12 31 g ∙ ap (λ (d : Date). Ok (bounds (pos (seconds z last)) (pos (seconds z d)))) last_date
 
 -- ONE DAY only
 record Lies (z t : ℕ) (d : Date) : Type 0 where

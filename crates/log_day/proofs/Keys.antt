@@ -121,3 +121,8 @@ back e f = ap (λ (z : ℤ). to_z w64 (of_z w64 z)) e ∙ to_z-of_z f
 
 pub utc_fits : (n : ℕ) → n < 65536 → SFits w64 (pos (86400 * n))
 utc_fits n h = record { sfits = omega arith }
+
+-- the key of a midnight, as the code subtracts
+pub midnight_back : (z : ℕ) (d : Date) → z < zones → {n : ℕ} {u o : ℤ} → n ≡ day_number d → n < 65536 → u ≡ pos (86400 * n) → o ≡ offset z d → to_z w64 (of_z w64 u) -ℤ to_z w64 (of_z w64 o) ≡ midnight z d
+midnight_back z d h {n} p l e f =
+    midnight_of_offset z d (back e (utc_fits n l) ∙ ap (λ (i : ℕ). pos (86400 * i)) p) (back f (offset_fits z d h))

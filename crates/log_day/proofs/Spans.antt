@@ -6,16 +6,17 @@ use mathlib.Core.Path.{◌≡◌, refl, sym, ap, ap₂, subst, ◌∙◌}
 use mathlib.Core.Bool.{Bool, true, false, ◌&&◌}
 use lib.Dec.{T}
 use lib.IntN.{ℤ, pos, nat_abs}
-use Rattle.answers.specs.Answers.{bad_day}
+use Rattle.answers.specs.declared.Refusal.{Refusal}
+use Rattle.answers.specs.declared.Refusal.TheVariants.{BadDay}
+use Rattle.std.specs.Prelude.{Result, Ok, Err}
 use Rattle.calendar.specs.declared.Date.{Date}
 use Rattle.calendar.specs.Calendar.{date, day_number, next_date, march_sunday, november_sunday}
 use Rattle.calendar.proofs.Numbers.{There, Follows, Onward, same_year, new_year, number_below, date_yes}
 use Rattle.calendar.proofs.Every.{cases}
 use Rattle.calendar.proofs.Sundays.{changes_of, year_starts, december_after}
-use Rattle.log_day.specs.declared.Day.{Day}
-use Rattle.log_day.specs.declared.Day.TheVariants.{Span, Refused}
+use Rattle.key.specs.declared.Bounds.{Bounds}
 use Rattle.log_day.specs.declared.LogDay.{LogDay}
-use Rattle.log_day.specs.Days.{zones, standard, changes_clock, daylight, accepted, day_of, day_in_c}
+use Rattle.log_day.specs.Days.{zones, standard, changes_clock, daylight, accepted, bounds, day_of, day_in_c}
 use Rattle.log_day.proofs.Keys.{seconds, midnight_seconds, seconds_below, standard_west, early, summer_gone, in_summer}
 use Rattle.log_day.proofs.Accepted.{Good, good, good_accepted, next_follows, next_known, accepts, refuses}
 
@@ -125,14 +126,14 @@ pub starts_ascend : (z : ℕ) (d e : Date) → z < zones → day_number d < day_
 starts_ascend z d e h n = omega (arith, west z h, high z d, low z e h)
 
 -- WHAT IS ANSWERED: of an accepted date its day, and else 8
-pub day_is : (z y m d : ℕ) → Good z (date y m d) → day_of z y m d ≡ Span (pos (seconds z (date y m d))) (pos (seconds z (next_date (date y m d))))
+pub day_is : (z y m d : ℕ) → Good z (date y m d) → day_of z y m d ≡ Ok (bounds (pos (seconds z (date y m d))) (pos (seconds z (next_date (date y m d)))))
 day_is z y m d g =
     let x = date y m d in
-    sym (accepts z y m d (good_accepted z x g)) ∙ ap₂ Span (midnight_seconds z x g.zone) (midnight_seconds z (next_date x) g.zone)
+    sym (accepts z y m d (good_accepted z x g)) ∙ ap₂ (λ (s e : ℤ). Ok (bounds s e)) (midnight_seconds z x g.zone) (midnight_seconds z (next_date x) g.zone)
 
 data Answer (z y m d : ℕ) : Type 0 where
   yes_day : Good z (date y m d) → Answer z y m d
-  no_day_lem : day_of z y m d ≡ Refused bad_day → Answer z y m d
+  no_day_lem : day_of z y m d ≡ Err BadDay → Answer z y m d
 
 answer : (z y m d : ℕ) → Answer z y m d
 answer z y m d = go (accepted z (date y m d)) refl
@@ -140,23 +141,6 @@ answer z y m d = go (accepted z (date y m d)) refl
     go : (b : Bool) → accepted z (date y m d) ≡ b → Answer z y m d
     go true e = yes_day (good z (date y m d) e)
     go false e = no_day_lem (sym (refuses z y m d e))
-
--- a day's start and end, and whether it is one
-abbrev start_of : Day → ℤ
-start_of (Span s e) = s
-start_of (Refused n) = pos 0
-
-abbrev end_of : Day → ℤ
-end_of (Span s e) = e
-end_of (Refused n) = pos 0
-
-abbrev number_of : Day → ℕ
-number_of (Span s e) = 0
-number_of (Refused n) = n
-
-abbrev is_span : Day → ℕ
-is_span (Span s e) = 1
-is_span (Refused n) = 0
 
 -- WHAT IS KNOWN OF A DAY that was answered: start and end are plain numbers, in order, far below the greatest key
 pub record Held (z : ℕ) (d : Date) (s e : ℤ) : Type 0 where
@@ -171,11 +155,14 @@ pub record Held (z : ℕ) (d : Date) (s e : ℤ) : Type 0 where
   pub below : to < 2 ^ 40
   pub length_is : Length z d (to - from)
 
-pub held : (z y m d : ℕ) {s e : ℤ} → day_of z y m d ≡ Span s e → Held z (date y m d) s e
+ok_same : {a b : Bounds} → ◌≡◌ {A = Result Bounds Refusal} (Ok a) (Ok b) → a ≡ b
+ok_same p = cc
+
+pub held : (z y m d : ℕ) {s e : ℤ} → day_of z y m d ≡ Ok (bounds s e) → Held z (date y m d) s e
 held z y m d {s} {e} h = go (answer z y m d)
   where
     go : Answer z y m d → Held z (date y m d) s e
-    go (no_day_lem r) = let n : ◌≡◌ {A = ℕ} 0 1 = ap is_span (sym r ∙ h) in absurd (omega arith)
+    go (no_day_lem r) = let n : ◌≡◌ {A = ℕ} 0 1 = cc in absurd (omega arith)
     go (yes_day g) =
         let x = date y m d in
         let f = next_follows z x g in
@@ -184,8 +171,8 @@ held z y m d {s} {e} h = go (answer z y m d)
           is_good = g;
           from = seconds z x;
           to = seconds z (next_date x);
-          start_is = ap start_of p;
-          end_is = ap end_of p;
+          start_is = ap (λ (b : Bounds). b.start) (ok_same p);
+          end_is = ap (λ (b : Bounds). b.end) (ok_same p);
           from_is = refl;
           to_is = refl;
           ordered = omega (arith, starts_ascend z x (next_date x) g.zone (omega (arith, f.number)));
@@ -193,15 +180,15 @@ held z y m d {s} {e} h = go (answer z y m d)
           length_is = day_length z x g;
         }
 
-pub refused_is : (z y m d : ℕ) {n : ℕ} → day_of z y m d ≡ Refused n → n ≡ 8
-refused_is z y m d {n} h = go (answer z y m d)
+pub refused_is : (z y m d : ℕ) {why : Refusal} → day_of z y m d ≡ Err why → why ≡ BadDay
+refused_is z y m d {why} h = go (answer z y m d)
   where
-    go : Answer z y m d → n ≡ 8
-    go (no_day_lem r) = ap number_of (sym h ∙ r)
-    go (yes_day g) = let k : ◌≡◌ {A = ℕ} 0 1 = ap is_span (sym h ∙ day_is z y m d g) in absurd (omega arith)
+    go : Answer z y m d → why ≡ BadDay
+    go (no_day_lem r) = cc
+    go (yes_day g) = let p = day_is z y m d g in cc
 
 -- CONSECUTIVE DAYS MEET: the end of a day is the start of the next date's
-pub meet : (z y m d : ℕ) {s e s' e' : ℤ} → day_of z y m d ≡ Span s e → day_of z (next_date (date y m d)).year (next_date (date y m d)).month (next_date (date y m d)).day ≡ Span s' e' → e ≡ s'
+pub meet : (z y m d : ℕ) {s e s' e' : ℤ} → day_of z y m d ≡ Ok (bounds s e) → day_of z (next_date (date y m d)).year (next_date (date y m d)).month (next_date (date y m d)).day ≡ Ok (bounds s' e') → e ≡ s'
 meet z y m d {s} {e} {s'} {e'} h i =
     let x = next_date (date y m d) in
     let a = held z y m d h in
@@ -254,7 +241,7 @@ module _ (z : ℕ) (d : Date) (g : Good z d) where
       go (plain e i j) = absurd (j c h)
 
 -- ONE ANSWER: two answers that meet the promise are equal
-pub day_one : {r t : Day} (z y m d : ℕ) → r ≡ day_of z y m d → t ≡ day_of z y m d → r ≡ t
+pub day_one : {r t : Result Bounds Refusal} (z y m d : ℕ) → r ≡ day_of z y m d → t ≡ day_of z y m d → r ≡ t
 day_one z y m d p q = p ∙ sym q
 
 pub log_day_one : {r t : LogDay} (z y m d : ℕ) → r ≡ day_in_c (day_of z y m d) → t ≡ day_in_c (day_of z y m d) → r ≡ t

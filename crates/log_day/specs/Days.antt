@@ -1,10 +1,12 @@
 -- Document 01, Log days: the zones, their offsets, and the start and end of a day as keys, UTC seconds since 1970-01-01.
-use Rattle.std.specs.Prelude.{ℕ, ◌*◌, Bool, true, false, ◌&&◌, cond, List, [], ◌∷◌, map, ltb, leb, get_or, ℤ, pos, neg_ℤ, ◌+ℤ◌, ◌-ℤ◌}
-use Rattle.answers.specs.Answers.{done, bad_day}
+use Rattle.std.specs.Prelude.{ℕ, ◌*◌, Bool, true, false, ◌&&◌, cond, List, [], ◌∷◌, Result, Ok, Err, map, ltb, leb, get_or, ℤ, pos, neg_ℤ, ◌+ℤ◌, ◌-ℤ◌}
+use Rattle.answers.specs.Answers.{done}
+use Rattle.answers.specs.Refusals.{number}
+use Rattle.answers.specs.declared.Refusal.{Refusal}
+use Rattle.answers.specs.declared.Refusal.TheVariants.{BadDay}
 use Rattle.calendar.specs.declared.Date.{Date}
 use Rattle.calendar.specs.Calendar.{date, day_number, is_date, next_date, march_sunday, november_sunday}
-use Rattle.log_day.specs.declared.Day.{Day}
-use Rattle.log_day.specs.declared.Day.TheVariants.{Span, Refused}
+use Rattle.key.specs.declared.Bounds.{Bounds}
 use Rattle.log_day.specs.declared.LogDay.{LogDay}
 
 -- a zone: its standard offset in seconds, and whether it changes its clock
@@ -56,11 +58,15 @@ midnight zone d = pos (86400 * day_number d) -ℤ offset zone d
 unfoldable pub accepted : ℕ → Date → Bool
 accepted zone d = ltb zone zones && (leb 2007 d.year && (leb d.year 2099 && is_date d))
 
+-- a start and an end
+abbrev pub bounds : ℤ → ℤ → Bounds
+bounds s e = record { start = s; end = e }
+
 -- A DAY runs from its local midnight to the next date's
-unfoldable pub day_of : ℕ → ℕ → ℕ → ℕ → Day
-day_of zone y m d = let x = date y m d in cond (accepted zone x) (Span (midnight zone x) (midnight zone (next_date x))) (Refused bad_day)
+unfoldable pub day_of : ℕ → ℕ → ℕ → ℕ → Result Bounds Refusal
+day_of zone y m d = let x = date y m d in cond (accepted zone x) (Ok (bounds (midnight zone x) (midnight zone (next_date x)))) (Err BadDay)
 
 -- the number and the values of each answer
-abbrev pub day_in_c : Day → LogDay
-day_in_c (Span s e) = record { answer = done; start = s; end = e }
-day_in_c (Refused n) = record { answer = n; start = pos 0; end = pos 0 }
+abbrev pub day_in_c : Result Bounds Refusal → LogDay
+day_in_c (Ok day) = record { answer = done; start = day.start; end = day.end }
+day_in_c (Err why) = record { answer = number why; start = pos 0; end = pos 0 }

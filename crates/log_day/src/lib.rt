@@ -1,90 +1,125 @@
 // Log days: the start and end of a date's day in a zone, as keys.
 #![tactic(auto)]
 
-ghost use Rattle.std.specs.Prelude.{◌≡◌, ◌&&◌, ◌*◌, ◌<◌, ◌≤◌, pos};
+ghost use Rattle.std.specs.Prelude.{◌≡◌, false, true, ◌&&◌, ◌*◌, ◌<◌, ◌≤◌, pos, MatchResult};
 ghost use Rattle.calendar.specs.Years.{Known};
-ghost use Rattle.log_day.specs.Days.{zones, standard, changes_clock, daylight, offset, midnight, accepted, day_of, day_in_c};
+ghost use Rattle.log_day.specs.Days.{standard, changes_clock, daylight, offset, midnight, accepted, day_of, day_in_c};
+ghost use Rattle.log_day.specs.InnerZones.{zone_number, IsZone, in_ledger};
 ghost use Rattle.log_day.specs.Promises.{LogDayPromise};
 
-use answers::{BAD_DAY, DONE};
+use answers::{DONE, Refusal};
 use calendar::{Date, DayNumber};
-
-// A day as its start and end, or the number of a refusal.
-#[derive(Clone, Copy)]
-pub enum Day {
-    Span(i64, i64),
-    Refused(u8),
-}
+use key::Bounds;
 
 // A day as C and Rust see it: answer 0 with start and end, or 8.
 #[repr(C)]
-#[derive(Clone, Copy)]
+#[derive(Clone, Copy, Debug, PartialEq, Eq)]
 pub struct LogDay {
     pub answer: u8,
     pub start: i64,
     pub end: i64,
 }
 
-// How many zones there are: 0 Eastern, 1 Central, 2 Mountain, 3 Pacific, 4 Alaska, 5 Hawaii, 6 Mountain, fixed.
-pub const ZONES: usize = 7;
+// The zones, in the order of their numbers from 0. The clock of the last is fixed.
+#[derive(Clone, Copy, Debug, PartialEq, Eq)]
+enum TimeZone {
+    Eastern,
+    Central,
+    Mountain,
+    Pacific,
+    Alaska,
+    Hawaii,
+    MountainFixed,
+}
 
-// The zones' standard offsets, in seconds, and whether they change their clocks.
-const STANDARD: [i64; ZONES] = [-18000, -21600, -25200, -28800, -32400, -36000, -25200];
+// The seconds of an hour and of a day of 24 hours.
+const HOUR: i64 = 3600;
 
-const CHANGES: [bool; ZONES] = [true, true, true, true, true, false, false];
+const DAY: i64 = 24 * HOUR;
+
+// The standard offset of each zone, in seconds, in the order of their numbers.
+const STANDARD: [i64; 7] = [
+    -5 * HOUR,
+    -6 * HOUR,
+    -7 * HOUR,
+    -8 * HOUR,
+    -9 * HOUR,
+    -10 * HOUR,
+    -7 * HOUR,
+];
+
+// The years of the ledger.
+const FIRST_YEAR: u16 = 2007;
+
+const LAST_YEAR: u16 = 2099;
+
+// The zone of a number, where there is one.
+impl TryFrom<u8> for TimeZone {
+    type Error = Refusal;
+
+    ghost try_from_gives = { IsZone };
+
+    fn try_from(number: u8) -> Result<TimeZone, Refusal> {
+        match number {
+            0 => Ok(TimeZone::Eastern),
+            1 => Ok(TimeZone::Central),
+            2 => Ok(TimeZone::Mountain),
+            3 => Ok(TimeZone::Pacific),
+            4 => Ok(TimeZone::Alaska),
+            5 => Ok(TimeZone::Hawaii),
+            6 => Ok(TimeZone::MountainFixed),
+            _ => Err(Refusal::BadDay),
+        }
+    }
+}
+
+impl TimeZone {
+    // Its standard offset, in seconds.
+    #[tactic(auto, unfolding(crate::specs::Days::standard))]
+    fn standard(self) -> i64
+        ensures { result ≡ standard (zone_number self) }
+    {
+        STANDARD[self as usize]
+    }
+
+    // Whether it changes its clock.
+    #[tactic(auto, unfolding(crate::specs::Days::changes_clock))]
+    fn changes_clock(self) -> bool
+        ensures { result ≡ changes_clock (zone_number self) }
+    {
+        !matches!(self, TimeZone::Hawaii | TimeZone::MountainFixed)
+    }
+}
 
 // Whether a date's midnight has daylight offset in a zone that changes its clock.
+#[tactic(auto, unfolding(crate::specs::Days::daylight))]
 fn is_daylight(date: Date) -> bool
     requires { Known date.year × (1 ≤ date.day) }
     ensures { result ≡ daylight date }
 {
-    let year = date.year;
-    let today = calendar::day_number(date).0;
-    if today <= calendar::march_sunday(year).0 {
-        return false;
-    }
-    if calendar::november_sunday(year).0 < today {
-        return false;
-    }
-    true
-}
-
-// A zone's standard offset.
-fn standard_of(zone: u8) -> i64
-    requires { zone < zones }
-    ensures { result ≡ standard zone }
-{
-    STANDARD[zone as usize]
-}
-
-// Whether a zone changes its clock.
-fn changes_clock(zone: u8) -> bool
-    requires { zone < zones }
-    ensures { result ≡ changes_clock zone }
-{
-    CHANGES[zone as usize]
+    let today = calendar::day_number(date);
+    calendar::march_sunday(date.year) < today && today <= calendar::november_sunday(date.year)
 }
 
 // Whether a date's midnight has daylight offset in a zone.
-fn has_daylight(zone: u8, date: Date) -> bool
-    requires { (zone < zones) × Known date.year × (1 ≤ date.day) }
-    ensures { result ≡ (changes_clock zone && daylight date) }
+fn has_daylight(zone: TimeZone, date: Date) -> bool
+    requires { Known date.year × (1 ≤ date.day) }
+    ensures { result ≡ (changes_clock (zone_number zone) && daylight date) }
 {
-    if changes_clock(zone) {
-        return is_daylight(date);
-    }
-    false
+    zone.changes_clock() && is_daylight(date)
 }
 
 // The offset of a date's midnight.
-fn offset_of(zone: u8, date: Date) -> i64
-    requires { (zone < zones) × Known date.year × (1 ≤ date.day) }
-    ensures { result ≡ offset zone date }
+fn offset_of(zone: TimeZone, date: Date) -> i64
+    requires { Known date.year × (1 ≤ date.day) }
+    ensures { result ≡ offset (zone_number zone) date }
 {
+    let standard = zone.standard();
     if has_daylight(zone, date) {
-        return standard_of(zone) + 3600;
+        standard + HOUR
+    } else {
+        standard
     }
-    standard_of(zone)
 }
 
 // The key of a day's midnight at offset 0: the one place where days become seconds.
@@ -92,65 +127,66 @@ fn utc_midnight(n: DayNumber) -> i64
     requires { n.0 < 65536 }
     ensures { result ≡ pos (86400 * n.0) }
 {
-    86400 * n.0 as i64
+    DAY * i64::from(n.0)
 }
 
 // The key of a date's midnight.
-fn midnight_of(zone: u8, date: Date) -> i64
-    requires { (zone < zones) × Known date.year × (1 ≤ date.day) }
-    ensures { result ≡ midnight zone date }
+fn midnight_of(zone: TimeZone, date: Date) -> i64
+    requires { Known date.year × (1 ≤ date.day) }
+    ensures { result ≡ midnight (zone_number zone) date }
 {
     utc_midnight(calendar::day_number(date)) - offset_of(zone, date)
 }
 
-// Whether a zone and a date are there, in the years of the ledger.
-fn is_accepted(zone: u8, date: Date) -> bool
-    ensures { result ≡ accepted zone date }
+// Whether a date is there, in the years of the ledger.
+#[tactic(auto, unfolding(crate::specs::InnerZones::in_ledger))]
+fn is_in_ledger(date: Date) -> bool
+    ensures { result ≡ in_ledger date }
 {
-    if ZONES <= zone as usize {
-        return false;
-    }
-    if date.year < 2007 {
-        return false;
-    }
-    if 2099 < date.year {
-        return false;
-    }
-    calendar::is_date(date)
+    FIRST_YEAR <= date.year && date.year <= LAST_YEAR && calendar::is_date(date)
 }
 
-// The day of a date in a zone.
-pub fn day_of(zone: u8, year: u16, month: u8, day: u8) -> Day
+// The zone of a number, where the zone and the date are accepted.
+fn accepted_zone(number: u8, date: Date) -> Result<TimeZone, Refusal>
+    ensures { MatchResult result (λ z. (zone_number z ≡ number) × (accepted number date ≡ true))
+        (λ why. (why ≡ Refusal.BadDay) × (accepted number date ≡ false)) }
+{
+    let zone = TimeZone::try_from(number)?;
+    if is_in_ledger(date) {
+        Ok(zone)
+    } else {
+        Err(Refusal::BadDay)
+    }
+}
+
+// The day of a date in a zone, from its start up to its end.
+pub fn day_of(zone: u8, year: u16, month: u8, day: u8) -> Result<Bounds, Refusal>
     ensures { result ≡ day_of zone year month day }
 {
-    let date = Date {
-        year: year,
-        month: month,
-        day: day,
-    };
-    if is_accepted(zone, date) {
-        let start = midnight_of(zone, date);
-        let end = midnight_of(zone, calendar::next(date));
-        return Day::Span(start, end);
-    }
-    Day::Refused(BAD_DAY)
+    let date = Date { year, month, day };
+    let there = accepted_zone(zone, date)?;
+    let start = midnight_of(there, date);
+    let end = midnight_of(there, calendar::next(date));
+    Ok(Bounds { start, end })
 }
 
 // A day as C and Rust see it.
-fn log_day_of(d: Day) -> LogDay
-    ensures { result ≡ day_in_c d }
-{
-    match d {
-        Day::Span(start, end) => LogDay {
-            answer: DONE,
-            start: start,
-            end: end,
-        },
-        Day::Refused(n) => LogDay {
-            answer: n,
-            start: 0,
-            end: 0,
-        },
+impl From<Result<Bounds, Refusal>> for LogDay {
+    ghost from_gives = { λ d r. r ≡ day_in_c d };
+
+    fn from(d: Result<Bounds, Refusal>) -> LogDay {
+        match d {
+            Ok(Bounds { start, end }) => LogDay {
+                answer: DONE,
+                start,
+                end,
+            },
+            Err(why) => LogDay {
+                answer: why.number(),
+                start: 0,
+                end: 0,
+            },
+        }
     }
 }
 
@@ -158,5 +194,5 @@ fn log_day_of(d: Day) -> LogDay
 pub fn log_day(zone: u8, year: u16, month: u8, day: u8) -> LogDay
     ensures { LogDayPromise zone year month day result }
 {
-    log_day_of(day_of(zone, year, month, day))
+    LogDay::from(day_of(zone, year, month, day))
 }

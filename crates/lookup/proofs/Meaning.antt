@@ -16,16 +16,18 @@ use Rattle.span.proofs.Tests.{Within, in_same, yes_in}
 use Rattle.span.proofs.Pieces.{at_place}
 use Rattle.key.specs.Rank.{rank}
 use Rattle.key.specs.Range.{Kind, span_of}
-use Rattle.outcomes.specs.Stored.{Stored, ranges, Sound}
+use Rattle.outcomes.specs.Stored.{ranges, Sound}
+use Rattle.outcomes.specs.declared.Stored.{Stored}
 use Rattle.outcomes.specs.Outcomes.{first_place, yes_no, lookup_sound, contains_sound, overlaps_sound, overlapping_sound}
-use Rattle.outcomes.specs.declared.Asked.TheVariants as Asked
-use Rattle.outcomes.specs.declared.Found.{Found}
-use Rattle.outcomes.specs.declared.Part.TheVariants as Part
+use Rattle.key.specs.declared.Entry.{Entry}
+use Rattle.outcomes.specs.declared.Part.{Part}
 use Rattle.store.specs.InnerCheck.{span_at}
 use Rattle.store.specs.InnerSearch.{Reached, FirstPast}
 use Rattle.lookup.proofs.Places.{nth, Exactly, exactly_inside, missed_free, meets_none}
 use Rattle.outcomes.proofs.Formed.{good}
 use Rattle.lookup.proofs.Returns.{as_many, nth_place, the_first_range, rising, placed_at, placed_none, met_empty, met_yes, met_no, exactly_met, part_empty, part_none, part_some}
+use Rattle.std.specs.Prelude.{Ok, Some, None}
+use Rattle.outcomes.specs.Answered.{Found, entry, places_from}
 
 -- is something held
 abbrev pub is_held : Option ℕ → Bool
@@ -54,8 +56,8 @@ at_none k (x ∷ xs) h = rw (h 0 (omega arith)) (at_none k xs (λ j i. h (suc j)
 -- what a lookup of the key k says: a stored range that holds the key, with the value that the map holds there; or that the map holds nothing there
 pub data Meant (kind : Kind) (m : Stored) (k : ℤ) : Found → Type 0 where
   held : (p : ℕ) → p < m.count → Within (span_at kind m p).lo (span_at kind m p).hi (rank k) → at (ranges kind m) (rank k) ≡ some (get_or m.values p 0)
-      → Meant kind m k (Found.Range (get_or m.starts p (pos 0)) (get_or m.ends p (pos 0)) (get_or m.values p 0))
-  free : at (ranges kind m) (rank k) ≡ none → Meant kind m k Found.Nothing
+      → Meant kind m k (Ok (Some (entry (get_or m.starts p (pos 0)) (get_or m.ends p (pos 0)) (get_or m.values p 0))))
+  free : at (ranges kind m) (rank k) ≡ none → Meant kind m k (Ok None)
 
 -- an instant from lo up to hi at which a list holds something
 pub record Shared (lo hi : ℕ) (xs : List Span) : Type 0 where
@@ -93,29 +95,30 @@ module _ {kind : Kind} {m : Stored} (sound : Sound kind m) where
         ]
 
     -- a range that is answered holds the key, and the map holds its value there
-    pub range_held : {s e : ℤ} {v : ℕ} → lookup_sound kind m k ≡ Found.Range s e v → Within (rank s) (kind.past e) (rank k) × (at (ranges kind m) (rank k) ≡ some v)
+    pub range_held : {s e : ℤ} {v : ℕ} → lookup_sound kind m k ≡ Ok (Some (entry s e v)) → Within (rank s) (kind.past e) (rank k) × (at (ranges kind m) (rank k) ≡ some v)
     range_held {s} {e} {v} a = go (lookup_sound kind m k) found_means a
       where
-        go : (a : Found) → Meant kind m k a → a ≡ Found.Range s e v → Within (rank s) (kind.past e) (rank k) × (at (ranges kind m) (rank k) ≡ some v)
+        go : (a : Found) → Meant kind m k a → a ≡ Ok (Some (entry s e v)) → Within (rank s) (kind.past e) (rank k) × (at (ranges kind m) (rank k) ≡ some v)
         go _ (held p h w u) a =
-            let b : get_or m.starts p (pos 0) ≡ s = cc in
-            let c : get_or m.ends p (pos 0) ≡ e = cc in
-            let d : get_or m.values p 0 ≡ v = cc in
+            let x : entry (get_or m.starts p (pos 0)) (get_or m.ends p (pos 0)) (get_or m.values p 0) ≡ entry s e v = cc in
+            let b = ap (λ (y : Entry). y.start) x in
+            let c = ap (λ (y : Entry). y.end) x in
+            let d = ap (λ (y : Entry). y.value) x in
             (rw (← b, ← c) w, u ∙ ap some d)
         go _ (free n) a = let z : ◌≡◌ {A = ℕ} 0 1 = cc in absurd (omega arith)
 
     -- the answer is 5 exactly where the map holds nothing
-    pub refused_free : lookup_sound kind m k ≡ Found.Nothing → at (ranges kind m) (rank k) ≡ none
+    pub refused_free : lookup_sound kind m k ≡ (Ok None) → at (ranges kind m) (rank k) ≡ none
     refused_free e = go (lookup_sound kind m k) found_means e
       where
-        go : (a : Found) → Meant kind m k a → a ≡ Found.Nothing → at (ranges kind m) (rank k) ≡ none
+        go : (a : Found) → Meant kind m k a → a ≡ (Ok None) → at (ranges kind m) (rank k) ≡ none
         go _ (held p h w v) e = let z : ◌≡◌ {A = ℕ} 0 1 = cc in absurd (omega arith)
         go _ (free n) e = n
 
-    pub free_refused : at (ranges kind m) (rank k) ≡ none → lookup_sound kind m k ≡ Found.Nothing
+    pub free_refused : at (ranges kind m) (rank k) ≡ none → lookup_sound kind m k ≡ (Ok None)
     free_refused n = go (lookup_sound kind m k) found_means
       where
-        go : (a : Found) → Meant kind m k a → a ≡ Found.Nothing
+        go : (a : Found) → Meant kind m k a → a ≡ (Ok None)
         go _ (held p h w v) = let z : ◌≡◌ {A = ℕ} 0 1 = cc in absurd (omega arith)
         go _ (free n) = refl
 
@@ -152,7 +155,7 @@ module _ {kind : Kind} {m : Stored} (sound : Sound kind m) where
     ]
 
     -- OVERLAPS says yes where some key of the query is held
-    pub met_means : overlaps_sound kind m s e ≡ Asked.Yes → Shared q.lo q.hi (ranges kind m)
+    pub met_means : overlaps_sound kind m s e ≡ (Ok true) → Shared q.lo q.hi (ranges kind m)
     met_means a = met_cases
         (λ h. let r = met_empty sound s e h in let z : ◌≡◌ {A = ℕ} 0 1 = cc in absurd (omega arith))
         (λ h i b.
@@ -163,7 +166,7 @@ module _ {kind : Kind} {m : Stored} (sound : Sound kind m) where
         (λ h b. let r = met_no sound s e h reach b in let z : ◌≡◌ {A = ℕ} 0 1 = cc in absurd (omega arith))
 
     -- and no where none is
-    pub unmet_means : overlaps_sound kind m s e ≡ Asked.No → (k : ℕ) → Within q.lo q.hi k → at (ranges kind m) k ≡ none
+    pub unmet_means : overlaps_sound kind m s e ≡ (Ok false) → (k : ℕ) → Within q.lo q.hi k → at (ranges kind m) k ≡ none
     unmet_means a k w = met_cases
         (λ h. absurd (omega arith))
         (λ h i b. let r = met_yes sound s e h reach i b in let z : ◌≡◌ {A = ℕ} 0 1 = cc in absurd (omega arith))
@@ -188,19 +191,21 @@ module _ {kind : Kind} {m : Stored} (sound : Sound kind m) where
       exactly = exactly_met sound s e h reach walk
 
     -- OVERLAPPING: the places of the part that is answered meet the query, and no other place does
-    pub part_means : {p n : ℕ} → overlapping_sound kind m s e ≡ Part.Places p n → Meets kind m q p n
+    pub part_means : {p n : ℕ} → overlapping_sound kind m s e ≡ Ok (places_from p n) → Meets kind m q p n
     part_means {p} {n} a = elim (dec_lt q.lo q.hi) [
       | yes h ↦ elim (dec_lt from to) [
         | yes l ↦
             let r = part_some sound s e h reach (walk h) l in
-            let u : from ≡ p = cc in
-            let v : to - from ≡ n = cc in
+            let x : places_from from (to - from) ≡ places_from p n = cc in
+            let u = ap (λ (y : Part). y.place) x in
+            let v = ap (λ (y : Part). y.count) x in
             record { within = omega (arith, (walk h).within); only = λ j i. exactly_inside (exactly h) j i ∙ in_same (omega arith) (omega arith) }
         | no l ↦
             let z : to ≡ from = omega (arith, in_order h) in
             let r = part_none sound s e h reach (walk h) z in
-            let u : 0 ≡ p = cc in
-            let v : 0 ≡ n = cc in
+            let x : places_from 0 0 ≡ places_from p n = cc in
+            let u = ap (λ (y : Part). y.place) x in
+            let v = ap (λ (y : Part). y.count) x in
             record { within = omega arith; only = λ j i. exactly_inside (exactly h) j i ∙ in_same (omega arith) (omega arith) }
       ]
       | no h ↦ let r = part_empty sound s e (omega arith) in let z : ◌≡◌ {A = ℕ} 0 1 = cc in absurd (omega arith)

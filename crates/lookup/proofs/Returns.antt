@@ -3,34 +3,41 @@ use Prim.Native.Nat.{ℕ, zero, suc, ◌-◌, ◌≤◌, ◌<◌}
 use native.Mathlib.Omega.{arith}
 use native.Mathlib.Decide.{dec_lt}
 use native.Mathlib.Numerals.{add-one}
-use mathlib.Core.Path.{◌≡◌, sym, ap, ◌∙◌}
+use mathlib.Core.Path.{◌≡◌, refl, sym, ap, ◌∙◌}
 use mathlib.Core.Bool.{Bool, true, false}
 use borrow.Author.Tests.{lt-ltb, le-ltb, le-leb, lt-leb, eq-eqb, ne_eqb}
 use lib.ListN.{length, get_or}
 use lib.IntN.{ℤ, pos}
-use Rattle.answers.specs.Answers.{empty_range}
 use Rattle.span.specs.Span.{Span, span}
 use Rattle.span.specs.Operations.{spans_overlap, any, holds}
 use Rattle.key.specs.Rank.{rank}
 use Rattle.key.specs.Range.{Kind, span_of}
-use Rattle.outcomes.specs.Stored.{Stored, ranges, Sound}
+use Rattle.key.specs.InnerDecides.{Decides}
+use Rattle.key.proofs.Answers.{not_full}
+use Rattle.outcomes.specs.Stored.{ranges, Sound}
+use Rattle.outcomes.specs.declared.Stored.{Stored}
 use Rattle.outcomes.specs.Outcomes.{first_place, how_many, part_of, range_at_sound, lookup_sound, contains_sound, overlaps_sound, overlapping_sound}
-use Rattle.outcomes.specs.declared.Asked.TheVariants as Asked
-use Rattle.outcomes.specs.declared.Found.TheVariants as Found
-use Rattle.outcomes.specs.declared.Part.TheVariants as Part
 use Rattle.outcomes.proofs.Formed.{shape, good, length_ranges, get_or_ranges}
 use Rattle.store.specs.InnerCheck.{span_at}
 use Rattle.store.specs.InnerSearch.{Reached, FirstPast}
 use Rattle.store.proofs.Checked.{formed_steps}
 use Rattle.lookup.proofs.Places.{nth, First, Exactly, exactly_first, first_as, exactly_as, is_first, the_first, any_first, how_many_lem, Rising, holds_meets, meets_at, meets_none, meets_part}
+use Rattle.std.specs.Prelude.{Option, Ok, Err, Some, None, cond, ltb}
+use Rattle.std.specs.Option.{is_some}
+use Rattle.answers.specs.declared.Refusal.TheVariants.{EmptyRange}
+use Rattle.outcomes.specs.Answered.{entry, places_from}
+
+-- the place of the range that holds a key, as code answers it
+abbrev pub place_in : Kind → Stored → ℤ → Option ℕ
+place_in kind m k = let p = first_place (holds (rank k)) (ranges kind m) in cond (ltb p m.count) (Some p) None
 
 -- a place of a map
 module _ (m : Stored) (i : ℕ) where
-  pub placed_at : i < m.count → Found.Range (get_or m.starts i (pos 0)) (get_or m.ends i (pos 0)) (get_or m.values i 0) ≡ range_at_sound m i
+  pub placed_at : i < m.count → Ok (Some (entry (get_or m.starts i (pos 0)) (get_or m.ends i (pos 0)) (get_or m.values i 0))) ≡ range_at_sound m i
   unfolding range_at_sound
   placed_at h = rw (lt-ltb i m.count h)
 
-  pub placed_none : m.count ≤ i → Found.Nothing ≡ range_at_sound m i
+  pub placed_none : m.count ≤ i → (Ok None) ≡ range_at_sound m i
   unfolding range_at_sound
   placed_none h = rw (le-ltb i m.count h)
 
@@ -71,48 +78,68 @@ module _ {kind : Kind} {m : Stored} (sound : Sound kind m) where
 
   -- the place of a key
   module _ {k : ℤ} {p : ℕ} (r : Reached kind m.count m.ends k p) where
-    pub place_found : p < m.count → rank (get_or m.starts p (pos 0)) ≤ rank k → p ≡ first_place (holds (rank k)) (ranges kind m)
+    pub place_found : p < m.count → rank (get_or m.starts p (pos 0)) ≤ rank k → Some p ≡ place_in kind m k
     place_found i h =
-        first_range (first_as (λ j b. holds_meets (rank k) (span_at kind m j)) (meets_at rising (span (rank k) (suc (rank k)) 0) r.below r.at i (omega arith)))
+        let e = first_range {t = holds (rank k)} (first_as (λ j b. holds_meets (rank k) (span_at kind m j)) (meets_at rising (span (rank k) (suc (rank k)) 0) r.below r.at i (omega arith))) in
+        rw (← e, lt-ltb p m.count i)
 
-    pub place_none : (p < m.count → rank k < rank (get_or m.starts p (pos 0))) → m.count ≡ first_place (holds (rank k)) (ranges kind m)
+    pub place_none : (p < m.count → rank k < rank (get_or m.starts p (pos 0))) → None ≡ place_in kind m k
     place_none h =
-        first_range (first_as (λ j b. holds_meets (rank k) (span_at kind m j)) (meets_none rising (span (rank k) (suc (rank k)) 0) r.below r.at (λ i. omega (arith, h i))))
+        let e = first_range {t = holds (rank k)} (first_as (λ j b. holds_meets (rank k) (span_at kind m j)) (meets_none rising (span (rank k) (suc (rank k)) 0) r.below r.at (λ i. omega (arith, h i)))) in
+        rw (← e, le-ltb m.count m.count (omega arith))
 
-  module _ (k : ℤ) {p : ℕ} (e : p ≡ first_place (holds (rank k)) (ranges kind m)) where
-    pub found_at : range_at_sound m p ≡ lookup_sound kind m k
+  -- what is answered of the place that was found
+  module _ (k : ℤ) where
+    abbrev place : ℕ
+    place = first_place (holds (rank k)) (ranges kind m)
+
+    pub found_at : {p : ℕ} → place_in kind m k ≡ Some p → range_at_sound m p ≡ lookup_sound kind m k
     unfolding lookup_sound
-    found_at = ap (range_at_sound m) e
+    found_at {p} e = elim (dec_lt place m.count) [
+      | yes h ↦ let f = rw (lt-ltb place m.count h) at e in let g : p ≡ place = cc in ap (range_at_sound m) g
+      | no h ↦ let f = rw (le-ltb place m.count (omega arith)) at e in cc
+    ]
 
-    pub contains_yes : p < m.count → Asked.Yes ≡ contains_sound kind m k
-    unfolding contains_sound
-    contains_yes h = rw (any_at (holds (rank k)) e h)
+    pub found_none : place_in kind m k ≡ None → Ok None ≡ lookup_sound kind m k
+    unfolding lookup_sound
+    found_none e = elim (dec_lt place m.count) [
+      | yes h ↦ let f = rw (lt-ltb place m.count h) at e in cc
+      | no h ↦ placed_none m place (omega arith)
+    ]
 
-    pub contains_no : m.count ≤ p → Asked.No ≡ contains_sound kind m k
+    pub contains_is : Ok (is_some (place_in kind m k)) ≡ contains_sound kind m k
     unfolding contains_sound
-    contains_no h = rw (any_none (holds (rank k)) e h)
+    contains_is = elim (dec_lt place m.count) [
+      | yes h ↦ rw (lt-ltb place m.count h, any_at (holds (rank k)) {p = place} refl h)
+      | no h ↦ rw (le-ltb place m.count (omega arith), any_none (holds (rank k)) {p = place} refl (omega arith))
+    ]
 
   -- a query
   module _ (s e : ℤ) where
     abbrev q : Span
     q = span_of kind s e 0
 
-    pub met_empty : q.hi ≤ q.lo → Asked.Refused empty_range ≡ overlaps_sound kind m s e
+    pub met_empty : q.hi ≤ q.lo → Err EmptyRange ≡ overlaps_sound kind m s e
     unfolding overlaps_sound
     met_empty h = rw (le-leb q.hi q.lo h)
 
-    pub part_empty : q.hi ≤ q.lo → Part.Refused empty_range ≡ overlapping_sound kind m s e
+    pub part_empty : q.hi ≤ q.lo → Err EmptyRange ≡ overlapping_sound kind m s e
     unfolding overlapping_sound
     part_empty h = rw (le-leb q.hi q.lo h)
 
     module _ (h : q.lo < q.hi) {p : ℕ} (r : Reached kind m.count m.ends s p) where
-      pub met_yes : p < m.count → rank (get_or m.starts p (pos 0)) < q.hi → Asked.Yes ≡ overlaps_sound kind m s e
+      pub met_yes : p < m.count → rank (get_or m.starts p (pos 0)) < q.hi → (Ok true) ≡ overlaps_sound kind m s e
       unfolding overlaps_sound
       met_yes i b = rw (lt-leb q.hi q.lo h, any_at (spans_overlap q) (first_range (meets_at rising q r.below r.at i b)) i)
 
-      pub met_no : (p < m.count → q.hi ≤ rank (get_or m.starts p (pos 0))) → Asked.No ≡ overlaps_sound kind m s e
+      pub met_no : (p < m.count → q.hi ≤ rank (get_or m.starts p (pos 0))) → (Ok false) ≡ overlaps_sound kind m s e
       unfolding overlaps_sound
       met_no b = rw (lt-leb q.hi q.lo h, any_none (spans_overlap q) (first_range (meets_none rising q r.below r.at b)) (omega arith))
+
+      -- what the code answers: whether the range at p begins before the query's end
+      pub met_is : p < m.count → (b : Bool) → Decides b (rank (get_or m.starts p (pos 0)) < q.hi) → Ok b ≡ overlaps_sound kind m s e
+      met_is i true d = met_yes i (d.right refl)
+      met_is i false d = met_no (λ _. not_full d refl)
 
       module _ {n : ℕ} (w : FirstPast kind m.count m.starts p e n) where
         pub exactly_met : Exactly (spans_overlap q) (span_at kind m) m.count p n
@@ -121,11 +148,11 @@ module _ {kind : Kind} {m : Stored} (sound : Sound kind m) where
         many : n - p ≡ how_many (spans_overlap q) (ranges kind m)
         many = how_many_lem (spans_overlap q) (ranges kind m) p n (rw as_many (exactly_as (λ j i. ap (spans_overlap q) (nth_place j i)) exactly_met))
 
-        pub part_none : n ≡ p → Part.Places 0 0 ≡ overlapping_sound kind m s e
+        pub part_none : n ≡ p → Ok (places_from 0 0) ≡ overlapping_sound kind m s e
         unfolding overlapping_sound part_of
         part_none z = rw (lt-leb q.hi q.lo h, eq-eqb (how_many (spans_overlap q) (ranges kind m)) 0 (omega (arith, many)))
 
-        pub part_some : p < n → Part.Places p (n - p) ≡ overlapping_sound kind m s e
+        pub part_some : p < n → Ok (places_from p (n - p)) ≡ overlapping_sound kind m s e
         unfolding overlapping_sound part_of
         part_some i =
             rw (lt-leb q.hi q.lo h, ne_eqb (how_many (spans_overlap q) (ranges kind m)) 0 (λ z. omega (arith, many)), ← many, ← first_range (exactly_first i exactly_met))

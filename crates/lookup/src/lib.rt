@@ -3,133 +3,92 @@
 // empty (`full`, of the keys).
 #![tactic(auto)]
 
-ghost use Rattle.std.specs.Prelude.{◌≡◌, ◌≤◌, length};
+ghost use Rattle.std.specs.Prelude.{◌≡◌, ◌≤◌, cond, length, ltb, None, Some};
 ghost use Rattle.span.specs.Operations.{holds};
 ghost use Rattle.key.specs.Rank.{rank};
 ghost use Rattle.key.specs.Range.{kind_of};
-ghost use Rattle.outcomes.specs.Stored.{stored, ranges, Sound};
+ghost use Rattle.outcomes.specs.Stored.{ranges, Sound};
 ghost use Rattle.outcomes.specs.Outcomes.{range_at_sound, first_place, lookup_sound, contains_sound, overlaps_sound, overlapping_sound};
 
-use key::{RangeKind, Value, full};
-use outcomes::{Asked, Found, Part};
+use answers::Refusal;
+use key::{Entry, RangeKind, full};
+use outcomes::{Part, Stored};
 use store::search::reaching;
 use store::walk::first_past;
 
 // The range and the value at a place. The kind of range is no matter here.
-pub fn range_at(count: usize, starts: &[i64], ends: &[i64], values: &[Value], place: usize) -> Found
-    requires { (count ≤ length starts.now) × (count ≤ length ends.now) × (count ≤ length values.now) }
-    ensures { result ≡ range_at_sound (stored count starts.now ends.now values.now) place }
+pub fn range_at(m: &Stored, place: usize) -> Result<Option<Entry>, Refusal>
+    requires { m.now.count ≤ length m.now.starts }
+    ensures { result ≡ range_at_sound m.now place }
 {
-    if place >= count {
-        return Found::Nothing;
+    if place >= m.count {
+        return Ok(None);
     }
-    Found::Range(starts[place], ends[place], values[place])
+    Ok(Some(Entry {
+        start: m.starts[place],
+        end: m.ends[place],
+        value: m.values[place],
+    }))
 }
 
-// The place of the range that holds the key: `count` if none does.
-fn place_of(
-    kind: RangeKind,
-    count: usize,
-    starts: &[i64],
-    ends: &[i64],
-    values: &[Value],
-    key: i64,
-) -> usize
-    requires { Sound (kind_of kind) (stored count starts.now ends.now values.now) }
-    ensures { result ≡ first_place (holds (rank key)) (ranges (kind_of kind) (stored count starts.now ends.now values.now)) }
+// The place of the range that holds the key, if one does.
+fn place_of(kind: RangeKind, m: &Stored, key: i64) -> Option<usize>
+    requires { Sound (kind_of kind) m.now }
+    ensures { let p = first_place (holds (rank key)) (ranges (kind_of kind) m.now) in result ≡ cond (ltb p m.now.count) (Some p) None }
 {
-    let place = reaching(kind, ends, count, key);
-    if count <= place {
-        return count;
+    let place = reaching(kind, &m.ends, m.count, key);
+    if place < m.count && m.starts[place] <= key {
+        return Some(place);
     }
-    if key < starts[place] {
-        return count;
-    }
-    place
+    None
 }
 
 // The range that holds the key, and its value.
-pub fn get_key_value(
-    kind: RangeKind,
-    count: usize,
-    starts: &[i64],
-    ends: &[i64],
-    values: &[Value],
-    key: i64,
-) -> Found
-    requires { Sound (kind_of kind) (stored count starts.now ends.now values.now) }
-    ensures { result ≡ lookup_sound (kind_of kind) (stored count starts.now ends.now values.now) key }
+pub fn get_key_value(kind: RangeKind, m: &Stored, key: i64) -> Result<Option<Entry>, Refusal>
+    requires { Sound (kind_of kind) m.now }
+    ensures { result ≡ lookup_sound (kind_of kind) m.now key }
 {
-    let place = place_of(kind, count, starts, ends, values, key);
-    range_at(count, starts, ends, values, place)
+    match place_of(kind, m, key) {
+        Some(place) => range_at(m, place),
+        None => Ok(None),
+    }
 }
 
 // Whether some range holds the key.
-pub fn contains_key(
-    kind: RangeKind,
-    count: usize,
-    starts: &[i64],
-    ends: &[i64],
-    values: &[Value],
-    key: i64,
-) -> Asked
-    requires { Sound (kind_of kind) (stored count starts.now ends.now values.now) }
-    ensures { result ≡ contains_sound (kind_of kind) (stored count starts.now ends.now values.now) key }
+pub fn contains_key(kind: RangeKind, m: &Stored, key: i64) -> Result<bool, Refusal>
+    requires { Sound (kind_of kind) m.now }
+    ensures { result ≡ contains_sound (kind_of kind) m.now key }
 {
-    if place_of(kind, count, starts, ends, values, key) < count {
-        return Asked::Yes;
-    }
-    Asked::No
+    Ok(place_of(kind, m, key).is_some())
 }
 
 // Whether some range has a key of the query. The first that is not past at `start` has one, or none has.
-pub fn overlaps(
-    kind: RangeKind,
-    count: usize,
-    starts: &[i64],
-    ends: &[i64],
-    values: &[Value],
-    start: i64,
-    end: i64,
-) -> Asked
-    requires { Sound (kind_of kind) (stored count starts.now ends.now values.now) }
-    ensures { result ≡ overlaps_sound (kind_of kind) (stored count starts.now ends.now values.now) start end }
+pub fn overlaps(kind: RangeKind, m: &Stored, start: i64, end: i64) -> Result<bool, Refusal>
+    requires { Sound (kind_of kind) m.now }
+    ensures { result ≡ overlaps_sound (kind_of kind) m.now start end }
 {
     if !full(kind, start, end) {
-        return Asked::Refused(answers::EMPTY_RANGE);
+        return Err(Refusal::EmptyRange);
     }
-    let place = reaching(kind, ends, count, start);
-    if count <= place {
-        return Asked::No;
-    }
-    let next = starts[place];
-    if !full(kind, next, end) {
-        return Asked::No;
-    }
-    Asked::Yes
+    let place = reaching(kind, &m.ends, m.count, start);
+    Ok(place < m.count && full(kind, m.starts[place], end))
 }
 
 // Which consecutive part of the places has keys of the query: place 0 and count 0 if none has.
-pub fn overlapping(
-    kind: RangeKind,
-    count: usize,
-    starts: &[i64],
-    ends: &[i64],
-    values: &[Value],
-    start: i64,
-    end: i64,
-) -> Part
-    requires { Sound (kind_of kind) (stored count starts.now ends.now values.now) }
-    ensures { result ≡ overlapping_sound (kind_of kind) (stored count starts.now ends.now values.now) start end }
+pub fn overlapping(kind: RangeKind, m: &Stored, start: i64, end: i64) -> Result<Part, Refusal>
+    requires { Sound (kind_of kind) m.now }
+    ensures { result ≡ overlapping_sound (kind_of kind) m.now start end }
 {
     if !full(kind, start, end) {
-        return Part::Refused(answers::EMPTY_RANGE);
+        return Err(Refusal::EmptyRange);
     }
-    let first = reaching(kind, ends, count, start);
-    let next = first_past(kind, starts, first, count, end);
+    let first = reaching(kind, &m.ends, m.count, start);
+    let next = first_past(kind, &m.starts, first, m.count, end);
     if next == first {
-        return Part::Places(0, 0);
+        return Ok(Part { place: 0, count: 0 });
     }
-    let many = next - first;
-    Part::Places(first, many)
+    Ok(Part {
+        place: first,
+        count: next - first,
+    })
 }

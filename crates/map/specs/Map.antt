@@ -1,7 +1,7 @@
 -- The struct `RangeMap` as a map.
-use Rattle.outcomes.specs.Stored.{Stored, stored}
+use Rattle.outcomes.specs.declared.Stored.{Stored}
 use Rattle.map.specs.declared.RangeMap.{RangeMap}
 
 -- what a `RangeMap` stores
 abbrev pub held : RangeMap → Stored
-held m = stored m.count m.starts m.ends m.values
+held m = m.stored

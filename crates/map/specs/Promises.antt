@@ -86,7 +86,7 @@ RangeMapExtend m m' starts ends values r = extended r (held m') ≡ bulk_insert 
 
 -- `range_map_well_formed`: whether a map is well formed. Where it is, it is what an unchecked door requires, and has all its places.
 abbrev pub RangeMapWellFormed : RangeMap → Bool → Type 0
-RangeMapWellFormed m r = (r ≡ formed half_open (held m)) × (r ≡ true → Sound half_open (held m) × (length m.starts ≡ places))
+RangeMapWellFormed m r = (r ≡ formed half_open (held m)) × (r ≡ true → Sound half_open (held m) × (length m.stored.starts ≡ places))
 
 -- `range_map_get_key_value_unchecked`: lookup through the unchecked door: the map must be well formed.
 abbrev pub RangeMapGetKeyValueUnchecked : RangeMap → ℤ → Range → Type 0

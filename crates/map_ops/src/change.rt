@@ -1,8 +1,8 @@
-// Edits of a map, over all its fields, for either kind: the check of the lent map, and then the unchecked door of its kind. Any map is taken.
-use answers::NOT_FORMED;
+// Edits of a map, for either kind: the check of the lent map, and then the unchecked door of its kind. Any map is taken.
+use answers::Refusal;
 use key::{RangeKind, Value};
-use outcomes::{Outcome, PLACES};
-use store::check::well_formed;
+use outcomes::Stored;
+use store::check::checked;
 
 pub mod bulk;
 
@@ -13,55 +13,34 @@ ghost use Rattle.outcomes.specs.Outcomes.{clear, insert, remove};
 ghost use Rattle.outcomes.specs.InnerOutcome.{Leaves};
 
 // Gives the value to each instant of the range and to no other.
+#[tactic(auto, unfolding(outcomes::specs::Outcomes::edit))]
 pub fn insert(
     kind: RangeKind,
-    count: &mut usize,
-    starts: &mut [i64; PLACES],
-    ends: &mut [i64; PLACES],
-    values: &mut [Value; PLACES],
+    m: &mut Stored,
     start: i64,
     end: i64,
     value: Value,
-) -> Outcome
-    ensures { Leaves result (stored count.new starts.new ends.new values.new)
-        (insert (kind_of kind) (stored count.old starts.old ends.old values.old) start end value) }
+) -> Result<(), Refusal>
+    ensures { Leaves result m.new
+        (insert (kind_of kind) m.old start end value) }
 {
-    if !well_formed(kind, *count, starts, ends, values) {
-        return Outcome::Refused(NOT_FORMED);
-    }
-    edit::insert(kind, count, starts, ends, values, start, end, value)
+    checked(kind, m)?;
+    edit::insert(kind, m, start, end, value)
 }
 
 // Uncovers exactly the instants of the range.
-pub fn remove(
-    kind: RangeKind,
-    count: &mut usize,
-    starts: &mut [i64; PLACES],
-    ends: &mut [i64; PLACES],
-    values: &mut [Value; PLACES],
-    start: i64,
-    end: i64,
-) -> Outcome
-    ensures { Leaves result (stored count.new starts.new ends.new values.new)
-        (remove (kind_of kind) (stored count.old starts.old ends.old values.old) start end) }
+#[tactic(auto, unfolding(outcomes::specs::Outcomes::edit))]
+pub fn remove(kind: RangeKind, m: &mut Stored, start: i64, end: i64) -> Result<(), Refusal>
+    ensures { Leaves result m.new
+        (remove (kind_of kind) m.old start end) }
 {
-    if !well_formed(kind, *count, starts, ends, values) {
-        return Outcome::Refused(NOT_FORMED);
-    }
-    edit::remove(kind, count, starts, ends, values, start, end)
+    checked(kind, m)?;
+    edit::remove(kind, m, start, end)
 }
 
 // Leaves nothing held, whatever the kind. It overwrites the map, so it does not check it.
-pub fn clear(
-    count: &mut usize,
-    starts: &mut [i64; PLACES],
-    ends: &mut [i64; PLACES],
-    values: &mut [Value; PLACES],
-)
-    ensures { (k : Kind) → stored count.new starts.new ends.new values.new ≡ clear k }
+pub fn clear(m: &mut Stored)
+    ensures { (k : Kind) → m.new ≡ clear k }
 {
-    *count = 0;
-    splice::clear_keys(starts, 0, PLACES);
-    splice::clear_keys(ends, 0, PLACES);
-    splice::clear_values(values, 0, PLACES);
+    *m = Stored::new();
 }

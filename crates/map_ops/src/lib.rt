@@ -1,4 +1,4 @@
-// The functions of a map of either kind, over all its fields: the check of the lent map, and then the unchecked door. Any map is taken.
+// The functions of a map of either kind: the check of the lent map, and then the unchecked door. Any map is taken.
 #![tactic(auto)]
 
 pub mod change;

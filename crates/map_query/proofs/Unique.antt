@@ -8,7 +8,7 @@ use lib.IntN.{ℤ}
 use Rattle.key.proofs.Answers.{one_answer}
 use Rattle.outcomes.specs.Numbers.{asked_in_c}
 use Rattle.outcomes.specs.Outcomes.{Written, Listed}
-use Rattle.outcomes.specs.declared.Asked.{Asked}
+use Rattle.outcomes.specs.Answered.{Asked}
 use Rattle.outcomes.specs.declared.Count.{Count}
 use Rattle.outcomes.specs.declared.Told.{Told}
 use Rattle.outcomes.proofs.Unique.{list_one}

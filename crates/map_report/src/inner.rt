@@ -18,7 +18,5 @@ pub fn range_map_day_report_unchecked(
     requires { Sound half_open (held m.now) }
     ensures { RangeMapDayReportUnchecked m.now zone year month day result }
 {
-    report::day_report_unchecked(
-        &m.count, &m.starts, &m.ends, &m.values, zone, year, month, day,
-    )
+    report::day_report_unchecked(&m.stored, zone, year, month, day)
 }

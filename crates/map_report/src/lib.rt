@@ -13,7 +13,5 @@ pub mod inner;
 pub fn range_map_day_report(m: &RangeMap, zone: u8, year: u16, month: u8, day: u8) -> DayReport
     ensures { RangeMapDayReport m.now zone year month day result }
 {
-    report::day_report(
-        &m.count, &m.starts, &m.ends, &m.values, zone, year, month, day,
-    )
+    report::day_report(&m.stored, zone, year, month, day)
 }

@@ -10,9 +10,11 @@ use lib.Dec.{eqb}
 use lib.ListN.{length, get_or}
 use lib.IntN.{pos}
 use Rattle.key.specs.Range.{Kind}
+use Rattle.key.specs.declared.Entry.{Entry}
 use Rattle.key.proofs.Lawful.{Lawful}
-use Rattle.outcomes.specs.Stored.{places, Stored}
-use Rattle.outcomes.specs.Outcomes.{Entry, Edited, Extended, extended, edit_sound, bulk_insert_sound, edit, insert, bulk_insert}
+use Rattle.outcomes.specs.Stored.{places}
+use Rattle.outcomes.specs.declared.Stored.{Stored}
+use Rattle.outcomes.specs.Outcomes.{Edited, Extended, extended, edit_sound, bulk_insert_sound, edit, insert, bulk_insert}
 use Rattle.one_map.specs.Events.{Proper, bulk_event}
 use Rattle.one_map.proofs.Known.{proper_formed}
 use Rattle.one_map.proofs.Histories.{event_proper}

@@ -16,7 +16,8 @@ use Rattle.span.proofs.Local.{EndsBefore, given_local}
 use Rattle.span.proofs.Cases.{comb}
 use Rattle.key.specs.Rank.{above_least, bit_rank, rank, key_at}
 use Rattle.key.specs.Range.{Kind, half_open, inclusive}
-use Rattle.outcomes.specs.Stored.{places, Stored, spans, ranges, filled, storing, zeros, noughts, unused, well_formed}
+use Rattle.outcomes.specs.Stored.{places, spans, ranges, filled, storing, zeros, noughts, unused, well_formed}
+use Rattle.outcomes.specs.declared.Stored.{Stored}
 use Rattle.outcomes.specs.Outcomes.{leaving, edit_sound, edit, insert, remove}
 use Rattle.outcomes.proofs.Formed.{shape, good, length_ranges, get_or_ranges}
 use Rattle.one_map.specs.Events.{Proper}

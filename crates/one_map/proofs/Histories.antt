@@ -11,6 +11,7 @@ use lib.ListN.{take}
 use lib.IntN.{ℤ}
 use mir.Syntax.{w64}
 use mir.Val.{SFits}
+use Rattle.std.specs.Prelude.{Ok, None}
 use Rattle.answers.specs.Answers.{done, no_map}
 use Rattle.span.specs.Span.{Span, at, Ordered, Edit, last}
 use Rattle.span.proofs.Tests.{cases}
@@ -18,11 +19,12 @@ use Rattle.span.proofs.Holding.{or_none}
 use Rattle.span.proofs.Sets.{last_puts}
 use Rattle.key.specs.Rank.{rank}
 use Rattle.key.specs.Range.{Kind, half_open}
+use Rattle.key.specs.declared.Entry.{Entry}
 use Rattle.key.proofs.Lawful.{Lawful}
-use Rattle.outcomes.specs.Stored.{Stored, ranges}
+use Rattle.outcomes.specs.Stored.{ranges}
+use Rattle.outcomes.specs.declared.Stored.{Stored}
 use Rattle.outcomes.specs.Numbers as Numbers
-use Rattle.outcomes.specs.declared.Found.TheVariants as Found
-use Rattle.outcomes.specs.Outcomes.{lookup, Entry, entry_change, Edited, leaving, Change, edit, clear, bulk_insert_sound, bulk_insert, edits, span_edits}
+use Rattle.outcomes.specs.Outcomes.{lookup, entry_change, Edited, leaving, Change, edit, clear, bulk_insert_sound, bulk_insert, edits, span_edits}
 use Rattle.outcomes.proofs.Edits.{none_refused, ranges_cleared}
 use Rattle.outcomes.proofs.Bulk.{range, entries_ranges, changes_puts, bulk_singles}
 use Rattle.byte_form.specs.Layout.{rm01}
@@ -159,7 +161,7 @@ module _ {kind : Kind} (law : Lawful kind) where
 
   -- or 5 where there is none
   pub no_value_told : (xs : List (Event kind)) (k : ℤ) → last_value xs (clear kind) k none ≡ none
-      → lookup kind (after_events xs (clear kind)) k ≡ Found.Nothing
+      → lookup kind (after_events xs (clear kind)) k ≡ Ok None
   no_value_told xs k e = none_found (events_proper xs (clear_proper law)) k (last_value_held xs k ∙ e)
 
   -- and two histories that agree at every key leave the same stored map, unused places included

@@ -13,6 +13,7 @@ use lib.ListN.{length, get_or, take}
 use lib.IntN.{ℤ, pos}
 use mir.Syntax.{w64}
 use mir.Val.{SFits}
+use Rattle.std.specs.Prelude.{Ok, Err, Some, None}
 use Rattle.span.specs.Span.{Span, span, inside, at, Tidy}
 use Rattle.span.specs.Operations.{holds}
 use Rattle.span.proofs.Holding.{at_upto}
@@ -21,10 +22,11 @@ use Rattle.key.specs.Rank.{rank, keys, key_at}
 use Rattle.key.specs.Range.{Kind}
 use Rattle.key.proofs.Laws.{key_fits, rank_key}
 use Rattle.key.proofs.Lawful.{Lawful}
-use Rattle.outcomes.specs.Stored.{places, Stored, spans, ranges, storing, well_formed}
+use Rattle.outcomes.specs.Stored.{places, spans, ranges, storing, well_formed}
+use Rattle.outcomes.specs.declared.Stored.{Stored}
 use Rattle.outcomes.specs.Numbers as Numbers
 use Rattle.outcomes.specs.Outcomes.{first_place, range_at_sound, lookup_sound, lookup}
-use Rattle.outcomes.specs.declared.Found.{Found}
+use Rattle.outcomes.specs.Answered.{Found, entry}
 use Rattle.outcomes.proofs.Formed.{formed, shape, good, length_ranges, get_or_ranges}
 use Rattle.outcomes.proofs.Storing.{map_take, starts_back, ends_back, values_back, upto_ranges}
 use Rattle.byte_form.proofs.Entries.{sound_formed, filled_take}
@@ -32,9 +34,9 @@ use Rattle.one_map.specs.Events.{Proper, value_of, value_at}
 
 -- a lookup that tells a value answers 0, with that value
 pub some_found : (a : Found) {v : ℕ} → value_of a ≡ some v → ((Numbers.found_in_c a).answer ≡ 0) × ((Numbers.found_in_c a).value ≡ v)
-some_found (Found.Range s e u) h = (refl, cc)
-some_found Found.Nothing h = absurd (never h)
-some_found (Found.Refused n) h = absurd (never h)
+some_found (Ok (Some x)) h = (refl, cc)
+some_found (Ok None) h = absurd (never h)
+some_found (Err why) h = absurd (never h)
 
 -- the label at a place, and none past the last
 abbrev label_at : List Span → ℕ → Option ℕ
@@ -83,17 +85,19 @@ module _ {kind : Kind} {m : Stored} (p : Proper kind m) where
   unfolding lookup_sound
   value_at_lem k = ap value_of (lookup_found k) ∙ value_placed (first_place (holds (rank k)) (ranges kind m)) ∙ sym (first_at (rank k) (ranges kind m))
 
-  placed_none : (i : ℕ) → value_of (range_at_sound m i) ≡ none → range_at_sound m i ≡ Found.Nothing
+  placed_none : (i : ℕ) → value_of (range_at_sound m i) ≡ none → range_at_sound m i ≡ Ok None
   unfolding range_at_sound
   placed_none i = go (ltb i m.count)
     where
-      go : (t : Bool) → value_of (cond t (Found.Range (get_or m.starts i (pos 0)) (get_or m.ends i (pos 0)) (get_or m.values i 0)) Found.Nothing) ≡ none
-          → cond t (Found.Range (get_or m.starts i (pos 0)) (get_or m.ends i (pos 0)) (get_or m.values i 0)) Found.Nothing ≡ Found.Nothing
+      there : Found
+      there = Ok (Some (entry (get_or m.starts i (pos 0)) (get_or m.ends i (pos 0)) (get_or m.values i 0)))
+
+      go : (t : Bool) → value_of (cond t there (Ok None)) ≡ none → cond t there (Ok None) ≡ Ok None
       go true e = absurd (never (sym e))
       go false e = refl
 
   -- where nothing is held, the lookup answers 5
-  pub none_found : (k : ℤ) → value_at kind m k ≡ none → lookup kind m k ≡ Found.Nothing
+  pub none_found : (k : ℤ) → value_at kind m k ≡ none → lookup kind m k ≡ Ok None
   unfolding lookup_sound
   none_found k e = lookup_found k ∙ placed_none (first_place (holds (rank k)) (ranges kind m)) (ap value_of (sym (lookup_found k)) ∙ e)
 

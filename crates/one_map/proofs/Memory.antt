@@ -8,9 +8,10 @@ use lib.IntN.{ℤ}
 use Rattle.answers.specs.Answers.{done}
 use Rattle.span.specs.Span.{Span, at}
 use Rattle.key.specs.Range.{Kind, half_open}
+use Rattle.key.specs.declared.Entry.{Entry}
 use Rattle.key.proofs.Lawful.{Lawful, half_open_lawful}
-use Rattle.outcomes.specs.Stored.{Stored}
-use Rattle.outcomes.specs.Outcomes.{Entry, entry_change, entries, leaving, clear, insert, remove, bulk_insert}
+use Rattle.outcomes.specs.declared.Stored.{Stored}
+use Rattle.outcomes.specs.Outcomes.{entry_change, entries, leaving, clear, insert, remove, bulk_insert}
 use Rattle.outcomes.proofs.Edits.{ranges_cleared}
 use Rattle.byte_form.specs.Bytes.{Bytes}
 use Rattle.byte_form.specs.Layout.{rm01}

@@ -17,7 +17,8 @@ use Rattle.key.specs.Rank.{rank, keys, key_at}
 use Rattle.key.specs.Range.{Kind}
 use Rattle.key.proofs.Laws.{rank_key}
 use Rattle.key.proofs.Lawful.{Lawful}
-use Rattle.outcomes.specs.Stored.{Stored, ranges}
+use Rattle.outcomes.specs.Stored.{ranges}
+use Rattle.outcomes.specs.declared.Stored.{Stored}
 use Rattle.outcomes.specs.Outcomes.{into_lists, gaps_sound, gaps}
 use Rattle.outcomes.specs.Sets.{plain, SoundSet, total_is, intersection_sound, union_sound, total_sound, intersection, union, total_of}
 use Rattle.outcomes.proofs.Storing.{upto_ranges}

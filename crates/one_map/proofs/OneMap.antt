@@ -12,6 +12,7 @@ use lib.ListN.{length}
 use lib.IntN.{ℤ}
 use mir.Syntax.{w64}
 use mir.Val.{SFits}
+use Rattle.std.specs.Prelude.{Ok, None}
 use Rattle.answers.specs.Answers.{done, too_many}
 use Rattle.span.specs.Span.{Span, inside, at, given}
 use Rattle.span.specs.Operations.{span_order}
@@ -22,10 +23,9 @@ use Rattle.span.proofs.Laws.{the_only_one, tidy_given, at_given, nothing}
 use Rattle.key.specs.Rank.{rank, keys}
 use Rattle.key.specs.Range.{Kind, half_open}
 use Rattle.key.proofs.Lawful.{Lawful}
-use Rattle.outcomes.specs.Stored.{places, Stored, ranges}
-use Rattle.outcomes.specs.declared.Asked.TheVariants as Asked
+use Rattle.outcomes.specs.Stored.{places, ranges}
+use Rattle.outcomes.specs.declared.Stored.{Stored}
 use Rattle.outcomes.specs.Outcomes.{yes_no, is_equal, order_sound, equal, Edited, leaving, edit_sound, edit, lookup, clear}
-use Rattle.outcomes.specs.declared.Found.TheVariants as Found
 use Rattle.outcomes.proofs.Formed.{shape, good, length_ranges}
 use Rattle.outcomes.proofs.Storing.{sound_storing, length_storing, upto_ranges}
 use Rattle.outcomes.proofs.Edits.{accepted, edit_accepted, edit_ranges, edit_sound_lem, edit_length, ranges_cleared}
@@ -111,19 +111,19 @@ unchecked_same p s e new = rw (proper_formed p)
 -- EQUALITY says yes exactly where two proper maps tell the same of every key, and then they are the same map
 module _ {kind : Kind} (law : Lawful kind) {a b : Stored} (p : Proper kind a) (q : Proper kind b) where
   -- where it says yes, they are the same
-  pub equal_same : equal kind a b ≡ Asked.Yes → a ≡ b
+  pub equal_same : equal kind a b ≡ Ok true → a ≡ b
   unfolding equal order_sound
   equal_same y =
       let o = span_order (ranges kind a) (ranges kind b) in
       same_ranges law p q (order_same (ranges kind a) (ranges kind b) (go o (rw (proper_formed p, proper_formed q) at y)))
     where
-      go : (o : Ordering) → yes_no (is_equal o) ≡ Asked.Yes → o ≡ Ordering.eq
+      go : (o : Ordering) → yes_no (is_equal o) ≡ Ok true → o ≡ Ordering.eq
       go Ordering.lt e = absurd (let z : ◌≡◌ {A = ℕ} 0 1 = cc in omega arith)
       go Ordering.eq e = refl
       go Ordering.gt e = absurd (let z : ◌≡◌ {A = ℕ} 0 1 = cc in omega arith)
 
   -- where they tell the same, it says yes
-  pub same_equal : ((k : ℤ) → SFits w64 k → value_at kind a k ≡ value_at kind b k) → equal kind a b ≡ Asked.Yes
+  pub same_equal : ((k : ℤ) → SFits w64 k → value_at kind a k ≡ value_at kind b k) → equal kind a b ≡ Ok true
   unfolding equal order_sound
   same_equal e = rw (proper_formed p, proper_formed q, same_lookups law p q e, order_refl (ranges kind b))
 
@@ -143,7 +143,7 @@ module _ {kind : Kind} (law : Lawful kind) where
   clear_holds k = value_at_lem clear_proper k ∙ ap (λ (xs : List Span). at xs (rank k)) (ranges_cleared kind law)
 
   -- THE ONE MAP THAT HOLDS NOTHING: a well-formed map whose lookup answers 5 at every key is a new map
-  pub one_clear : {b : Stored} → Proper kind b → ((k : ℤ) → SFits w64 k → lookup kind b k ≡ Found.Nothing) → b ≡ clear kind
+  pub one_clear : {b : Stored} → Proper kind b → ((k : ℤ) → SFits w64 k → lookup kind b k ≡ Ok None) → b ≡ clear kind
   one_clear q told = same_lookups law q clear_proper (λ k fit. ap value_of (told k fit) ∙ sym (clear_holds k))
 
 -- READ leaves a proper map, whose written form the bytes are

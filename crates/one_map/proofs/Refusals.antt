@@ -7,84 +7,95 @@ use mathlib.Core.Bool.{Bool, true, false, ◌&&◌, not, cond}
 use mathlib.Core.List.{List, [], ◌∷◌, ◌++◌, map}
 use mathlib.Core.Option.{Option}
 use borrow.Author.Tests.{ltb-false}
-use lib.Dec.{eqb, ltb, leb}
+use lib.Dec.{eqb, ltb}
 use lib.ListN.{length, get_or, drop, length-append, length-drop, length-map}
 use lib.Seq.{get_or-append-add, get_or-drop}
 use lib.IntN.{ℤ, pos}
+use Rattle.std.specs.Prelude.{Ok, Err, Some, None}
+use Rattle.std.specs.declared.cmp.Ordering.TheVariants.{Less, Equal, Greater}
 use Rattle.answers.specs.Answers.{done, empty_range, too_many, too_short, not_formed, none_there, no_map, total_over}
+use Rattle.answers.specs.declared.Refusal.{Refusal}
+use Rattle.answers.specs.declared.Refusal.TheVariants.{EmptyRange, TooShort, NotFormed}
 use Rattle.span.specs.Span.{Span, given}
 use Rattle.span.specs.Operations.{uncovered, spans_overlap, any, holds, common, united, span_total}
 use Rattle.key.specs.Rank.{rank, keys, key_at}
 use Rattle.key.specs.Range.{Kind, half_open, span_of, empty}
-use Rattle.outcomes.specs.Stored.{places, Stored, ranges, storing, well_formed}
+use Rattle.key.specs.declared.Entry.{Entry}
+use Rattle.outcomes.specs.Stored.{places, ranges, storing}
+use Rattle.outcomes.specs.declared.Stored.{Stored}
 use Rattle.outcomes.specs.Numbers.{asked_in_c, counted_in_c, part_in_c, compared_in_c, totalled_in_c}
 use Rattle.outcomes.specs.Numbers as Numbers
 use Rattle.outcomes.specs.Outcomes.{not_written}
-use Rattle.outcomes.specs.Outcomes.{yes_no, compared_by, is_equal, first_place, how_many, part_of, Entry, in_first_places, Written, Edited, leaving, extended}
+use Rattle.outcomes.specs.Outcomes.{yes_no, compared_by, is_equal, first_place, how_many, part_of, in_first_places, Written, Edited, leaving, extended}
 use Rattle.outcomes.specs.Outcomes.{range_at_sound, lookup_sound, overlaps_sound, overlapping_sound, into_lists, gaps_sound, order_sound, edit_sound, formed}
 use Rattle.outcomes.specs.Outcomes.{range_at, lookup, overlaps, overlapping, gaps, order, equal, edit, bulk_insert}
 use Rattle.outcomes.specs.Sets.{plain, total_is, intersection_sound, union_sound, total_sound, formed_set, intersection, union, total_of}
-use Rattle.outcomes.specs.declared.Asked.{Asked}
-use Rattle.outcomes.specs.declared.Counted.{Counted}
-use Rattle.outcomes.specs.declared.Found.{Found}
-use Rattle.outcomes.specs.declared.Part.{Part}
-use Rattle.outcomes.specs.declared.Compared.{Compared}
-use Rattle.outcomes.specs.declared.Totalled.{Totalled}
+use Rattle.outcomes.specs.Answered.{Asked, Counted, Found, Located, Compared, Totalled, places_from}
 use Rattle.byte_form.specs.Layout.{rm01}
 use Rattle.byte_form.specs.Form.{form_of, Output, output, map_in, is_form, read}
 use Rattle.byte_form.specs.Form as Form
 
 -- EVERY OTHER FIELD IS 0 on any number but 0: yes or no
 pub told_zero : (a : Asked) → ((asked_in_c a).answer ≡ 0 → ⊥) → (asked_in_c a).yes ≡ false
-told_zero Asked.Yes n = absurd (n refl)
-told_zero Asked.No n = refl
-told_zero (Asked.Refused r) n = refl
+told_zero (Ok true) n = absurd (n refl)
+told_zero (Ok false) n = refl
+told_zero (Err why) n = refl
 
 -- a count
 pub count_zero : (a : Counted) → ((counted_in_c a).answer ≡ 0 → ⊥) → (counted_in_c a).count ≡ 0
-count_zero (Counted.Count c) n = absurd (n refl)
-count_zero (Counted.Refused r) n = refl
+count_zero (Ok c) n = absurd (n refl)
+count_zero (Err why) n = refl
 
 -- a range and its value
 pub range_zero : (a : Found) → ((Numbers.found_in_c a).answer ≡ 0 → ⊥)
     → ((Numbers.found_in_c a).start ≡ pos 0) × ((Numbers.found_in_c a).end ≡ pos 0) × ((Numbers.found_in_c a).value ≡ 0)
-range_zero (Found.Range s e v) n = absurd (n refl)
-range_zero Found.Nothing n = (refl, refl, refl)
-range_zero (Found.Refused r) n = (refl, refl, refl)
+range_zero (Ok (Some x)) n = absurd (n refl)
+range_zero (Ok None) n = (refl, refl, refl)
+range_zero (Err why) n = (refl, refl, refl)
 
 -- a part of the places
-pub stretch_zero : (a : Part) → ((part_in_c a).answer ≡ 0 → ⊥) → ((part_in_c a).place ≡ 0) × ((part_in_c a).count ≡ 0)
-stretch_zero (Part.Places i c) n = absurd (n refl)
-stretch_zero (Part.Refused r) n = (refl, refl)
+pub stretch_zero : (a : Located) → ((part_in_c a).answer ≡ 0 → ⊥) → ((part_in_c a).place ≡ 0) × ((part_in_c a).count ≡ 0)
+stretch_zero (Ok p) n = absurd (n refl)
+stretch_zero (Err why) n = (refl, refl)
 
 -- an order
 pub order_zero : (a : Compared) → ((compared_in_c a).answer ≡ 0 → ⊥) → (compared_in_c a).order ≡ pos 0
-order_zero Compared.Less n = absurd (n refl)
-order_zero Compared.Equal n = absurd (n refl)
-order_zero Compared.Greater n = absurd (n refl)
-order_zero (Compared.Refused r) n = refl
+order_zero (Ok Less) n = absurd (n refl)
+order_zero (Ok Equal) n = absurd (n refl)
+order_zero (Ok Greater) n = absurd (n refl)
+order_zero (Err why) n = refl
 
 -- a total
 pub total_zero : (a : Totalled) → ((totalled_in_c a).answer ≡ 0 → ⊥) → (totalled_in_c a).total ≡ 0
-total_zero (Totalled.Total t) n = absurd (n refl)
-total_zero (Totalled.Refused r) n = refl
+total_zero (Ok t) n = absurd (n refl)
+total_zero (Err why) n = refl
 
--- ALL LENT MEMORY IS AS IT WAS on any number but 0: a map that is edited
+-- ALL LENT MEMORY IS AS IT WAS on any number but 0: what stands behind a check leaves a map as it was where it does so alone
+pub unchanged_behind : (m : Stored) (t : Bool) (o : Edited) → ((o.answer ≡ 0 → ⊥) → o.left ≡ m)
+    → ((cond t o (leaving not_formed m)).answer ≡ 0 → ⊥) → (cond t o (leaving not_formed m)).left ≡ m
+unchanged_behind m true o f n = f n
+unchanged_behind m false o f n = refl
+
+-- a map that is edited
 module _ (kind : Kind) (m : Stored) (s e : ℤ) (new : Option ℕ) where
-  -- insert or remove, refused: the map is as it was
-  pub edit_unchanged : ((edit kind m s e new).answer ≡ 0 → ⊥) → (edit kind m s e new).left ≡ m
-  unfolding edit edit_sound
-  edit_unchanged n = go (well_formed kind places m) (leb (kind.past e) (rank s)) (ltb places (length xs)) n
+  -- insert or remove through the unchecked door, refused: the map is as it was
+  pub sound_unchanged : ((edit_sound kind places m s e new).answer ≡ 0 → ⊥) → (edit_sound kind places m s e new).left ≡ m
+  unfolding edit_sound
+  sound_unchanged n = go (empty (span_of kind s e 0)) (ltb places (length xs)) n
     where
       xs : List Span
       xs = given (rank s) (kind.past e) new (ranges kind m)
 
-      go : (f t u : Bool) → ((cond f (cond t (leaving empty_range m) (cond u (leaving too_many m) (leaving done (storing kind places xs)))) (leaving not_formed m)).answer ≡ 0 → ⊥)
-          → (cond f (cond t (leaving empty_range m) (cond u (leaving too_many m) (leaving done (storing kind places xs)))) (leaving not_formed m)).left ≡ m
-      go false t u n = refl
-      go true true u n = refl
-      go true false true n = refl
-      go true false false n = absurd (n refl)
+      go : (t u : Bool) → ((cond t (leaving empty_range m) (cond u (leaving too_many m) (leaving done (storing kind places xs)))).answer ≡ 0 → ⊥)
+          → (cond t (leaving empty_range m) (cond u (leaving too_many m) (leaving done (storing kind places xs)))).left ≡ m
+      go true u n = refl
+      go false true n = refl
+      go false false n = absurd (n refl)
+
+  -- and through the other
+  pub edit_unchanged : ((edit kind m s e new).answer ≡ 0 → ⊥) → (edit kind m s e new).left ≡ m
+  unfolding edit
+  edit_unchanged n = unchanged_behind m (formed kind m) (edit_sound kind places m s e new) sound_unchanged n
 
 -- a map that is read
 pub read_unchanged : (m : Stored) (bs : List ℕ) → ((read rm01 m bs).answer ≡ 0 → ⊥) → (read rm01 m bs).left ≡ m
@@ -102,8 +113,8 @@ pub record Kept (w : Written) (starts ends : List ℤ) : Type 0 where
   pub long : (length w.starts ≡ length starts) × (length w.ends ≡ length ends)
 
 -- what is not written is kept
-pub unwritten_kept : (n : ℕ) (starts ends : List ℤ) → Kept (not_written n starts ends) starts ends
-unwritten_kept n starts ends = record { refused = λ h. (refl, refl); past = λ k h. (refl, refl); long = (refl, refl) }
+pub unwritten_kept : (why : Refusal) (starts ends : List ℤ) → Kept (not_written why starts ends) starts ends
+unwritten_kept why starts ends = record { refused = λ h. (refl, refl); past = λ k h. (refl, refl); long = (refl, refl) }
 
 -- what is written over the first places of a list leaves the others, and the length
 over_past : {A : Type 0} (new old : List A) (k : ℕ) (z : A) → length new ≤ k → get_or (new ++ drop (length new) old) k z ≡ get_or old k z
@@ -127,8 +138,8 @@ writing_kept kind xs starts ends = go (ltb (min (length starts) (length ends)) (
     his = map (λ (x : Span). kind.ending x.hi) xs
 
     go : (t : Bool) → ltb (min (length starts) (length ends)) (length xs) ≡ t
-        → Kept (cond t (not_written too_short starts ends) (record { answer = Counted.Count (length xs); starts = in_first_places los starts; ends = in_first_places his ends })) starts ends
-    go true e = unwritten_kept 3 starts ends
+        → Kept (cond t (not_written TooShort starts ends) (record { answer = Ok (length xs); starts = in_first_places los starts; ends = in_first_places his ends })) starts ends
+    go true e = unwritten_kept TooShort starts ends
     go false e =
         let h = ltb-false (min (length starts) (length ends)) (length xs) e in
         let a : length los ≡ length xs = length-map xs (λ (x : Span). key_at x.lo) in
@@ -149,18 +160,18 @@ module _ (kind : Kind) (starts ends : List ℤ) where
   pub gaps_kept : (m : Stored) (s e : ℤ) → Kept (gaps kind m s e starts ends) starts ends
   unfolding gaps gaps_sound
   gaps_kept m s e =
-      let then = kept_either (empty (span_of kind s e 0)) (unwritten_kept 1 starts ends) (writing_kept kind _ starts ends) in
-      kept_either (formed kind m) then (unwritten_kept 4 starts ends)
+      let then = kept_either (empty (span_of kind s e 0)) (unwritten_kept EmptyRange starts ends) (writing_kept kind _ starts ends) in
+      kept_either (formed kind m) then (unwritten_kept NotFormed starts ends)
 
   -- intersection
   pub intersection_kept : (a b : Stored) → Kept (intersection kind a b starts ends) starts ends
   unfolding intersection intersection_sound
-  intersection_kept a b = kept_either (formed_set kind a && formed_set kind b) (writing_kept kind _ starts ends) (unwritten_kept 4 starts ends)
+  intersection_kept a b = kept_either (formed_set kind a && formed_set kind b) (writing_kept kind _ starts ends) (unwritten_kept NotFormed starts ends)
 
   -- union
   pub union_kept : (a b : Stored) → Kept (union kind a b starts ends) starts ends
   unfolding union union_sound
-  union_kept a b = kept_either (formed_set kind a && formed_set kind b) (writing_kept kind _ starts ends) (unwritten_kept 4 starts ends)
+  union_kept a b = kept_either (formed_set kind a && formed_set kind b) (writing_kept kind _ starts ends) (unwritten_kept NotFormed starts ends)
 
 -- the bytes that a map is written into
 pub record BytesKept (o : Output) (out : List ℕ) : Type 0 where
@@ -177,8 +188,8 @@ write_kept m out = go (formed half_open m) (ltb (length out) (length bs)) refl
     bs = form_of rm01 m
 
     go : (f t : Bool) → ltb (length out) (length bs) ≡ t
-        → BytesKept (cond f (cond t (output (Counted.Refused too_short) out) (output (Counted.Count (length bs)) (bs ++ drop (length bs) out)))
-        (output (Counted.Refused not_formed) out)) out
+        → BytesKept (cond f (cond t (output (Err TooShort) out) (output (Ok (length bs)) (bs ++ drop (length bs) out)))
+        (output (Err NotFormed) out)) out
     go false t e = record { refused = λ n. refl; past = λ k l. refl; long = refl }
     go true true e = record { refused = λ n. refl; past = λ k l. refl; long = refl }
     go true false e = record {
@@ -188,45 +199,45 @@ write_kept m out = go (formed half_open m) (ltb (length out) (length bs)) refl
     }
 
 -- THE ORDER OF REFUSALS: each reason to refuse has its number, and of a list in document 01's order the first that holds is answered, or 0 where none does
-pub record Refusal : Type 0 where
+pub record Reason : Type 0 where
   pub applies : Bool
   pub number : ℕ
 
 -- a reason, with its number
-abbrev pub refuse : Bool → ℕ → Refusal
+abbrev pub refuse : Bool → ℕ → Reason
 refuse t n = record { applies = t; number = n }
 
 -- the number of the first reason that applies, or 0
-abbrev pub first_number : List Refusal → ℕ
+abbrev pub first_number : List Reason → ℕ
 first_number [] = 0
 first_number (x ∷ xs) = cond x.applies x.number (first_number xs)
 
 -- 4: the lent map is not well formed
-abbrev pub unformed : Kind → Stored → Refusal
+abbrev pub unformed : Kind → Stored → Reason
 unformed kind m = refuse (not (formed kind m)) not_formed
 
 -- 4 too: some value of the lent set is not 0
-abbrev pub no_set : Stored → Refusal
+abbrev pub no_set : Stored → Reason
 no_set m = refuse (not (plain m)) not_formed
 
 -- 1: the range is empty or reversed
-abbrev pub keyless : Kind → ℤ → ℤ → Refusal
+abbrev pub keyless : Kind → ℤ → ℤ → Reason
 keyless kind s e = refuse (empty (span_of kind s e 0)) empty_range
 
 -- 9: the total is over 2^64 - 1
-abbrev pub over_total : List Span → Refusal
+abbrev pub over_total : List Span → Reason
 over_total xs = refuse (not (ltb (span_total xs) keys)) total_over
 
 -- 5: the map has no range at the place
-abbrev pub nothing_at : Stored → ℕ → Refusal
+abbrev pub nothing_at : Stored → ℕ → Reason
 nothing_at m i = refuse (not (ltb i m.count)) none_there
 
 -- 2: the final ranges are more than a map has places
-abbrev pub overfull : List Span → Refusal
+abbrev pub overfull : List Span → Reason
 overfull xs = refuse (ltb places (length xs)) too_many
 
 -- 3: one of the two lent lists is too short
-abbrev pub overlong : List Span → List ℤ → List ℤ → Refusal
+abbrev pub overlong : List Span → List ℤ → List ℤ → Reason
 overlong xs starts ends = refuse (ltb (min (length starts) (length ends)) (length xs)) too_short
 
 -- the number of an answer that stands behind a test
@@ -268,7 +279,7 @@ part_done : (p : Span → Bool) (xs : List Span) → (part_in_c (part_of p xs)).
 unfolding part_of
 part_done p xs = go (eqb (how_many p xs) 0)
   where
-    go : (t : Bool) → (part_in_c (cond t (Part.Places 0 0) (Part.Places (first_place p xs) (how_many p xs)))).answer ≡ 0
+    go : (t : Bool) → (part_in_c (cond t (Ok (places_from 0 0)) (Ok (places_from (first_place p xs) (how_many p xs))))).answer ≡ 0
     go true = refl
     go false = refl
 
@@ -281,7 +292,7 @@ abbrev pub found_number : Found → ℕ
 found_number a = (Numbers.found_in_c a).answer
 
 -- of a part of the places
-abbrev pub part_number : Part → ℕ
+abbrev pub part_number : Located → ℕ
 part_number a = (part_in_c a).answer
 
 -- of a comparison

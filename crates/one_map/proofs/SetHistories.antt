@@ -13,7 +13,8 @@ use Rattle.span.specs.Operations.{Plain}
 use Rattle.span.proofs.Sets.{at_zero}
 use Rattle.key.specs.Range.{Kind}
 use Rattle.key.proofs.Lawful.{Lawful}
-use Rattle.outcomes.specs.Stored.{places, Stored, ranges}
+use Rattle.outcomes.specs.Stored.{places, ranges}
+use Rattle.outcomes.specs.declared.Stored.{Stored}
 use Rattle.outcomes.specs.Outcomes.{entry_change, Edited, insert, remove, clear, bulk_insert}
 use Rattle.outcomes.specs.Sets.{plain, pairs}
 use Rattle.outcomes.proofs.Formed.{all_noughts}

@@ -16,7 +16,8 @@ use Rattle.span.proofs.Pieces.{places_tidy, at_place}
 use Rattle.key.specs.Rank.{rank}
 use Rattle.key.specs.Range.{Kind}
 use Rattle.key.proofs.Lawful.{Lawful}
-use Rattle.outcomes.specs.Stored.{Stored, ranges}
+use Rattle.outcomes.specs.Stored.{ranges}
+use Rattle.outcomes.specs.declared.Stored.{Stored}
 use Rattle.outcomes.specs.Outcomes.{Edited, Change, span_edits}
 use Rattle.outcomes.proofs.Formed.{shape, good, length_ranges, get_or_ranges}
 use Rattle.one_map.specs.Events.{Proper, Event, happens, Effect, if_accepted, effect}

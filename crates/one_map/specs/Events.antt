@@ -1,14 +1,16 @@
 -- Histories in document 01's words: what can happen to a map, what each event leaves, and the last value that a key was given.
 -- What a map holds is said by what its lookup answers at keys.
-use Rattle.std.specs.Prelude.{ℕ, ◌<◌, ◌≡◌, Bool, true, false, cond, List, [], ◌∷◌, map, eqb, length, take, ℤ}
+use Rattle.std.specs.Prelude.{ℕ, ◌<◌, ◌≡◌, Bool, true, false, cond, List, [], ◌∷◌, map, eqb, length, take, ℤ, Ok, Err, Some, None}
 use Rattle.std.proofs.Math.Option.{Option, some, none}
 use Rattle.answers.specs.Answers.{done}
 use Rattle.span.specs.Span.{inside, last}
 use Rattle.key.specs.Rank.{rank}
 use Rattle.key.specs.Range.{Kind, half_open}
-use Rattle.outcomes.specs.Stored.{places, Stored, AllFit, Sound}
-use Rattle.outcomes.specs.Outcomes.{Entry, entry_change, Edited, leaving, Change, lookup, clear, insert, remove, bulk_insert, span_edits}
-use Rattle.outcomes.specs.declared.Found.{Found}
+use Rattle.key.specs.declared.Entry.{Entry}
+use Rattle.outcomes.specs.Stored.{places, AllFit, Sound}
+use Rattle.outcomes.specs.declared.Stored.{Stored}
+use Rattle.outcomes.specs.Outcomes.{entry_change, Edited, leaving, Change, lookup, clear, insert, remove, bulk_insert, span_edits}
+use Rattle.outcomes.specs.Answered.{Found}
 use Rattle.byte_form.specs.Layout.{rm01}
 use Rattle.byte_form.specs.Bytes.{Bytes}
 use Rattle.byte_form.specs.Form.{entries_of, map_in, read}
@@ -29,9 +31,9 @@ pub record InMemory (m : Stored) : Type 0 where
 
 -- what the answer of a lookup tells of its key: the value that is held there, or none
 abbrev pub value_of : Found → Option ℕ
-value_of (Found.Range s e v) = some v
-value_of Found.Nothing = none
-value_of (Found.Refused n) = none
+value_of (Ok (Some x)) = some x.value
+value_of (Ok None) = none
+value_of (Err why) = none
 
 -- the value that a map holds at a key, as its lookup answers
 abbrev pub value_at : Kind → Stored → ℤ → Option ℕ

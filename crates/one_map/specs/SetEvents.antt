@@ -1,12 +1,12 @@
 -- Histories of sets: what can happen to a set, as its functions answer, and the same event of a map whose values are 0.
-use Rattle.std.specs.Prelude.{ℕ, List, [], ◌∷◌, ℤ}
+use Rattle.std.specs.Prelude.{ℕ, List, [], ◌∷◌, ℤ, Err}
 use Rattle.std.proofs.Math.Option.{Option}
 use Rattle.answers.specs.Answers.{done}
+use Rattle.answers.specs.Refusals.{number}
 use Rattle.key.specs.Range.{Kind}
-use Rattle.outcomes.specs.Stored.{Stored}
+use Rattle.outcomes.specs.declared.Stored.{Stored}
 use Rattle.outcomes.specs.Outcomes.{Edited, leaving, extended, lookup, clear, insert, remove, bulk_insert}
 use Rattle.outcomes.specs.Sets.{if_set, pairs}
-use Rattle.outcomes.specs.declared.Found.TheVariants as Found
 use Rattle.one_map.specs.Events.{Event, insert_event, remove_event, bulk_event, clear_event, value_of}
 
 -- AN EVENT OF A SET: insert of a range, remove of a range, bulk insert of two lent lists of starts and ends, and clear. No set is read from bytes
@@ -18,10 +18,10 @@ pub data SetEvent : Type 0 where
 
 -- what an event answers, and the set that it leaves, accepted or refused
 abbrev pub set_happens : Kind → SetEvent → Stored → Edited
-set_happens kind (set_insert_event s e) m = if_set m (insert kind m s e 0) (λ n. leaving n m)
-set_happens kind (set_remove_event s e) m = if_set m (remove kind m s e) (λ n. leaving n m)
+set_happens kind (set_insert_event s e) m = if_set m (insert kind m s e 0) (λ why. leaving (number why) m)
+set_happens kind (set_remove_event s e) m = if_set m (remove kind m s e) (λ why. leaving (number why) m)
 set_happens kind (set_bulk_event ss es) m =
-    let o = if_set m (bulk_insert kind m (pairs ss es)) (λ n. extended (record { answer = n; applied = 0 }) m) in leaving o.told.answer o.left
+    let o = if_set m (bulk_insert kind m (pairs ss es)) (λ why. extended (record { answer = number why; applied = 0 }) m) in leaving o.told.answer o.left
 set_happens kind set_clear_event m = leaving done (clear kind)
 
 -- the set after some events
@@ -38,4 +38,4 @@ of_map kind set_clear_event = clear_event
 
 -- what a set's lookup tells of a key: 0 where it is covered, or none
 abbrev pub set_value_at : Kind → Stored → ℤ → Option ℕ
-set_value_at kind m k = value_of (if_set m (lookup kind m k) Found.Refused)
+set_value_at kind m k = value_of (if_set m (lookup kind m k) Err)

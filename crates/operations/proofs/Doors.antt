@@ -1,14 +1,13 @@
 -- What the doors answer, for each operation: what its walk finds in two sound sets is what its outcome says.
-use Prim.Native.Nat.{ℕ, ◌+◌, ◌≤◌}
+use Prim.Native.Nat.{◌+◌, ◌≤◌}
 use mathlib.Core.Path.{◌≡◌}
 use mathlib.Core.Bool.{true, false, ◌&&◌}
 use mathlib.Core.List.{List}
 use lib.ListN.{length}
 use lib.IntN.{ℤ}
-use Rattle.answers.specs.Answers.{not_formed}
 use Rattle.key.specs.Range.{Kind, kind_of}
 use Rattle.key.specs.declared.RangeKind.{RangeKind}
-use Rattle.outcomes.specs.Stored.{Stored}
+use Rattle.outcomes.specs.declared.Stored.{Stored}
 use Rattle.outcomes.specs.Outcomes.{not_written, Written, into_lists}
 use Rattle.outcomes.specs.Sets.{SoundSet, formed_set, intersection_sound, union_sound, intersection, union}
 use Rattle.two_sets.specs.InnerSides.{Side}
@@ -17,16 +16,17 @@ use Rattle.intersection.proofs.Steps as intersection
 use Rattle.union.proofs.Steps as union
 use Rattle.operations.specs.InnerOperation.{found_by, combined, combined_any}
 use Rattle.operations.specs.declared.Operation.{Operation}
+use Rattle.answers.specs.declared.Refusal.TheVariants.{NotFormed}
 
 -- at most as many ranges as the sets have together
-pub most : (operation : Operation) (kind : RangeKind) {sa ea sb eb : List ℤ} {na nb : ℕ} → Side (kind_of kind) sa ea na → Side (kind_of kind) sb eb nb
-    → length (found_by operation kind sa ea na sb eb nb) ≤ na + nb
+pub most : (operation : Operation) (kind : RangeKind) {a b : Stored} → Side (kind_of kind) a → Side (kind_of kind) b
+    → length (found_by operation kind a b) ≤ a.count + b.count
 most Operation.Intersection = intersection.most
 most Operation.Union = union.most
 
 -- THE UNCHECKED DOOR
 pub answered : (operation : Operation) (kind : RangeKind) {a b : Stored} → SoundSet (kind_of kind) a → SoundSet (kind_of kind) b → (os oe : List ℤ) {w : Written}
-    → w ≡ into_lists (kind_of kind) (found_by operation kind a.starts a.ends a.count b.starts b.ends b.count) os oe
+    → w ≡ into_lists (kind_of kind) (found_by operation kind a b) os oe
     → w ≡ combined operation (kind_of kind) a b os oe
 unfolding intersection_sound union_sound
 answered Operation.Intersection kind s t os oe e = rw (← rows_are (kind_of kind) s, ← rows_are (kind_of kind) t) e
@@ -34,7 +34,7 @@ answered Operation.Union kind s t os oe e = rw (← rows_are (kind_of kind) s, �
 
 -- THE DOOR OF ANY SETS: one of the two is no set; and both are
 module _ (kind : Kind) (a b : Stored) (os oe : List ℤ) where
-  pub no_sets : (operation : Operation) → (formed_set kind a && formed_set kind b) ≡ false → not_written not_formed os oe ≡ combined_any operation kind a b os oe
+  pub no_sets : (operation : Operation) → (formed_set kind a && formed_set kind b) ≡ false → not_written NotFormed os oe ≡ combined_any operation kind a b os oe
   unfolding intersection union
   no_sets Operation.Intersection h = rw h
   no_sets Operation.Union h = rw h

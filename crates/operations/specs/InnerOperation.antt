@@ -1,17 +1,17 @@
 -- Which definitions an operation means.
-use Rattle.std.specs.Prelude.{ℕ, List, ℤ}
+use Rattle.std.specs.Prelude.{List, ℤ}
 use Rattle.span.specs.Span.{Span}
 use Rattle.key.specs.Range.{Kind}
 use Rattle.key.specs.declared.RangeKind.{RangeKind}
-use Rattle.outcomes.specs.Stored.{Stored}
+use Rattle.outcomes.specs.declared.Stored.{Stored}
 use Rattle.outcomes.specs.Outcomes.{Written}
 use Rattle.outcomes.specs.Sets.{intersection_sound, union_sound, intersection, union}
 use Rattle.intersection.specs.InnerFound.{shared}
 use Rattle.union.specs.InnerFound.{either}
 use Rattle.operations.specs.declared.Operation.{Operation}
 
--- the ranges that its walk finds in two sets that are lent as columns
-abbrev pub found_by : Operation → RangeKind → List ℤ → List ℤ → ℕ → List ℤ → List ℤ → ℕ → List Span
+-- the ranges that its walk finds in two sets
+abbrev pub found_by : Operation → RangeKind → Stored → Stored → List Span
 found_by Operation.Intersection = shared
 found_by Operation.Union = either
 

@@ -16,13 +16,13 @@ use Rattle.key.specs.Range.{Kind, span_of}
 use Rattle.key.proofs.Lawful.{Lawful}
 use Rattle.span.specs.Span.{Span, given}
 use Rattle.span.specs.Operations.{puts}
-use Rattle.outcomes.specs.Stored.{places, Stored, spans, ranges, storing, well_formed, Sound}
-use Rattle.outcomes.specs.Outcomes.{Entry, entry_change, entries, Edited, leaving, edit_sound, edit, extended, bulk_insert_sound, edits, span_edits}
+use Rattle.outcomes.specs.Stored.{places, spans, ranges, storing, well_formed, Sound}
+use Rattle.outcomes.specs.declared.Stored.{Stored}
+use Rattle.outcomes.specs.Outcomes.{entry_change, entries, Edited, leaving, edit_sound, edit, extended, bulk_insert_sound, edits, span_edits}
+use Rattle.outcomes.specs.Answered.{entry}
+use Rattle.key.specs.declared.Entry.{Entry}
 use Rattle.outcomes.proofs.Formed.{formed}
 use Rattle.outcomes.proofs.Edits.{edit_accepted, edit_sound_lem, edit_length}
-
-abbrev entry : ℤ → ℤ → ℕ → Entry
-entry s e v = record { start = s; end = e; value = v }
 
 -- the entries of three lists: as many as the shortest has, place by place
 pub length_entries : (ss es : List ℤ) (vs : List ℕ) → length (entries ss es vs) ≡ min (min (length ss) (length es)) (length vs)

@@ -8,8 +8,10 @@ use Rattle.span.specs.Span.{inside, keep, before, after, joins, tidy, push, join
 use Rattle.span.proofs.Cases.{comb}
 use Rattle.key.specs.Rank.{above_least, bit_rank, rank, key_at}
 use Rattle.key.specs.Range.{Kind, half_open, inclusive, span_of}
-use Rattle.outcomes.specs.Stored.{places, Stored, spans, ranges, filled, storing, zeros, noughts, unused, well_formed}
-use Rattle.outcomes.specs.Outcomes.{Entry, leaving, edit_sound, edit, insert, remove, clear}
+use Rattle.outcomes.specs.Stored.{places, spans, ranges, filled, storing, zeros, noughts, unused, well_formed}
+use Rattle.outcomes.specs.declared.Stored.{Stored}
+use Rattle.outcomes.specs.Outcomes.{leaving, edit_sound, edit, insert, remove, clear}
+use Rattle.key.specs.declared.Entry.{Entry}
 
 -- a range with a value, and the map that holds some of them
 abbrev to : ℤ → ℤ → ℕ → Entry

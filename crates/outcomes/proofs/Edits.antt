@@ -19,7 +19,8 @@ use Rattle.span.proofs.Local.{upto_at}
 use Rattle.key.specs.Rank.{rank}
 use Rattle.key.specs.Range.{Kind}
 use Rattle.key.proofs.Lawful.{Lawful}
-use Rattle.outcomes.specs.Stored.{places, Stored, ranges, storing, well_formed, Sound}
+use Rattle.outcomes.specs.Stored.{places, ranges, storing, well_formed, Sound}
+use Rattle.outcomes.specs.declared.Stored.{Stored}
 use Rattle.outcomes.specs.Outcomes.{Edited, leaving, edit_sound, edit, clear, Change, edits, span_edits}
 use Rattle.outcomes.proofs.Formed.{formed}
 use Rattle.outcomes.proofs.Storing.{ranges_storing, sound_storing, length_storing, upto_ranges}

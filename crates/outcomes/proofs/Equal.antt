@@ -2,11 +2,10 @@
 use Prim.Native.Nat.{Ordering}
 use mathlib.Core.Path.{◌≡◌, refl}
 use mathlib.Core.Bool.{Bool, true, false, ◌&&◌, cond}
-use Rattle.answers.specs.Answers.{not_formed}
+use Rattle.answers.specs.declared.Refusal.TheVariants.{NotFormed}
+use Rattle.std.specs.Prelude.{Err}
 use Rattle.key.specs.Range.{Kind}
-use Rattle.outcomes.specs.Stored.{Stored}
-use Rattle.outcomes.specs.declared.Asked.TheVariants as Asked
-use Rattle.outcomes.specs.declared.Compared.TheVariants as Compared
+use Rattle.outcomes.specs.declared.Stored.{Stored}
 use Rattle.outcomes.specs.Numbers.{equal_of}
 use Rattle.outcomes.specs.Outcomes.{yes_no, is_equal, compared_by, order_sound, formed, order, equal}
 
@@ -15,7 +14,7 @@ equal_by Ordering.lt = refl
 equal_by Ordering.eq = refl
 equal_by Ordering.gt = refl
 
-told : (t : Bool) (o : Ordering) → equal_of (cond t (compared_by o) (Compared.Refused not_formed)) ≡ cond t (yes_no (is_equal o)) (Asked.Refused not_formed)
+told : (t : Bool) (o : Ordering) → equal_of (cond t (compared_by o) (Err NotFormed)) ≡ cond t (yes_no (is_equal o)) (Err NotFormed)
 told true o = equal_by o
 told false o = refl
 

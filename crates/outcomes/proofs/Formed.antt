@@ -12,7 +12,8 @@ use lib.IntN.{ℤ, pos, negsuc}
 use Rattle.span.specs.Span.{Span, span, Tidy, tidy}
 use Rattle.span.proofs.Tests.{both, tidy_yes, yes_tidy}
 use Rattle.key.specs.Range.{Kind, span_of}
-use Rattle.outcomes.specs.Stored.{Stored, spans, ranges, is_zero, zeros, noughts, unused, well_formed, Spare, Sound}
+use Rattle.outcomes.specs.Stored.{spans, ranges, is_zero, zeros, noughts, unused, well_formed, Spare, Sound}
+use Rattle.outcomes.specs.declared.Stored.{Stored}
 
 pub record Formed (kind : Kind) (n : ℕ) (m : Stored) : Type 0 where
   pub held : m.count ≤ n

@@ -8,11 +8,13 @@ use Rattle.span.specs.Span.{inside, keep, before, after, joins, tidy, push, join
 use Rattle.span.specs.Operations.{within, common_parts, common, spans_overlap, merged, absorb, united, span_total}
 use Rattle.key.specs.Rank.{above_least, bit_rank, key_at}
 use Rattle.key.specs.Range.{Kind, half_open, inclusive, span_of}
-use Rattle.outcomes.specs.Stored.{places, Stored, spans, ranges, filled, storing, zeros, noughts, unused, well_formed}
-use Rattle.outcomes.specs.Outcomes.{not_written, Entry, Written, into_lists}
+use Rattle.outcomes.specs.Stored.{places, spans, ranges, filled, storing, zeros, noughts, unused, well_formed}
+use Rattle.outcomes.specs.declared.Stored.{Stored}
+use Rattle.outcomes.specs.Outcomes.{not_written, Written, into_lists}
+use Rattle.key.specs.declared.Entry.{Entry}
 use Rattle.outcomes.specs.Sets.{plain, total_is, intersection_sound, union_sound, total_sound, intersection, union, total_of}
-use Rattle.outcomes.specs.declared.Counted.TheVariants as Counted
-use Rattle.outcomes.specs.declared.Totalled.TheVariants as Totalled
+use Rattle.std.specs.Prelude.{Ok, Err}
+use Rattle.answers.specs.declared.Refusal.TheVariants.{TooShort, NotFormed, TotalOver}
 
 -- the set that holds some ranges; with a value that is not 0 it is none
 abbrev to : ℤ → ℤ → ℕ → Entry
@@ -22,7 +24,7 @@ abbrev made : Kind → List Entry → Stored
 made kind es = storing kind places (map (λ (x : Entry). span_of kind x.start x.end x.value) es)
 
 abbrev wrote : ℕ → List ℤ → List ℤ → Written
-wrote n ss es = record { answer = Counted.Count n; starts = ss; ends = es }
+wrote n ss es = record { answer = Ok n; starts = ss; ends = es }
 
 abbrev least : ℤ
 least = negsuc (2 ^ 63 - 1)
@@ -61,16 +63,16 @@ unfolding all
 intersect_touching = refl
 
 -- the first lent list is too short
-union_short : union half_open (made half_open (to (pos 0) (pos 3) 0 ∷ [])) (made half_open (to (pos 3) (pos 5) 0 ∷ [])) (pos 70 ∷ []) lent ≡ not_written too_short (pos 70 ∷ []) lent
+union_short : union half_open (made half_open (to (pos 0) (pos 3) 0 ∷ [])) (made half_open (to (pos 3) (pos 5) 0 ∷ [])) (pos 70 ∷ []) lent ≡ not_written TooShort (pos 70 ∷ []) lent
 unfolding all
 union_short = refl
 
 -- a value that is not 0, in the second set
-union_no_set : union half_open (made half_open (to (pos 0) (pos 3) 0 ∷ [])) (made half_open (to (pos 3) (pos 5) 7 ∷ [])) lent lent ≡ not_written not_formed lent lent
+union_no_set : union half_open (made half_open (to (pos 0) (pos 3) 0 ∷ [])) (made half_open (to (pos 3) (pos 5) 7 ∷ [])) lent lent ≡ not_written NotFormed lent lent
 unfolding all
 union_no_set = refl
 
-total_half_open : total_of half_open (made half_open (to least greatest 0 ∷ [])) ≡ Totalled.Total (2 ^ 64 - 1)
+total_half_open : total_of half_open (made half_open (to least greatest 0 ∷ [])) ≡ Ok (2 ^ 64 - 1)
 unfolding all
 total_half_open = refl
 
@@ -96,10 +98,10 @@ unfolding all
 inclusive_intersect_one_key = refl
 
 -- the full range is accepted; its total, 2^64, is 9
-inclusive_total_full : total_of inclusive (made inclusive (to least greatest 0 ∷ [])) ≡ Totalled.Refused total_over
+inclusive_total_full : total_of inclusive (made inclusive (to least greatest 0 ∷ [])) ≡ Err TotalOver
 unfolding all
 inclusive_total_full = refl
 
-inclusive_total_fewer : total_of inclusive (made inclusive (to least (pos (2 ^ 63 - 2)) 0 ∷ [])) ≡ Totalled.Total (2 ^ 64 - 1)
+inclusive_total_fewer : total_of inclusive (made inclusive (to least (pos (2 ^ 63 - 2)) 0 ∷ [])) ≡ Ok (2 ^ 64 - 1)
 unfolding all
 inclusive_total_fewer = refl

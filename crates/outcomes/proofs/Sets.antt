@@ -18,12 +18,14 @@ use Rattle.span.proofs.Union.{holds_united, links_united, at_plain}
 use Rattle.span.proofs.Walks.{Spaced, tidy_spaced, common_swap, united_swap, length_common, length_united}
 use Rattle.span.proofs.Total.{total_both}
 use Rattle.key.specs.Range.{Kind}
-use Rattle.outcomes.specs.Stored.{Stored, spans, ranges, filled, storing, noughts}
+use Rattle.outcomes.specs.Stored.{spans, ranges, filled, storing, noughts}
+use Rattle.outcomes.specs.declared.Stored.{Stored}
 use Rattle.outcomes.specs.Sets.{plain, if_set, SoundSet, intersection_sound}
 use Rattle.outcomes.proofs.Formed.{Formed, formed, length_ranges}
+use Rattle.answers.specs.declared.Refusal.{Refusal}
 
 -- OF A SET a function answers as of a map
-pub if_set_lem : {A : Type 0} (m : Stored) (refused : ℕ → A) {answer : A} → plain m ≡ true → if_set m answer refused ≡ answer
+pub if_set_lem : {A : Type 0} (m : Stored) (refused : Refusal → A) {answer : A} → plain m ≡ true → if_set m answer refused ≡ answer
 if_set_lem m refused z = rw z
 
 -- the ranges of a set have value 0

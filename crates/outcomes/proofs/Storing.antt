@@ -12,7 +12,8 @@ use Rattle.key.specs.Rank.{rank, key_at}
 use Rattle.key.specs.Range.{Kind}
 use Rattle.key.proofs.Laws.{key_at_rank, rank_key, key_fits}
 use Rattle.key.proofs.Lawful.{Lawful}
-use Rattle.outcomes.specs.Stored.{Stored, spans, ranges, filled, storing, AllFit, Sound, Spare}
+use Rattle.outcomes.specs.Stored.{spans, ranges, filled, storing, AllFit, Sound, Spare}
+use Rattle.outcomes.specs.declared.Stored.{Stored}
 use Rattle.outcomes.proofs.Formed.{Formed, well_formed_lem}
 
 -- parts of lists

@@ -4,10 +4,11 @@ use mathlib.Core.Path.{◌≡◌, ap}
 use mathlib.Core.List.{List}
 use lib.IntN.{ℤ}
 use Rattle.key.proofs.Answers.{one_answer}
-use Rattle.outcomes.specs.Stored.{Stored}
+use Rattle.outcomes.specs.declared.Stored.{Stored}
 use Rattle.outcomes.specs.Outcomes.{Written, Listed, Edited, leaving, Extended, extended}
 use Rattle.outcomes.specs.InnerOutcome.{Leaves}
-use Rattle.outcomes.specs.declared.Outcome.{Outcome}
+use Rattle.outcomes.proofs.Went.{number_one}
+use Rattle.outcomes.specs.Answered.{Outcome}
 use Rattle.outcomes.specs.declared.Count.{Count}
 use Rattle.outcomes.specs.declared.Applied.{Applied}
 
@@ -17,7 +18,7 @@ edit_one a b = (ap (λ (o : Edited). o.answer) (one_answer a b), ap (λ (o : Edi
 
 -- the same, as functions tell each other
 pub leaves_one : {r t : Outcome} {m n : Stored} {e : Edited} → Leaves r m e → Leaves t n e → (r ≡ t) × (m ≡ n)
-leaves_one a b = (one_answer a.outcome b.outcome, one_answer a.map_is b.map_is)
+leaves_one {r} {t} a b = (number_one r t (one_answer a.outcome b.outcome), one_answer a.map_is b.map_is)
 
 -- a bulk insert: its number, how many entries it applied, and the map
 pub extend_one : {r t : Applied} {m n : Stored} {o : Extended} → extended r m ≡ o → extended t n ≡ o → (r ≡ t) × (m ≡ n)

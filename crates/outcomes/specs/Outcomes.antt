@@ -3,37 +3,33 @@
 -- Refusals in the order of document 01: 4 the map is not well formed, 1 the range is empty or reversed, 5 there is none, 2 the map would be too large,
 -- 3 the lent output is too short.
 use Prim.Native.Nat.{ℕ, suc, ◌-◌, min, Ordering}
-use Rattle.std.specs.Prelude.{◌≡◌, Bool, true, false, ◌&&◌, cond, List, [], ◌∷◌, ◌++◌, map, eqb, ltb, length, get_or, drop, ℤ, pos}
+use Rattle.std.specs.Prelude.{◌≡◌, Bool, true, false, ◌&&◌, cond, List, [], ◌∷◌, ◌++◌, map, eqb, ltb, length, get_or, drop, ℤ, pos, Ok, Err, Some, None}
 use Rattle.std.proofs.Math.Option.{Option, some, none}
-use Rattle.answers.specs.Answers.{done, empty_range, too_many, too_short, not_formed}
+use Rattle.answers.specs.Answers.{done, empty_range, too_many, not_formed}
+use Rattle.answers.specs.declared.Refusal.{Refusal}
+use Rattle.answers.specs.declared.Refusal.TheVariants.{EmptyRange, TooShort, NotFormed}
+use Rattle.std.specs.declared.cmp.Ordering.TheVariants.{Less, Equal, Greater}
 use Rattle.span.specs.Span.{Span, given, Edit}
 use Rattle.span.specs.Operations.{uncovered, spans_overlap, any, holds, span_order}
 use Rattle.key.specs.Rank.{rank, key_at}
 use Rattle.key.specs.Range.{Kind, span_of, empty}
-use Rattle.outcomes.specs.Stored.{places, Stored, ranges, storing, well_formed}
-use Rattle.outcomes.specs.declared.Asked.{Asked}
-use Rattle.outcomes.specs.declared.Asked.TheVariants as Asked
-use Rattle.outcomes.specs.declared.Counted.{Counted}
-use Rattle.outcomes.specs.declared.Counted.TheVariants as Counted
-use Rattle.outcomes.specs.declared.Found.{Found}
-use Rattle.outcomes.specs.declared.Found.TheVariants as Found
-use Rattle.outcomes.specs.declared.Part.{Part}
-use Rattle.outcomes.specs.declared.Part.TheVariants as Part
-use Rattle.outcomes.specs.declared.Compared.{Compared}
-use Rattle.outcomes.specs.declared.Compared.TheVariants as Compared
+use Rattle.outcomes.specs.Stored.{places, ranges, storing, well_formed}
+use Rattle.outcomes.specs.declared.Stored.{Stored}
+use Rattle.key.specs.declared.Entry.{Entry}
+use Rattle.outcomes.specs.Answered.{entry}
+use Rattle.outcomes.specs.Answered.{Asked, Counted, Found, Located, Compared, places_from}
 use Rattle.outcomes.specs.declared.Applied.{Applied}
 use Rattle.outcomes.specs.declared.Count.{Count}
 use Rattle.outcomes.specs.Numbers.{counted_in_c}
 
 abbrev pub yes_no : Bool → Asked
-yes_no true = Asked.Yes
-yes_no false = Asked.No
+yes_no b = Ok b
 
 -- -1, 0 or 1
 abbrev pub compared_by : Ordering → Compared
-compared_by Ordering.lt = Compared.Less
-compared_by Ordering.eq = Compared.Equal
-compared_by Ordering.gt = Compared.Greater
+compared_by Ordering.lt = Ok Less
+compared_by Ordering.eq = Ok Equal
+compared_by Ordering.gt = Ok Greater
 
 abbrev pub is_equal : Ordering → Bool
 is_equal Ordering.lt = false
@@ -51,21 +47,15 @@ how_many p [] = 0
 how_many p (x ∷ xs) = cond (p x) (suc (how_many p xs)) (how_many p xs)
 
 -- the part that passes a test: no part is place 0, count 0
-unfoldable pub part_of : (Span → Bool) → List Span → Part
-part_of p xs = let n = how_many p xs in cond (eqb n 0) (Part.Places 0 0) (Part.Places (first_place p xs) n)
-
--- an entry of a list for bulk insert
-pub record Entry : Type 0 where
-  pub start : ℤ
-  pub end : ℤ
-  pub value : ℕ
+unfoldable pub part_of : (Span → Bool) → List Span → Located
+part_of p xs = let n = how_many p xs in cond (eqb n 0) (Ok (places_from 0 0)) (Ok (places_from (first_place p xs) n))
 
 -- the entries of three lent lists: as many as the shortest has
 unfoldable pub entries : List ℤ → List ℤ → List ℕ → List Entry
 entries [] es vs = []
 entries (s ∷ ss) [] vs = []
 entries (s ∷ ss) (e ∷ es) [] = []
-entries (s ∷ ss) (e ∷ es) (v ∷ vs) = record { start = s; end = e; value = v } ∷ entries ss es vs
+entries (s ∷ ss) (e ∷ es) (v ∷ vs) = entry s e v ∷ entries ss es vs
 
 -- a lent list with other elements in its first places
 abbrev pub in_first_places : List ℤ → List ℤ → List ℤ
@@ -78,8 +68,8 @@ pub record Written : Type 0 where
   pub ends : List ℤ
 
 -- the same where nothing is written: the lent lists are as they were
-abbrev pub not_written : ℕ → List ℤ → List ℤ → Written
-not_written n starts ends = record { answer = Counted.Refused n; starts = starts; ends = ends }
+abbrev pub not_written : Refusal → List ℤ → List ℤ → Written
+not_written why starts ends = record { answer = Err why; starts = starts; ends = ends }
 
 -- what C and Rust see of it: the number and the count, and what the lent lists hold
 pub record Listed (r : Count) (starts ends : List ℤ) (w : Written) : Type 0 where
@@ -117,7 +107,7 @@ entry_change x = record { start = x.start; end = x.end; new = some x.value }
 
 -- the range and the value at a place
 unfoldable pub range_at_sound : Stored → ℕ → Found
-range_at_sound m i = cond (ltb i m.count) (Found.Range (get_or m.starts i (pos 0)) (get_or m.ends i (pos 0)) (get_or m.values i 0)) Found.Nothing
+range_at_sound m i = cond (ltb i m.count) (Ok (Some (entry (get_or m.starts i (pos 0)) (get_or m.ends i (pos 0)) (get_or m.values i 0)))) (Ok None)
 
 module _ (kind : Kind) where
   -- the range that holds a key, and its value
@@ -130,19 +120,19 @@ module _ (kind : Kind) where
 
   -- does some range have a key of the query
   unfoldable pub overlaps_sound : Stored → ℤ → ℤ → Asked
-  overlaps_sound m s e = let q = span_of kind s e 0 in cond (empty q) (Asked.Refused empty_range) (yes_no (any (spans_overlap q) (ranges kind m)))
+  overlaps_sound m s e = let q = span_of kind s e 0 in cond (empty q) (Err EmptyRange) (yes_no (any (spans_overlap q) (ranges kind m)))
 
   -- which consecutive stored part meets the query
-  unfoldable pub overlapping_sound : Stored → ℤ → ℤ → Part
-  overlapping_sound m s e = let q = span_of kind s e 0 in cond (empty q) (Part.Refused empty_range) (part_of (spans_overlap q) (ranges kind m))
+  unfoldable pub overlapping_sound : Stored → ℤ → ℤ → Located
+  overlapping_sound m s e = let q = span_of kind s e 0 in cond (empty q) (Err EmptyRange) (part_of (spans_overlap q) (ranges kind m))
 
   -- ranges into the first places of two lent lists, if these are long enough: they are as long as the shorter one
   unfoldable pub into_lists : List Span → List ℤ → List ℤ → Written
   into_lists xs starts ends =
       cond (ltb (min (length starts) (length ends)) (length xs))
-      (not_written too_short starts ends)
+      (not_written TooShort starts ends)
       (record {
-        answer = Counted.Count (length xs);
+        answer = Ok (length xs);
         starts = in_first_places (map (λ (x : Span). key_at x.lo) xs) starts;
         ends = in_first_places (map (λ (x : Span). kind.ending x.hi) xs) ends;
       })
@@ -151,7 +141,7 @@ module _ (kind : Kind) where
   unfoldable pub gaps_sound : Stored → ℤ → ℤ → List ℤ → List ℤ → Written
   gaps_sound m s e starts ends =
       let q = span_of kind s e 0 in
-      cond (empty q) (not_written empty_range starts ends)
+      cond (empty q) (not_written EmptyRange starts ends)
       (into_lists (uncovered q.lo q.hi (ranges kind m)) starts ends)
 
   -- triples of start, end and value place by place, a prefix first
@@ -180,15 +170,15 @@ module _ (kind : Kind) where
 
   -- EMPTY: is nothing held
   unfoldable pub is_empty : Stored → Asked
-  is_empty m = cond (formed m) (yes_no (eqb m.count 0)) (Asked.Refused not_formed)
+  is_empty m = cond (formed m) (yes_no (eqb m.count 0)) (Err NotFormed)
 
   -- COUNT: how many ranges are held
   unfoldable pub count_of : Stored → Counted
-  count_of m = cond (formed m) (Counted.Count m.count) (Counted.Refused not_formed)
+  count_of m = cond (formed m) (Ok m.count) (Err NotFormed)
 
   -- RANGE AT A PLACE
   unfoldable pub range_at : Stored → ℕ → Found
-  range_at m i = cond (formed m) (range_at_sound m i) (Found.Refused not_formed)
+  range_at m i = cond (formed m) (range_at_sound m i) (Err NotFormed)
 
   -- FIRST and LAST
   abbrev pub first_of : Stored → Found
@@ -199,30 +189,30 @@ module _ (kind : Kind) where
 
   -- LOOKUP
   unfoldable pub lookup : Stored → ℤ → Found
-  lookup m k = cond (formed m) (lookup_sound m k) (Found.Refused not_formed)
+  lookup m k = cond (formed m) (lookup_sound m k) (Err NotFormed)
 
   -- CONTAINS
   unfoldable pub contains : Stored → ℤ → Asked
-  contains m k = cond (formed m) (contains_sound m k) (Asked.Refused not_formed)
+  contains m k = cond (formed m) (contains_sound m k) (Err NotFormed)
 
   -- OVERLAPS
   unfoldable pub overlaps : Stored → ℤ → ℤ → Asked
-  overlaps m s e = cond (formed m) (overlaps_sound m s e) (Asked.Refused not_formed)
+  overlaps m s e = cond (formed m) (overlaps_sound m s e) (Err NotFormed)
 
   -- OVERLAPPING
-  unfoldable pub overlapping : Stored → ℤ → ℤ → Part
-  overlapping m s e = cond (formed m) (overlapping_sound m s e) (Part.Refused not_formed)
+  unfoldable pub overlapping : Stored → ℤ → ℤ → Located
+  overlapping m s e = cond (formed m) (overlapping_sound m s e) (Err NotFormed)
 
   -- GAPS
   unfoldable pub gaps : Stored → ℤ → ℤ → List ℤ → List ℤ → Written
-  gaps m s e starts ends = cond (formed m) (gaps_sound m s e starts ends) (not_written not_formed starts ends)
+  gaps m s e starts ends = cond (formed m) (gaps_sound m s e starts ends) (not_written NotFormed starts ends)
 
   -- EQUALITY and ORDER of two maps
   unfoldable pub equal : Stored → Stored → Asked
-  equal a b = cond (formed a && formed b) (yes_no (is_equal (order_sound a b))) (Asked.Refused not_formed)
+  equal a b = cond (formed a && formed b) (yes_no (is_equal (order_sound a b))) (Err NotFormed)
 
   unfoldable pub order : Stored → Stored → Compared
-  order a b = cond (formed a && formed b) (compared_by (order_sound a b)) (Compared.Refused not_formed)
+  order a b = cond (formed a && formed b) (compared_by (order_sound a b)) (Err NotFormed)
 
   -- CLEAR, and a new map: nothing is held. Clear overwrites its map, so it does not check it
   unfoldable pub clear : Stored

@@ -5,18 +5,13 @@ use Rattle.std.proofs.Common.{SFits}
 use Rattle.span.specs.Span.{Span, tidy}
 use Rattle.key.specs.Rank.{key_at}
 use Rattle.key.specs.Range.{Kind, span_of}
+use Rattle.outcomes.specs.declared.Stored.{Stored}
 
 -- how many places a map has. `places_of` ties it to the constant of the code
 abbrev pub places : ℕ
 places = 512
 
--- a map: how many ranges it holds, and the starts, ends and values of its places
-pub record Stored : Type 0 where
-  pub count : ℕ
-  pub starts : List ℤ
-  pub ends : List ℤ
-  pub values : List ℕ
-
+-- A MAP is the struct `Stored` of the code: how many ranges it holds, and the starts, ends and values of its places
 abbrev pub stored : ℕ → List ℤ → List ℤ → List ℕ → Stored
 stored n ss es vs = record { count = n; starts = ss; ends = es; values = vs }
 

@@ -1,14 +1,17 @@
-// What the functions of a map answer. Inside, an answer is an enum whose refusing case holds the number of document 01's table;
+// What the functions of a map are lent and what they answer. Inside, an answer is a `Result` whose error says why the call is refused;
 // C and Rust see it as a struct of numbers. Both kinds of map, and the sets, share them.
 #![tactic(auto)]
 
 ghost use Rattle.std.specs.Prelude.{◌≡◌};
+ghost use Rattle.key.specs.Range.{Kind};
 ghost use Rattle.outcomes.specs.Stored.{places};
+ghost use Rattle.outcomes.specs.Outcomes.{clear};
 ghost use Rattle.outcomes.specs.Numbers.{asked_in_c, counted_in_c, found_in_c, part_in_c, compared_in_c, equal_of, totalled_in_c};
-ghost use Rattle.outcomes.specs.InnerOutcome.{outcome_in_c, outcome_of};
+ghost use Rattle.outcomes.specs.InnerOutcome.{outcome_in_c};
 
-use answers::{DONE, NONE_THERE};
-use key::Value;
+use answers::{DONE, NONE_THERE, Refusal};
+use key::{Entry, Value};
+use std::cmp::Ordering;
 
 // How many places a map has.
 pub const PLACES: usize = 512;
@@ -20,14 +23,24 @@ pub fn places_of() -> usize
     PLACES
 }
 
-// Yes or no.
-#[derive(Clone, Copy)]
-pub enum Asked {
-    Yes,
-    No,
-    Refused(u8),
+// What a map of either kind stores: the first `count` places hold its ranges, ascending; the others hold 0. The structs that C and Rust see hold it.
+#[repr(C)]
+#[derive(Drop)]
+pub struct Stored {
+    pub count: usize,
+    pub starts: [i64; PLACES],
+    pub ends: [i64; PLACES],
+    pub values: [Value; PLACES],
 }
 
+// A consecutive part of the places: the first, and how many.
+#[derive(Clone, Copy, Debug, PartialEq, Eq)]
+pub struct Part {
+    pub place: usize,
+    pub count: usize,
+}
+
+// Yes or no, in C.
 #[repr(C)]
 #[derive(Clone, Copy)]
 pub struct Told {
@@ -35,13 +48,7 @@ pub struct Told {
     pub yes: bool,
 }
 
-// How many.
-#[derive(Clone, Copy)]
-pub enum Counted {
-    Count(usize),
-    Refused(u8),
-}
-
+// How many, in C.
 #[repr(C)]
 #[derive(Clone, Copy)]
 pub struct Count {
@@ -49,14 +56,7 @@ pub struct Count {
     pub count: usize,
 }
 
-// A stored range and its value, or that there is none.
-#[derive(Clone, Copy)]
-pub enum Found {
-    Range(i64, i64, Value),
-    Nothing,
-    Refused(u8),
-}
-
+// A stored range and its value, in C.
 #[repr(C)]
 #[derive(Clone, Copy)]
 pub struct Range {
@@ -66,13 +66,7 @@ pub struct Range {
     pub value: Value,
 }
 
-// A consecutive part of the places: the first, and how many.
-#[derive(Clone, Copy)]
-pub enum Part {
-    Places(usize, usize),
-    Refused(u8),
-}
-
+// A part of the places, in C.
 #[repr(C)]
 #[derive(Clone, Copy)]
 pub struct Stretch {
@@ -81,15 +75,7 @@ pub struct Stretch {
     pub count: usize,
 }
 
-// How two maps compare.
-#[derive(Clone, Copy)]
-pub enum Compared {
-    Less,
-    Equal,
-    Greater,
-    Refused(u8),
-}
-
+// How two maps compare, in C: -1, 0 or 1.
 #[repr(C)]
 #[derive(Clone, Copy)]
 pub struct Order {
@@ -97,25 +83,12 @@ pub struct Order {
     pub order: i8,
 }
 
-// How many keys a set covers.
-#[derive(Clone, Copy)]
-pub enum Totalled {
-    Total(u64),
-    Refused(u8),
-}
-
+// How many keys a set covers, in C.
 #[repr(C)]
 #[derive(Clone, Copy)]
 pub struct Total {
     pub answer: u8,
     pub total: u64,
-}
-
-// How an edit went.
-#[derive(Clone, Copy)]
-pub enum Outcome {
-    Done,
-    Refused(u8),
 }
 
 // How a list of edits went: the first refusal, or 0, and how many were applied before it.
@@ -126,147 +99,142 @@ pub struct Applied {
     pub applied: usize,
 }
 
-pub fn told_of(a: Asked) -> Told
-    ensures { result ≡ asked_in_c a }
-{
-    match a {
-        Asked::Yes => Told {
-            answer: DONE,
-            yes: true,
-        },
-        Asked::No => Told {
-            answer: DONE,
-            yes: false,
-        },
-        Asked::Refused(n) => Told {
-            answer: n,
-            yes: false,
-        },
+impl From<Result<bool, Refusal>> for Told {
+    ghost from_gives = { λ a r. r ≡ asked_in_c a };
+
+    fn from(asked: Result<bool, Refusal>) -> Told {
+        match asked {
+            Ok(yes) => Told { answer: DONE, yes },
+            Err(why) => Told {
+                answer: why.number(),
+                yes: false,
+            },
+        }
     }
 }
 
-pub fn count_of(a: Counted) -> Count
-    ensures { result ≡ counted_in_c a }
-{
-    match a {
-        Counted::Count(n) => Count {
-            answer: DONE,
-            count: n,
-        },
-        Counted::Refused(n) => Count {
-            answer: n,
-            count: 0,
-        },
+impl From<Result<usize, Refusal>> for Count {
+    ghost from_gives = { λ a r. r ≡ counted_in_c a };
+
+    fn from(counted: Result<usize, Refusal>) -> Count {
+        match counted {
+            Ok(count) => Count {
+                answer: DONE,
+                count,
+            },
+            Err(why) => Count {
+                answer: why.number(),
+                count: 0,
+            },
+        }
     }
 }
 
-pub fn range_of(a: Found) -> Range
-    ensures { result ≡ found_in_c a }
-{
-    match a {
-        Found::Range(s, e, v) => Range {
-            answer: DONE,
-            start: s,
-            end: e,
-            value: v,
-        },
-        Found::Nothing => Range {
-            answer: NONE_THERE,
+impl From<Result<Option<Entry>, Refusal>> for Range {
+    ghost from_gives = { λ a r. r ≡ found_in_c a };
+
+    fn from(found: Result<Option<Entry>, Refusal>) -> Range {
+        let answer = match found {
+            Ok(Some(entry)) => {
+                return Range {
+                    answer: DONE,
+                    start: entry.start,
+                    end: entry.end,
+                    value: entry.value,
+                };
+            }
+            Ok(None) => NONE_THERE,
+            Err(why) => why.number(),
+        };
+        Range {
+            answer,
             start: 0,
             end: 0,
             value: 0,
-        },
-        Found::Refused(n) => Range {
-            answer: n,
-            start: 0,
-            end: 0,
-            value: 0,
-        },
+        }
     }
 }
 
-pub fn stretch_of(a: Part) -> Stretch
-    ensures { result ≡ part_in_c a }
-{
-    match a {
-        Part::Places(i, n) => Stretch {
-            answer: DONE,
-            place: i,
-            count: n,
-        },
-        Part::Refused(n) => Stretch {
-            answer: n,
-            place: 0,
-            count: 0,
-        },
+impl From<Result<Part, Refusal>> for Stretch {
+    ghost from_gives = { λ a r. r ≡ part_in_c a };
+
+    fn from(part: Result<Part, Refusal>) -> Stretch {
+        match part {
+            Ok(part) => Stretch {
+                answer: DONE,
+                place: part.place,
+                count: part.count,
+            },
+            Err(why) => Stretch {
+                answer: why.number(),
+                place: 0,
+                count: 0,
+            },
+        }
     }
 }
 
-pub fn order_of(a: Compared) -> Order
-    ensures { result ≡ compared_in_c a }
-{
-    match a {
-        Compared::Less => Order {
-            answer: DONE,
-            order: -1,
-        },
-        Compared::Equal => Order {
-            answer: DONE,
-            order: 0,
-        },
-        Compared::Greater => Order {
-            answer: DONE,
-            order: 1,
-        },
-        Compared::Refused(n) => Order {
-            answer: n,
-            order: 0,
-        },
+impl From<Result<Ordering, Refusal>> for Order {
+    ghost from_gives = { λ a r. r ≡ compared_in_c a };
+
+    fn from(compared: Result<Ordering, Refusal>) -> Order {
+        match compared {
+            Ok(order) => Order {
+                answer: DONE,
+                order: order as i8,
+            },
+            Err(why) => Order {
+                answer: why.number(),
+                order: 0,
+            },
+        }
     }
 }
 
-pub fn total_of(a: Totalled) -> Total
-    ensures { result ≡ totalled_in_c a }
-{
-    match a {
-        Totalled::Total(n) => Total {
-            answer: DONE,
-            total: n,
-        },
-        Totalled::Refused(n) => Total {
-            answer: n,
-            total: 0,
-        },
+impl From<Result<u64, Refusal>> for Total {
+    ghost from_gives = { λ a r. r ≡ totalled_in_c a };
+
+    fn from(totalled: Result<u64, Refusal>) -> Total {
+        match totalled {
+            Ok(total) => Total {
+                answer: DONE,
+                total,
+            },
+            Err(why) => Total {
+                answer: why.number(),
+                total: 0,
+            },
+        }
     }
 }
 
-pub fn number_of(a: Outcome) -> u8
-    ensures { result ≡ outcome_in_c a }
+// The number of an edit's answer.
+pub fn number_of(edited: Result<(), Refusal>) -> u8
+    ensures { result ≡ outcome_in_c edited }
 {
-    match a {
-        Outcome::Done => DONE,
-        Outcome::Refused(n) => n,
+    match edited {
+        Ok(()) => DONE,
+        Err(why) => why.number(),
     }
-}
-
-// How an edit went, by its number.
-pub fn outcome_of(n: u8) -> Outcome
-    ensures { result ≡ outcome_of n }
-{
-    if n == DONE {
-        return Outcome::Done;
-    }
-    Outcome::Refused(n)
 }
 
 // Whether two maps are equal, by how they compare.
-pub fn equal_of(a: Compared) -> Asked
-    ensures { result ≡ equal_of a }
+pub fn equal_of(compared: Result<Ordering, Refusal>) -> Result<bool, Refusal>
+    ensures { result ≡ equal_of compared }
 {
-    match a {
-        Compared::Less => Asked::No,
-        Compared::Equal => Asked::Yes,
-        Compared::Greater => Asked::No,
-        Compared::Refused(n) => Asked::Refused(n),
+    Ok(compared?.is_eq())
+}
+
+impl Stored {
+    // A map that holds nothing, of either kind.
+    pub fn new() -> Stored
+        ensures { (k : Kind) → result ≡ clear k }
+    {
+        Stored {
+            count: 0,
+            starts: [0; PLACES],
+            ends: [0; PLACES],
+            values: [0; PLACES],
+        }
     }
 }

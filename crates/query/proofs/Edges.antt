@@ -17,11 +17,11 @@ use Rattle.query.specs.InnerSeen.{Sees}
 use Rattle.query.specs.InnerWalk.{Silent, says_at, Stands, Cells, Edges}
 use Rattle.query.proofs.Walking.{class_least, trails_later}
 
-module _ (t : Truth) (xs ys : List Span) (w : Walk) (e : ℕ) (z : Stands xs ys w) where
+module _ (t : Truth) (xs ys : List Span) (w : Walk) (e : ℕ) where
   -- where the table is silent, the cell goes on as long as the first map holds the same
-  pub cell_silent : (u : ℤ) (n a : ℕ) → Sees xs (rank w.key) e (rank u) n a → Silent t n
+  pub cell_silent : Stands xs ys w → (u : ℤ) (n a : ℕ) → Sees xs (rank w.key) e (rank u) n a → Silent t n
       → Cells t xs ys (rank w.key) e (record { yes = false; next = record { key = u; a = a; b = w.b } })
-  cell_silent u n a s q = record {
+  cell_silent z u n a s q = record {
     on = s.on;
     within = s.within;
     same = λ k lo hi. rw (s.holds k lo hi) (q (class_of (at ys k)) (class_least (at ys k)));

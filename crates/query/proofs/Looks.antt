@@ -8,7 +8,8 @@ use lib.IntN.{pos}
 use Rattle.span.specs.Span.{Span, span, Ordered}
 use Rattle.key.specs.Rank.{rank}
 use Rattle.key.specs.Range.{half_open}
-use Rattle.outcomes.specs.Stored.{Stored, ranges, Sound}
+use Rattle.outcomes.specs.Stored.{ranges, Sound}
+use Rattle.outcomes.specs.declared.Stored.{Stored}
 use Rattle.outcomes.proofs.Formed.{good, shape, length_ranges, get_or_ranges}
 use Rattle.query.specs.InnerSeen.{none_there_span, Trails, Standing, Sees}
 use Rattle.query.proofs.Walking.{sees_none, sees_before, sees_in, trails_next}

@@ -1,7 +1,6 @@
 -- What C and Rust see of the two entries: what the lent lists hold, and the instant told by the ranges there.
 -- r, starts and ends are what the entry for ranges answers and leaves; t is what the entry for one instant answers.
 use Prim.Native.Nat.{ℕ, min}
-use native.Mathlib.Omega.{arith}
 use mathlib.Core.Path.{◌≡◌, refl, sym, ap, ◌∙◌}
 use mathlib.Core.Bool.{Bool, true, false}
 use mathlib.Core.List.{List, []}
@@ -12,11 +11,11 @@ use Rattle.span.proofs.Tests.{lt_cases}
 use Rattle.key.specs.Rank.{rank}
 use Rattle.key.specs.Range.{half_open}
 use Rattle.key.proofs.Answers.{one_answer}
-use Rattle.outcomes.specs.Stored.{Stored}
+use Rattle.outcomes.specs.declared.Stored.{Stored}
 use Rattle.outcomes.specs.Numbers.{asked_in_c, counted_in_c}
 use Rattle.outcomes.specs.Outcomes.{Written, Listed, into_lists, yes_no}
-use Rattle.outcomes.specs.declared.Asked.{Asked}
-use Rattle.outcomes.specs.declared.Counted.{Counted}
+use Rattle.outcomes.specs.Answered.{Asked}
+use Rattle.outcomes.specs.Answered.{Counted}
 use Rattle.outcomes.specs.declared.Count.{Count}
 use Rattle.outcomes.specs.declared.Told.{Told}
 use Rattle.outcomes.proofs.Sets.{covers}
@@ -26,21 +25,28 @@ use Rattle.query_text.specs.Grammar.{Query, Is}
 use Rattle.query_text.proofs.Alike.{Alike}
 use Rattle.query.specs.Answers.{result_of, query_ranges, query_at}
 use Rattle.query.proofs.ByCases.{Answered, refusal, shown, querying_answers, is_in}
-use Rattle.query.proofs.Agree.{written_ranges, IsResult, writing_refused, answered_means, answered_agree}
+use Rattle.query.proofs.Agree.{written_ranges, IsResult, answered_means, answered_agree}
 use Rattle.query.proofs.WrittenLaws.{TellsResult, tells_result, same_written, same_at}
+use Rattle.std.specs.Prelude.{Ok, Err}
+use Rattle.answers.specs.Refusals.{number}
+use Rattle.answers.specs.declared.Refusal.{Refusal}
+use Rattle.answers.specs.declared.Refusal.TheVariants.{TooShort}
+use Rattle.outcomes.specs.Answered.{Outcome}
+use Rattle.outcomes.proofs.Went.{number_one, number_nonzero}
 
 -- yes or no is told with the number 0
 told_yes : (t : Bool) → asked_in_c (yes_no t) ≡ record { answer = 0; yes = t }
 told_yes true = refl
 told_yes false = refl
 
--- a number 0 that is no refusal's is a count
-counted : (c : Counted) {r : Count} → r ≡ counted_in_c c → r.answer ≡ 0 → (c ≡ Counted.Refused 0 → ⊥) → c ≡ Counted.Count r.count
-counted (Counted.Count n) e z f = ap (λ (r : Count). Counted.Count r.count) (sym e)
-counted (Counted.Refused n) {r} e z f =
-    let h : r.answer ≡ n = ap (λ (r : Count). r.answer) e in
-    let zero : n ≡ 0 = omega arith in
-    absurd (f (ap (λ (i : ℕ). Counted.Refused i) zero))
+-- the number 0 is a count's
+counted : (c : Counted) {r : Count} → r ≡ counted_in_c c → r.answer ≡ 0 → c ≡ Ok r.count
+counted (Ok n) e z = ap (λ (r : Count). Ok r.count) (sym e)
+counted (Err why) e z = absurd (number_nonzero why (sym (ap (λ (r : Count). r.answer) e) ∙ z))
+
+-- the number 3 is that of lent lists that are too short
+is_short : (why : Refusal) → number why ≡ 3 → why ≡ TooShort
+is_short why e = let same : ◌≡◌ {A = Outcome} (Err why) (Err TooShort) = number_one (Err why) (Err TooShort) e in cc
 
 -- the number of a list that is written or too long
 writing_number : (xs : List Span) (os oe : List ℤ)
@@ -57,13 +63,6 @@ pub record ToldOf (a b : Stored) (s e : ℤ) (bytes : List ℕ) (k : ℤ) (yes :
   pub tells : yes ≡ is_in a b s e query k
 
 module _ {a b : Stored} {s e : ℤ} {bytes : List ℕ} {os oe : List ℤ} {k : ℤ} where
-  -- the number 0 says that the list is written
-  answered_done : {w : Written} {x : Asked} {r : Count} → Answered a b s e bytes os oe k w x
-      → r ≡ counted_in_c w.answer → r.answer ≡ 0 → w.answer ≡ Counted.Count r.count
-  answered_done {r = r} (refusal n f) h z = let m : r.answer ≡ n = ap (λ (r : Count). r.answer) h in absurd (f.not_done (omega arith))
-  answered_done (shown q asks) h z = counted (into_lists half_open (result_of a b s e q) os oe).answer h z
-      (λ c. let d = writing_refused (result_of a b s e q) os oe 0 c in omega arith)
-
   -- the numbers of the two entries are one, but where the lent lists are too short
   answered_number : {w : Written} {x : Asked} → Answered a b s e bytes os oe k w x
       → ((counted_in_c w.answer).answer ≡ 3 → ⊥) → (asked_in_c x).answer ≡ (counted_in_c w.answer).answer
@@ -72,12 +71,12 @@ module _ {a b : Stored} {s e : ℤ} {bytes : List ℕ} {os oe : List ℤ} {k : �
 
   -- and there the instant is told all the same
   answered_short : {w : Written} {x : Asked} → Answered a b s e bytes os oe k w x → (counted_in_c w.answer).answer ≡ 3 → (asked_in_c x).answer ≡ 0
-  answered_short (refusal n f) h = absurd (f.not_short h)
+  answered_short (refusal why f) h = absurd (f (is_short why h))
   answered_short (shown q asks) h = ap (λ (t : Told). t.answer) (told_yes (is_in a b s e q k))
 
   -- the number 0 says that the bytes are a query, of which the instant is told
   answered_told : {w : Written} {x : Asked} {t : Told} → Answered a b s e bytes os oe k w x → t ≡ asked_in_c x → t.answer ≡ 0 → ToldOf a b s e bytes k t.yes
-  answered_told {t = t} (refusal n f) h z = let m : t.answer ≡ n = ap (λ (t : Told). t.answer) h in absurd (f.not_done (omega arith))
+  answered_told (refusal why f) h z = absurd (number_nonzero why (sym (ap (λ (t : Told). t.answer) h) ∙ z))
   answered_told (shown q asks) h z =
       record { query = q; spelt = asks.spelt; tells = ap (λ (t : Told). t.yes) (h ∙ told_yes (is_in a b s e q k)) }
 
@@ -92,20 +91,20 @@ module _ (a b : Stored) (s e : ℤ) (bytes : List ℕ) (os oe : List ℤ) where
     pub listed_means : r.answer ≡ 0 → IsResult a b s e bytes (column_rows half_open starts ends r.count)
     listed_means z =
         let x = querying_answers a b s e bytes os oe s in
-        rw (listed.starts_are, listed.ends_are) (answered_means x r.count (answered_done x listed.number z))
+        rw (listed.starts_are, listed.ends_are) (answered_means x r.count (counted _ listed.number z))
 
     -- and so the result of the query that the bytes are: its hours and windows are those of WrittenLaws
     pub listed_tells : {q : Query} → Is bytes q → r.answer ≡ 0 → TellsResult a b s e bytes q (column_rows half_open starts ends r.count)
     listed_tells is z =
         let x = querying_answers a b s e bytes os oe s in
-        rw (listed.starts_are, listed.ends_are) (tells_result x is r.count (answered_done x listed.number z))
+        rw (listed.starts_are, listed.ends_are) (tells_result x is r.count (counted _ listed.number z))
 
     module _ {t : Told} (k : ℤ) (told : t ≡ asked_in_c (query_at a b s e bytes k)) where
       -- THE TWO ENTRIES AGREE: the instant is told yes exactly where one of those ranges covers it
       pub listed_agree : r.answer ≡ 0 → t ≡ record { answer = 0; yes = covers (column_rows half_open starts ends r.count) (rank k) }
       listed_agree z =
           let x = querying_answers a b s e bytes os oe k in
-          let y = answered_agree x r.count (answered_done x listed.number z) in
+          let y = answered_agree x r.count (counted _ listed.number z) in
           rw (listed.starts_are, listed.ends_are)
           (told ∙ ap asked_in_c y ∙ told_yes (covers (written_ranges r.count (query_ranges a b s e bytes os oe)) (rank k)))
 

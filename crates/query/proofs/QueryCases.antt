@@ -6,17 +6,16 @@ use mathlib.Core.Path.{◌≡◌, refl, sym, ap, ◌∙◌}
 use mathlib.Core.Bool.{Bool, true, false}
 use mathlib.Core.List.{List, [], ◌∷◌, map}
 use lib.IntN.{ℤ, pos, negsuc}
-use Rattle.answers.specs.Answers.{empty_range, too_short, not_formed, bad_query}
 use Rattle.span.specs.Span.{inside, at, keep, before, after, joins, tidy, push, joined, given, history}
 use Rattle.span.specs.Labels.{relabelled}
 use Rattle.span.specs.Operations.{puts, cuts, uncovered, laid_over, within, common_parts, common, chosen}
 use Rattle.key.specs.Rank.{above_least, bit_rank, key_at}
 use Rattle.key.specs.Range.{half_open, span_of}
-use Rattle.outcomes.specs.Stored.{places, Stored, spans, ranges, filled, storing, zeros, noughts, unused, well_formed}
+use Rattle.outcomes.specs.Stored.{places, spans, ranges, filled, storing, zeros, noughts, unused, well_formed}
+use Rattle.outcomes.specs.declared.Stored.{Stored}
 use Rattle.outcomes.specs.Numbers.{counted_in_c, asked_in_c}
-use Rattle.outcomes.specs.Outcomes.{not_written, Entry, Written, Listed, into_lists}
-use Rattle.outcomes.specs.declared.Asked.TheVariants as Asked
-use Rattle.outcomes.specs.declared.Counted.TheVariants as Counted
+use Rattle.outcomes.specs.Outcomes.{not_written, Written, Listed, into_lists}
+use Rattle.key.specs.declared.Entry.{Entry}
 use Rattle.outcomes.specs.declared.Count.{Count}
 use Rattle.outcomes.specs.declared.Told.{Told}
 use Rattle.query_text.specs.Grammar.{first, second}
@@ -28,6 +27,8 @@ use Rattle.query_text.proofs.Cases01.{bytes}
 use Rattle.query.specs.Result.{result, is_true}
 use Rattle.query.specs.Answers.{query_ranges_sound, query_at_sound, query_ranges, query_at}
 use Rattle.query.proofs.WrittenLaws.{same_written}
+use Rattle.std.specs.Prelude.{Ok, Err}
+use Rattle.answers.specs.declared.Refusal.TheVariants.{EmptyRange, TooShort, NotFormed, BadQuery}
 
 -- a range with a value, and the map that holds some of them
 abbrev to : ℤ → ℤ → ℕ → Entry
@@ -38,7 +39,7 @@ made es = storing half_open places (map (λ (x : Entry). span_of half_open x.sta
 
 -- what is answered and written
 abbrev wrote : ℕ → List ℤ → List ℤ → Written
-wrote n ss es = record { answer = Counted.Count n; starts = ss; ends = es }
+wrote n ss es = record { answer = Ok n; starts = ss; ends = es }
 
 -- a lent list of three places, and one of one
 abbrev lent : List ℤ
@@ -118,64 +119,64 @@ unfolding all
 most_ranges = refl
 
 -- REFUSALS in order: 4 before 1, 1 before 7, 7 before 3; the lent lists are as they were
-first_broken : query_ranges broken mate (pos 4) (pos 4) (bytes "") lent lent ≡ not_written not_formed lent lent
+first_broken : query_ranges broken mate (pos 4) (pos 4) (bytes "") lent lent ≡ not_written NotFormed lent lent
 unfolding all
 first_broken = refl
 
-second_broken : query_ranges driver broken (pos 0) (pos 20) (bytes "A3") lent lent ≡ not_written not_formed lent lent
+second_broken : query_ranges driver broken (pos 0) (pos 20) (bytes "A3") lent lent ≡ not_written NotFormed lent lent
 unfolding all
 second_broken = refl
 
-empty_window : query_ranges driver mate (pos 4) (pos 4) (bytes "A3&") lent lent ≡ not_written empty_range lent lent
+empty_window : query_ranges driver mate (pos 4) (pos 4) (bytes "A3&") lent lent ≡ not_written EmptyRange lent lent
 unfolding all
 empty_window = refl
 
-reversed_window : query_ranges driver mate (pos 9) (pos 4) (bytes "A3") lent lent ≡ not_written empty_range lent lent
+reversed_window : query_ranges driver mate (pos 9) (pos 4) (bytes "A3") lent lent ≡ not_written EmptyRange lent lent
 unfolding all
 reversed_window = refl
 
-bad_query_lem : query_ranges driver mate (pos 0) (pos 20) (bytes "A3&") [] [] ≡ not_written bad_query [] []
+bad_query_lem : query_ranges driver mate (pos 0) (pos 20) (bytes "A3&") [] [] ≡ not_written BadQuery [] []
 unfolding all
 bad_query_lem = refl
 
-no_query_lem : query_ranges driver mate (pos 0) (pos 20) (bytes "") lent lent ≡ not_written bad_query lent lent
+no_query_lem : query_ranges driver mate (pos 0) (pos 20) (bytes "") lent lent ≡ not_written BadQuery lent lent
 unfolding all
 no_query_lem = refl
 
-first_short : query_ranges driver mate (pos 0) (pos 20) (bytes "A3&!B1") short lent ≡ not_written too_short short lent
+first_short : query_ranges driver mate (pos 0) (pos 20) (bytes "A3&!B1") short lent ≡ not_written TooShort short lent
 unfolding all
 first_short = refl
 
-second_short : query_ranges driver mate (pos 0) (pos 20) (bytes "A3&!B1") lent short ≡ not_written too_short lent short
+second_short : query_ranges driver mate (pos 0) (pos 20) (bytes "A3&!B1") lent short ≡ not_written TooShort lent short
 unfolding all
 second_short = refl
 
 -- ONE INSTANT: a start is in its range, an end is not, and outside the window the answer is no
-at_start : query_at driver mate (pos 0) (pos 20) (bytes "A3&!B1") (pos 2) ≡ Asked.Yes
+at_start : query_at driver mate (pos 0) (pos 20) (bytes "A3&!B1") (pos 2) ≡ (Ok true)
 unfolding all
 at_start = refl
 
-at_end : query_at driver mate (pos 0) (pos 20) (bytes "A3&!B1") (pos 4) ≡ Asked.No
+at_end : query_at driver mate (pos 0) (pos 20) (bytes "A3&!B1") (pos 4) ≡ (Ok false)
 unfolding all
 at_end = refl
 
-at_outside : query_at driver mate (pos 0) (pos 5) (bytes "A3&!B1") (pos 7) ≡ Asked.No
+at_outside : query_at driver mate (pos 0) (pos 5) (bytes "A3&!B1") (pos 7) ≡ (Ok false)
 unfolding all
 at_outside = refl
 
-at_outside_not : query_at driver mate (pos 0) (pos 5) (bytes "!A3") (pos 15) ≡ Asked.No
+at_outside_not : query_at driver mate (pos 0) (pos 5) (bytes "!A3") (pos 15) ≡ (Ok false)
 unfolding all
 at_outside_not = refl
 
-at_broken : query_at driver broken (pos 4) (pos 4) (bytes "") (pos 2) ≡ Asked.Refused not_formed
+at_broken : query_at driver broken (pos 4) (pos 4) (bytes "") (pos 2) ≡ Err NotFormed
 unfolding all
 at_broken = refl
 
-at_empty_window : query_at driver mate (pos 4) (pos 4) (bytes "") (pos 2) ≡ Asked.Refused empty_range
+at_empty_window : query_at driver mate (pos 4) (pos 4) (bytes "") (pos 2) ≡ Err EmptyRange
 unfolding all
 at_empty_window = refl
 
-at_bad_query : query_at driver mate (pos 0) (pos 20) (bytes "A") (pos 2) ≡ Asked.Refused bad_query
+at_bad_query : query_at driver mate (pos 0) (pos 20) (bytes "A") (pos 2) ≡ Err BadQuery
 unfolding all
 at_bad_query = refl
 

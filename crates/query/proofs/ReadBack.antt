@@ -13,9 +13,9 @@ use Rattle.key.proofs.Laws.{rank_key}
 use Rattle.key.proofs.Lawful.{Lawful}
 use Rattle.outcomes.specs.Stored.{spans}
 use Rattle.outcomes.specs.Outcomes.{Written, into_lists}
-use Rattle.outcomes.specs.declared.Counted.TheVariants as Counted
 use Rattle.range_list.specs.InnerLists.{starts_of, ends_of}
 use Rattle.range_list.specs.InnerColumns.{column_rows}
+use Rattle.std.specs.Prelude.{Ok}
 
 module _ (kind : Kind) (law : Lawful kind) where
   rows_back : (b : ℕ) (xs : List Span) (rs re : List ℤ) → Ordered b xs → Plain xs → Upto law.limit xs
@@ -28,9 +28,9 @@ module _ (kind : Kind) (law : Lawful kind) where
       (ap (λ (l : ℕ). span x.lo x.hi l ∷ xs) (sym p.0))
 
   pub read_back : (xs : List Span) (os oe : List ℤ) → Ordered 0 xs → Plain xs → Upto law.limit xs
-      → (n : ℕ) → (into_lists kind xs os oe).answer ≡ Counted.Count n → column_rows kind (into_lists kind xs os oe).starts (into_lists kind xs os oe).ends n ≡ xs
+      → (n : ℕ) → (into_lists kind xs os oe).answer ≡ Ok n → column_rows kind (into_lists kind xs os oe).starts (into_lists kind xs os oe).ends n ≡ xs
   unfolding into_lists column_rows
   read_back xs os oe o p u n = lt_cases (min (length os) (length oe)) (length xs)
-      (λ (w : Written). w.answer ≡ Counted.Count n → take n (spans kind w.starts w.ends (replicate (length w.starts) 0)) ≡ xs)
+      (λ (w : Written). w.answer ≡ Ok n → take n (spans kind w.starts w.ends (replicate (length w.starts) 0)) ≡ xs)
       (λ h e. absurd (let z : ◌≡◌ {A = ℕ} 0 1 = cc in omega arith))
       (λ h e. let c : length xs ≡ n = cc in rw (← c) (rows_back 0 xs _ _ o p u))

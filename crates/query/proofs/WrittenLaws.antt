@@ -6,16 +6,15 @@ use mathlib.Core.List.{List}
 use borrow.Author.Tests.{ltb-true}
 use lib.Dec.{ltb}
 use lib.IntN.{ℤ}
-use Rattle.answers.specs.Answers.{empty_range, not_formed}
 use Rattle.span.specs.Span.{Span, Tidy, at}
 use Rattle.span.specs.Operations.{laid_over, span_total}
 use Rattle.span.proofs.Tests as tests
 use Rattle.key.specs.Rank.{rank}
 use Rattle.key.specs.Range.{half_open}
-use Rattle.outcomes.specs.Stored.{places, Stored, ranges}
+use Rattle.outcomes.specs.Stored.{places, ranges}
+use Rattle.outcomes.specs.declared.Stored.{Stored}
 use Rattle.outcomes.specs.Outcomes.{not_written, Written, into_lists, formed}
-use Rattle.outcomes.specs.declared.Asked.{Asked}
-use Rattle.outcomes.specs.declared.Counted.TheVariants as Counted
+use Rattle.outcomes.specs.Answered.{Asked}
 use Rattle.outcomes.proofs.Formed as formed
 use Rattle.query_text.specs.Grammar.{Query, no, both, either, Is}
 use Rattle.query_text.proofs.Grammar.{is_read}
@@ -28,6 +27,8 @@ use Rattle.query.proofs.Windows.{windows_join, windows_add_up}
 use Rattle.query.specs.Answers.{result_of, query_ranges_sound, query_at_sound, query_ranges, query_at}
 use Rattle.query.proofs.ByCases.{Asks, Answered, refusal, shown}
 use Rattle.query.proofs.Agree.{written_ranges, refused_counted, comes_back}
+use Rattle.std.specs.Prelude.{Ok}
+use Rattle.answers.specs.declared.Refusal.TheVariants.{EmptyRange, NotFormed}
 
 -- one test, and answers that are equal where it is true
 cond_same : {A : Type 0} {x y : A} (t : Bool) (z : A) → (t ≡ true → x ≡ y) → cond t x z ≡ cond t y z
@@ -38,7 +39,7 @@ module _ (a b : Stored) (s e : ℤ) {p q : Query} (same : Alike p q) {v w : List
   -- SAME TRUTH, same outcome, of well-formed maps: the answer and both lent lists, and the answer at each instant
   pub same_queried : Tidy 0 (ranges half_open a) → Tidy 0 (ranges half_open b) → (os oe : List ℤ) → query_ranges_sound a b s e v os oe ≡ query_ranges_sound a b s e w os oe
   unfolding query_ranges_sound
-  same_queried ta tb os oe = cond_same (ltb (rank s) (rank e)) (not_written empty_range os oe) (λ l.
+  same_queried ta tb os oe = cond_same (ltb (rank s) (rank e)) (not_written EmptyRange os oe) (λ l.
       let lt = ltb-true (rank s) (rank e) l in
       let r : result_of a b s e p ≡ result_of a b s e q = same_truth (rank s) (rank e) (ranges half_open a) (ranges half_open b) lt ta tb same in
       rw (is_read v p is-p, is_read w q is-q, r))
@@ -50,7 +51,7 @@ module _ (a b : Stored) (s e : ℤ) {p q : Query} (same : Alike p q) {v w : List
   -- of any maps
   pub same_written : (os oe : List ℤ) → query_ranges a b s e v os oe ≡ query_ranges a b s e w os oe
   unfolding query_ranges
-  same_written os oe = cond_same (formed half_open a && formed half_open b) (not_written not_formed os oe) (λ t.
+  same_written os oe = cond_same (formed half_open a && formed half_open b) (not_written NotFormed os oe) (λ t.
       let (x, y) = tests.both (formed half_open a) (formed half_open b) t in
       same_queried (formed.formed half_open places a x).tidy (formed.formed half_open places b y).tidy os oe)
 
@@ -65,7 +66,7 @@ pub record TellsResult (a b : Stored) (s e : ℤ) (bytes : List ℕ) (q : Query)
 
 -- the written ranges are
 pub tells_result : {a b : Stored} {s e : ℤ} {bytes : List ℕ} {os oe : List ℤ} {k : ℤ} {w : Written} {t : Asked} {q : Query} → Answered a b s e bytes os oe k w t
-    → Is bytes q → (n : ℕ) → w.answer ≡ Counted.Count n → TellsResult a b s e bytes q (written_ranges n w)
+    → Is bytes q → (n : ℕ) → w.answer ≡ Ok n → TellsResult a b s e bytes q (written_ranges n w)
 tells_result (refusal m r) is n c = refused_counted c
 tells_result {a} {b} {s} {e} {bytes} {os} {oe} (shown p asks) is n c =
     subst (λ (x : Query). TellsResult a b s e bytes x (written_ranges n (into_lists half_open (result_of a b s e p) os oe))) (unambiguous asks.spelt is)

@@ -5,8 +5,10 @@ use Rattle.key.specs.Rank.{rank}
 use Rattle.query_text.specs.InnerClasses.{class_of}
 use Rattle.query_text.specs.InnerTable.{is_one, says}
 use Rattle.query_text.specs.declared.truth.Truth.{Truth}
+use Rattle.query.specs.InnerColumns.{spans_of}
 use Rattle.query.specs.InnerSeen.{Trails}
 use Rattle.query.specs.declared.walk.Walk.{Walk}
+use Rattle.query.specs.declared.inquiry.Inquiry.{Inquiry}
 use Rattle.query.specs.declared.walk.Cell.{Cell}
 
 -- what a table says of what two maps hold at k
@@ -25,6 +27,13 @@ Silent t n = (m : ℕ) → m ≤ 10 → says t n m ≡ false
 pub record Stands (xs ys : List Span) (w : Walk) : Type 0 where
   pub a : Trails xs w.a (rank w.key)
   pub b : Trails ys w.b (rank w.key)
+
+-- the ranges of the first map and of the second
+abbrev pub firsts : Inquiry → List Span
+firsts q = spans_of q.a.now
+
+abbrev pub seconds : Inquiry → List Span
+seconds q = spans_of q.b.now
 
 -- a walk begins at a key: it stands in any two maps, so no place is passed
 abbrev pub Begins : ℤ → Walk → Type 0

@@ -5,8 +5,8 @@ use Rattle.span.specs.Span.{Span, Means}
 use Rattle.key.specs.Rank.{rank, key_at}
 use Rattle.key.specs.Range.{half_open}
 use Rattle.key.specs.InnerDecides.{Decides}
-use Rattle.outcomes.specs.Stored.{Stored, ranges}
-use Rattle.outcomes.specs.Outcomes.{Written, into_lists}
+use Rattle.outcomes.specs.Stored.{ranges}
+use Rattle.outcomes.specs.declared.Stored.{Stored}
 use Rattle.range_list.specs.InnerLists.{ListRoom, Puts}
 use Rattle.query_text.specs.declared.truth.Truth.{Truth}
 use Rattle.query.specs.Result.{marked}
@@ -55,7 +55,3 @@ pub record Bounded (t : Truth) (a b : Stored) (s e : ℤ) : Type 0 where
 -- r says whether so many places are enough for that list
 abbrev pub Measures : Truth → List Span → List Span → ℕ → ℕ → ℕ → Bool → Type 0
 Measures t xs ys p e room r = (zs : List Span) → ToCome t xs ys p e zs → Decides r (length zs ≤ room)
-
--- what is written is that list
-abbrev pub WritesAll : Truth → Stored → Stored → ℤ → ℤ → List ℤ → List ℤ → Written → Type 0
-WritesAll t a b s e os oe w = (zs : List Span) → ToCome t (ranges half_open a) (ranges half_open b) (rank s) (rank e) zs → w ≡ into_lists half_open zs os oe

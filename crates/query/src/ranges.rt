@@ -1,121 +1,61 @@
 // THE RANGES of a query: the true instants of a window, as maximal ranges, ascending.
-ghost use Rattle.std.specs.Prelude.{◌≡◌, ◌<◌};
-ghost use Rattle.key.specs.Rank.{rank};
+ghost use Rattle.std.specs.Prelude.{◌≡◌};
 ghost use Rattle.key.specs.Range.{half_open};
-ghost use Rattle.outcomes.specs.Stored.{Sound, stored};
+ghost use Rattle.outcomes.specs.Stored.{Sound};
 ghost use Rattle.range_list.specs.InnerLists.{wrote};
-ghost use Rattle.query.specs.InnerColumns.{columns};
 ghost use Rattle.query.specs.Answers.{query_ranges_sound, query_ranges};
-ghost use Rattle.query.specs.InnerWritten.{Bounded, WritesAll};
 
 use crate::formed::are_formed;
+use crate::inquiry::Inquiry;
+use crate::table::table;
 use crate::walk::walk_at;
-use crate::written;
-use answers::{BAD_QUERY, EMPTY_RANGE, NOT_FORMED, TOO_SHORT};
-use key::Value;
-use outcomes::{Counted, PLACES};
-use query_text::reader::{Reading, read_query};
-use query_text::truth::Truth;
+use answers::Refusal;
+use outcomes::Stored;
 use range_list::shorter;
 
-// What the table says in the window. Nothing is written before it is known that the lent lists are long enough.
-fn by_table(
-    count_a: usize,
-    starts_a: &[i64],
-    ends_a: &[i64],
-    values_a: &[Value],
-    count_b: usize,
-    starts_b: &[i64],
-    ends_b: &[i64],
-    values_b: &[Value],
-    start: i64,
-    end: i64,
-    t: Truth,
-    out_starts: &mut [i64],
-    out_ends: &mut [i64],
-) -> Counted
-    requires { Sound half_open (columns count_a starts_a.now ends_a.now values_a.now) × Sound half_open (columns count_b starts_b.now ends_b.now values_b.now)
-        × (rank start < rank end) × Bounded t (columns count_a starts_a.now ends_a.now values_a.now)
-        (columns count_b starts_b.now ends_b.now values_b.now) start end }
-    ensures { WritesAll t (columns count_a starts_a.now ends_a.now values_a.now)
-        (columns count_b starts_b.now ends_b.now values_b.now)
-        start end out_starts.old out_ends.old (wrote result out_starts.new out_ends.new) }
-{
-    let w = walk_at(start);
-    let room = shorter(out_starts.len(), out_ends.len());
-    if !written::fits(
-        count_a, starts_a, ends_a, values_a, count_b, starts_b, ends_b, values_b, t, w, end, room,
-    ) {
-        return Counted::Refused(TOO_SHORT);
-    }
-    Counted::Count(written::write(
-        count_a, starts_a, ends_a, values_a, count_b, starts_b, ends_b, values_b, t, w, end,
-        out_starts, out_ends,
-    ))
-}
-
-// THE UNCHECKED DOOR: the maps must be sound.
+// THE UNCHECKED DOOR: the maps must be sound. Nothing is written before it is known that the lent lists are long enough.
 pub fn query_unchecked(
-    count_a: usize,
-    starts_a: &[i64],
-    ends_a: &[i64],
-    values_a: &[Value],
-    count_b: usize,
-    starts_b: &[i64],
-    ends_b: &[i64],
-    values_b: &[Value],
+    a: &Stored,
+    b: &Stored,
     start: i64,
     end: i64,
     bytes: &[u8],
     out_starts: &mut [i64],
     out_ends: &mut [i64],
-) -> Counted
-    requires { Sound half_open (columns count_a starts_a.now ends_a.now values_a.now) × Sound half_open (columns count_b starts_b.now ends_b.now values_b.now) }
+) -> Result<usize, Refusal>
+    requires { Sound half_open a.now × Sound half_open b.now }
     ensures { wrote result out_starts.new out_ends.new
-        ≡ query_ranges_sound (columns count_a starts_a.now ends_a.now values_a.now)
-        (columns count_b starts_b.now ends_b.now values_b.now)
-        start end bytes.now out_starts.old out_ends.old }
+        ≡ query_ranges_sound a.now b.now start end bytes.now out_starts.old out_ends.old }
 {
-    if start >= end {
-        return Counted::Refused(EMPTY_RANGE);
-    }
-    let Reading::Got(_, t) = read_query(bytes) else {
-        return Counted::Refused(BAD_QUERY);
+    let asked = Inquiry {
+        a,
+        b,
+        table: table(start, end, bytes)?,
+        end,
     };
-    by_table(
-        count_a, starts_a, ends_a, values_a, count_b, starts_b, ends_b, values_b, start, end, t,
-        out_starts, out_ends,
-    )
+    let w = walk_at(start);
+    let room = shorter(out_starts.len(), out_ends.len());
+    if !asked.fits(w, room) {
+        return Err(Refusal::TooShort);
+    }
+    Ok(asked.write(w, out_starts, out_ends))
 }
 
 // Any two maps are taken.
 pub fn query(
-    count_a: &usize,
-    starts_a: &[i64; PLACES],
-    ends_a: &[i64; PLACES],
-    values_a: &[Value; PLACES],
-    count_b: &usize,
-    starts_b: &[i64; PLACES],
-    ends_b: &[i64; PLACES],
-    values_b: &[Value; PLACES],
+    a: &Stored,
+    b: &Stored,
     start: i64,
     end: i64,
     bytes: &[u8],
     out_starts: &mut [i64],
     out_ends: &mut [i64],
-) -> Counted
+) -> Result<usize, Refusal>
     ensures { wrote result out_starts.new out_ends.new
-        ≡ query_ranges (stored count_a.now starts_a.now ends_a.now values_a.now)
-        (stored count_b.now starts_b.now ends_b.now values_b.now)
-        start end bytes.now out_starts.old out_ends.old }
+        ≡ query_ranges a.now b.now start end bytes.now out_starts.old out_ends.old }
 {
-    if !are_formed(
-        *count_a, starts_a, ends_a, values_a, *count_b, starts_b, ends_b, values_b,
-    ) {
-        return Counted::Refused(NOT_FORMED);
+    if !are_formed(a, b) {
+        return Err(Refusal::NotFormed);
     }
-    query_unchecked(
-        *count_a, starts_a, ends_a, values_a, *count_b, starts_b, ends_b, values_b, start, end,
-        bytes, out_starts, out_ends,
-    )
+    query_unchecked(a, b, start, end, bytes, out_starts, out_ends)
 }

@@ -1,12 +1,13 @@
 // What one map holds from a key on, as a walk along the instants sees it.
-ghost use Rattle.std.specs.Prelude.{◌≡◌, ◌≤◌, ◌<◌, min};
+ghost use Rattle.std.specs.Prelude.{◌≡◌, ◌<◌, min};
 ghost use Rattle.key.specs.Rank.{rank};
 ghost use Rattle.key.specs.Range.{half_open};
 ghost use Rattle.outcomes.specs.Stored.{Sound};
-ghost use Rattle.query.specs.InnerColumns.{columns, spans_of};
+ghost use Rattle.query.specs.InnerColumns.{spans_of};
 ghost use Rattle.query.specs.InnerSeen.{Trails, Standing, Sees};
 
 use key::Value;
+use outcomes::Stored;
 
 // The class of a value over 9, and of nothing held.
 const OTHER: usize = 10;
@@ -22,53 +23,37 @@ pub struct Seen {
 fn class_of(value: Value) -> usize
     ensures { result ≡ min value 10 }
 {
-    if value < 10 { value as usize } else { OTHER }
+    (value as usize).min(OTHER)
 }
 
 // The first place whose range ends after a key. The ranges before `place` do not.
-fn caught_up(
-    count: usize,
-    starts: &[i64],
-    ends: &[i64],
-    values: &[Value],
-    place: usize,
-    key: i64,
-) -> usize
-    requires { Sound half_open (columns count starts.now ends.now values.now) × Trails (spans_of count starts.now ends.now values.now) place (rank key) }
-    ensures { Standing (spans_of count starts.now ends.now values.now) result (rank key) }
+// A `while`: with a `for` a whole query took 1.13 times as long, which misses its bar of 0.7 (docs/PERFORMANCE.md).
+#[tactic(auto, using(crate::proofs::Looks::held))]
+fn caught_up(m: &Stored, place: usize, key: i64) -> usize
+    requires { Sound half_open m.now × Trails (spans_of m.now) place (rank key) }
+    ensures { Standing (spans_of m.now) result (rank key) }
 {
     let mut here = place;
-    while here < count {
-        if key < ends[here] {
-            return here;
-        }
+    while here < m.count && m.ends[here] <= key {
         here += 1;
     }
     here
 }
 
 // What a map holds from a key on, as far as that goes on before `end`. `place` is the first place whose range ends after the key.
-fn seen_at(
-    count: usize,
-    starts: &[i64],
-    ends: &[i64],
-    values: &[Value],
-    place: usize,
-    key: i64,
-    end: i64,
-) -> Seen
-    requires { Sound half_open (columns count starts.now ends.now values.now)
-        × Standing (spans_of count starts.now ends.now values.now) place (rank key) × (rank key < rank end) }
-    ensures { Sees (spans_of count starts.now ends.now values.now) (rank key) (rank end) (rank result.until) result.class result.place }
+#[tactic(auto, using(crate::proofs::Looks::held))]
+fn seen_at(m: &Stored, place: usize, key: i64, end: i64) -> Seen
+    requires { Sound half_open m.now × Standing (spans_of m.now) place (rank key) × (rank key < rank end) }
+    ensures { Sees (spans_of m.now) (rank key) (rank end) (rank result.until) result.class result.place }
 {
-    if place >= count {
+    if place >= m.count {
         return Seen {
             class: OTHER,
             until: end,
             place,
         };
     }
-    let start = starts[place];
+    let start = m.starts[place];
     if key < start {
         return Seen {
             class: OTHER,
@@ -77,26 +62,17 @@ fn seen_at(
         };
     }
     Seen {
-        class: class_of(values[place]),
-        until: key::min(ends[place], end),
+        class: class_of(m.values[place]),
+        until: key::min(m.ends[place], end),
         place,
     }
 }
 
 // The same from a place that trails the key.
-pub fn look(
-    count: usize,
-    starts: &[i64],
-    ends: &[i64],
-    values: &[Value],
-    place: usize,
-    key: i64,
-    end: i64,
-) -> Seen
-    requires { Sound half_open (columns count starts.now ends.now values.now)
-        × Trails (spans_of count starts.now ends.now values.now) place (rank key) × (rank key < rank end) }
-    ensures { Sees (spans_of count starts.now ends.now values.now) (rank key) (rank end) (rank result.until) result.class result.place }
+pub fn look(m: &Stored, place: usize, key: i64, end: i64) -> Seen
+    requires { Sound half_open m.now × Trails (spans_of m.now) place (rank key) × (rank key < rank end) }
+    ensures { Sees (spans_of m.now) (rank key) (rank end) (rank result.until) result.class result.place }
 {
-    let here = caught_up(count, starts, ends, values, place, key);
-    seen_at(count, starts, ends, values, here, key, end)
+    let here = caught_up(m, place, key);
+    seen_at(m, here, key, end)
 }

@@ -1,13 +1,11 @@
 // THE WALK along the instants of two half-open maps: where it stands, and where the query changes between true and false.
 ghost use Rattle.std.specs.Prelude.{◌≡◌, true, ◌≤◌, ◌<◌};
 ghost use Rattle.key.specs.Rank.{rank};
-ghost use Rattle.key.specs.Range.{half_open};
-ghost use Rattle.outcomes.specs.Stored.{Sound};
-ghost use Rattle.query.specs.InnerColumns.{columns, spans_of};
-ghost use Rattle.query.specs.InnerWalk.{NoBits, Silent, Stands, Begins, Cells, Edges};
+ghost use Rattle.query.specs.InnerSeen.{Sees};
+ghost use Rattle.query.specs.InnerWalk.{NoBits, Silent, Stands, Begins, firsts, seconds, Cells, Edges};
 
-use crate::seen::look;
-use key::Value;
+use crate::inquiry::Inquiry;
+use crate::seen::{Seen, look};
 use query_text::truth::Truth;
 
 // Where a walk is: a key, and in each map a place that trails it, so that a walk need not look at both.
@@ -45,128 +43,72 @@ fn is_silent(t: Truth, class: usize) -> bool
     requires { class ≤ 10 }
     ensures { result ≡ true → Silent t class }
 {
-    if class < 5 {
-        return is_clear(t.low, 11 * class);
-    }
-    if class > 5 {
-        return is_clear(t.high, 11 * class - 64);
-    }
-    if t.high % 4 == 0 {
-        return is_clear(t.low, 55);
-    }
-    false
-}
-
-// The cell at a walk.
-pub fn cell_at(
-    count_a: usize,
-    starts_a: &[i64],
-    ends_a: &[i64],
-    values_a: &[Value],
-    count_b: usize,
-    starts_b: &[i64],
-    ends_b: &[i64],
-    values_b: &[Value],
-    t: Truth,
-    w: Walk,
-    end: i64,
-) -> Cell
-    requires { Sound half_open (columns count_a starts_a.now ends_a.now values_a.now)
-        × Sound half_open (columns count_b starts_b.now ends_b.now values_b.now)
-        × Stands (spans_of count_a starts_a.now ends_a.now values_a.now)
-        (spans_of count_b starts_b.now ends_b.now values_b.now) w × (rank w.key < rank end) }
-    ensures { Cells t (spans_of count_a starts_a.now ends_a.now values_a.now)
-        (spans_of count_b starts_b.now ends_b.now values_b.now) (rank w.key) (rank end) result }
-{
-    let x = look(count_a, starts_a, ends_a, values_a, w.a, w.key, end);
-    let y = look(count_b, starts_b, ends_b, values_b, w.b, w.key, end);
-    let key = key::min(x.until, y.until);
-    let next = Walk {
-        key,
-        a: x.place,
-        b: y.place,
-    };
-    Cell {
-        yes: t.says(x.class, y.class),
-        next,
+    match class {
+        0..=4 => is_clear(t.low, 11 * class),
+        5 => t.high % 4 == 0 && is_clear(t.low, 55),
+        _ => is_clear(t.high, 11 * class - 64),
     }
 }
 
-// The same, but where the table is silent the cell goes on as long as the first map holds the same, without a look at the second.
-// For the writing alone: a function that is called in one place is compiled into it, and each step then stays in registers.
-pub fn quick_cell(
-    count_a: usize,
-    starts_a: &[i64],
-    ends_a: &[i64],
-    values_a: &[Value],
-    count_b: usize,
-    starts_b: &[i64],
-    ends_b: &[i64],
-    values_b: &[Value],
-    t: Truth,
-    w: Walk,
-    end: i64,
-) -> Cell
-    requires { Sound half_open (columns count_a starts_a.now ends_a.now values_a.now)
-        × Sound half_open (columns count_b starts_b.now ends_b.now values_b.now)
-        × Stands (spans_of count_a starts_a.now ends_a.now values_a.now)
-        (spans_of count_b starts_b.now ends_b.now values_b.now) w × (rank w.key < rank end) }
-    ensures { Cells t (spans_of count_a starts_a.now ends_a.now values_a.now)
-        (spans_of count_b starts_b.now ends_b.now values_b.now) (rank w.key) (rank end) result }
-{
-    let x = look(count_a, starts_a, ends_a, values_a, w.a, w.key, end);
-    if is_silent(t, x.class) {
-        return Cell {
+impl Inquiry<'_> {
+    // The cell where the first map shows `x`: it goes on as long as both maps hold the same.
+    fn cell_of(&self, w: Walk, x: Seen) -> Cell
+        requires { Stands (firsts self.now) (seconds self.now) w × (rank w.key < rank self.now.end)
+            × Sees (firsts self.now) (rank w.key) (rank self.now.end) (rank x.until) x.class x.place }
+        ensures { Cells self.now.table (firsts self.now) (seconds self.now) (rank w.key) (rank self.now.end) result }
+    {
+        let y = look(self.b, w.b, w.key, self.end);
+        Cell {
+            yes: self.table.says(x.class, y.class),
+            next: Walk {
+                key: key::min(x.until, y.until),
+                a: x.place,
+                b: y.place,
+            },
+        }
+    }
+
+    // The cell at a walk.
+    pub fn cell_at(&self, w: Walk) -> Cell
+        requires { Stands (firsts self.now) (seconds self.now) w × (rank w.key < rank self.now.end) }
+        ensures { Cells self.now.table (firsts self.now) (seconds self.now) (rank w.key) (rank self.now.end) result }
+    {
+        self.cell_of(w, look(self.a, w.a, w.key, self.end))
+    }
+
+    // The same, but where the table is silent the cell goes on as long as the first map holds the same, without a look at the second.
+    // For the writing alone: a function that is called in one place is compiled into it, and each step then stays in registers.
+    pub fn quick_cell(&self, w: Walk) -> Cell
+        requires { Stands (firsts self.now) (seconds self.now) w × (rank w.key < rank self.now.end) }
+        ensures { Cells self.now.table (firsts self.now) (seconds self.now) (rank w.key) (rank self.now.end) result }
+    {
+        let x = look(self.a, w.a, w.key, self.end);
+        if !is_silent(self.table, x.class) {
+            return self.cell_of(w, x);
+        }
+        Cell {
             yes: false,
             next: Walk {
                 key: x.until,
                 a: x.place,
                 b: w.b,
             },
-        };
-    }
-    let y = look(count_b, starts_b, ends_b, values_b, w.b, w.key, end);
-    let until = key::min(x.until, y.until);
-    let next = Walk {
-        key: until,
-        a: x.place,
-        b: y.place,
-    };
-    let yes = t.says(x.class, y.class);
-    Cell { yes, next }
-}
-
-// THE EDGE: the first key from the walk on, before `end`, where the table says `so`; `end` if there is none.
-pub fn edge(
-    count_a: usize,
-    starts_a: &[i64],
-    ends_a: &[i64],
-    values_a: &[Value],
-    count_b: usize,
-    starts_b: &[i64],
-    ends_b: &[i64],
-    values_b: &[Value],
-    t: Truth,
-    w: Walk,
-    end: i64,
-    so: bool,
-) -> Walk
-    requires { Sound half_open (columns count_a starts_a.now ends_a.now values_a.now)
-        × Sound half_open (columns count_b starts_b.now ends_b.now values_b.now)
-        × Stands (spans_of count_a starts_a.now ends_a.now values_a.now)
-        (spans_of count_b starts_b.now ends_b.now values_b.now) w × (rank w.key ≤ rank end) }
-    ensures { Edges t (spans_of count_a starts_a.now ends_a.now values_a.now)
-        (spans_of count_b starts_b.now ends_b.now values_b.now) (rank w.key) (rank end) so result }
-{
-    let mut here = w;
-    while here.key < end {
-        let c = cell_at(
-            count_a, starts_a, ends_a, values_a, count_b, starts_b, ends_b, values_b, t, here, end,
-        );
-        if c.yes == so {
-            return here;
         }
-        here = c.next;
     }
-    here
+
+    // THE EDGE: the first key from the walk on, before the end, where the table says `so`; the end if there is none.
+    pub fn edge(&self, w: Walk, so: bool) -> Walk
+        requires { Stands (firsts self.now) (seconds self.now) w × (rank w.key ≤ rank self.now.end) }
+        ensures { Edges self.now.table (firsts self.now) (seconds self.now) (rank w.key) (rank self.now.end) so result }
+    {
+        let mut here = w;
+        while here.key < self.end {
+            let c = self.cell_at(here);
+            if c.yes == so {
+                return here;
+            }
+            here = c.next;
+        }
+        here
+    }
 }

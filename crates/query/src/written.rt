@@ -1,91 +1,13 @@
 // The ranges of true instants from a walk on: whether there is room for them, and their writing.
 ghost use Rattle.std.specs.Prelude.{◌≡◌, false, ◌≤◌, ◌<◌, length};
 ghost use Rattle.key.specs.Rank.{rank};
-ghost use Rattle.key.specs.Range.{half_open};
-ghost use Rattle.outcomes.specs.Stored.{Sound};
-ghost use Rattle.query.specs.InnerColumns.{columns, spans_of};
-ghost use Rattle.query.specs.InnerWalk.{Stands};
+ghost use Rattle.query.specs.InnerWalk.{Stands, firsts, seconds};
 ghost use Rattle.query.specs.InnerWritten.{Counts, Bounded, Measures, HasRoom, Shuts, Writes};
 
-use crate::walk::{Walk, edge, quick_cell};
-use key::Value;
-use query_text::truth::Truth;
+use crate::inquiry::Inquiry;
+use crate::walk::Walk;
 use range_list::put;
 use two_sets::{pick, roomy};
-
-// How many ranges there are from the walk on, before `end`.
-fn count(
-    count_a: usize,
-    starts_a: &[i64],
-    ends_a: &[i64],
-    values_a: &[Value],
-    count_b: usize,
-    starts_b: &[i64],
-    ends_b: &[i64],
-    values_b: &[Value],
-    t: Truth,
-    w: Walk,
-    end: i64,
-) -> usize
-    requires { Sound half_open (columns count_a starts_a.now ends_a.now values_a.now)
-        × Sound half_open (columns count_b starts_b.now ends_b.now values_b.now)
-        × Stands (spans_of count_a starts_a.now ends_a.now values_a.now)
-        (spans_of count_b starts_b.now ends_b.now values_b.now) w × (rank w.key ≤ rank end) }
-    ensures { Counts t (spans_of count_a starts_a.now ends_a.now values_a.now)
-        (spans_of count_b starts_b.now ends_b.now values_b.now) (rank w.key) (rank end) result }
-{
-    let mut n = 0;
-    let mut s = edge(
-        count_a, starts_a, ends_a, values_a, count_b, starts_b, ends_b, values_b, t, w, end, true,
-    );
-    while s.key < end {
-        let e = edge(
-            count_a, starts_a, ends_a, values_a, count_b, starts_b, ends_b, values_b, t, s, end,
-            false,
-        );
-        n += 1;
-        s = edge(
-            count_a, starts_a, ends_a, values_a, count_b, starts_b, ends_b, values_b, t, e, end,
-            true,
-        );
-    }
-    n
-}
-
-// Whether `room` places are enough. There is at most one range more than the maps have together, so mostly none is counted.
-pub fn fits(
-    count_a: usize,
-    starts_a: &[i64],
-    ends_a: &[i64],
-    values_a: &[Value],
-    count_b: usize,
-    starts_b: &[i64],
-    ends_b: &[i64],
-    values_b: &[Value],
-    t: Truth,
-    w: Walk,
-    end: i64,
-    room: usize,
-) -> bool
-    requires { Sound half_open (columns count_a starts_a.now ends_a.now values_a.now)
-        × Sound half_open (columns count_b starts_b.now ends_b.now values_b.now)
-        × Stands (spans_of count_a starts_a.now ends_a.now values_a.now)
-        (spans_of count_b starts_b.now ends_b.now values_b.now) w × (rank w.key ≤ rank end)
-        × Bounded t (columns count_a starts_a.now ends_a.now values_a.now) (columns count_b starts_b.now ends_b.now values_b.now) w.key end }
-    ensures { Measures t (spans_of count_a starts_a.now ends_a.now values_a.now)
-        (spans_of count_b starts_b.now ends_b.now values_b.now) (rank w.key) (rank end) room result }
-{
-    if roomy(count_a + 1, count_b, room) {
-        return true;
-    }
-    let n = count(
-        count_a, starts_a, ends_a, values_a, count_b, starts_b, ends_b, values_b, t, w, end,
-    );
-    if room < n {
-        return false;
-    }
-    true
-}
 
 // Writes the range from `start` up to `key`, if there is one and it does not go on. Answers the place for the next.
 fn shut(
@@ -99,52 +21,54 @@ fn shut(
     requires { on ≡ false → rank start < rank key → (n < length out_starts.old) × (n < length out_ends.old) }
     ensures { Shuts on n (rank start) (rank key) out_starts.old out_ends.old result out_starts.new out_ends.new }
 {
-    if key <= start {
-        return n;
-    }
-    if on {
+    if key <= start || on {
         return n;
     }
     put(out_starts, out_ends, n, start, key);
     n + 1
 }
 
-// Writes those ranges, and answers how many they are. The table says yes from `start` on up to the walk: a range that is open, or none.
-pub fn write(
-    count_a: usize,
-    starts_a: &[i64],
-    ends_a: &[i64],
-    values_a: &[Value],
-    count_b: usize,
-    starts_b: &[i64],
-    ends_b: &[i64],
-    values_b: &[Value],
-    t: Truth,
-    w: Walk,
-    end: i64,
-    out_starts: &mut [i64],
-    out_ends: &mut [i64],
-) -> usize
-    requires { Sound half_open (columns count_a starts_a.now ends_a.now values_a.now)
-        × Sound half_open (columns count_b starts_b.now ends_b.now values_b.now)
-        × Stands (spans_of count_a starts_a.now ends_a.now values_a.now)
-        (spans_of count_b starts_b.now ends_b.now values_b.now) w × (rank w.key ≤ rank end)
-        × HasRoom t (spans_of count_a starts_a.now ends_a.now values_a.now)
-        (spans_of count_b starts_b.now ends_b.now values_b.now) (rank w.key) (rank end) 0 out_starts.old out_ends.old }
-    ensures { Writes t (spans_of count_a starts_a.now ends_a.now values_a.now)
-        (spans_of count_b starts_b.now ends_b.now values_b.now)
-        (rank w.key) (rank end) 0 out_starts.old out_ends.old result out_starts.new out_ends.new }
-{
-    let mut n = 0;
-    let mut start = w.key;
-    let mut here = w;
-    while here.key < end {
-        let c = quick_cell(
-            count_a, starts_a, ends_a, values_a, count_b, starts_b, ends_b, values_b, t, here, end,
-        );
-        n = shut(out_starts, out_ends, n, c.yes, start, here.key);
-        start = pick(c.yes, start, c.next.key);
-        here = c.next;
+impl Inquiry<'_> {
+    // How many ranges there are from the walk on, before the end.
+    fn count(&self, w: Walk) -> usize
+        requires { Stands (firsts self.now) (seconds self.now) w × (rank w.key ≤ rank self.now.end) }
+        ensures { Counts self.now.table (firsts self.now) (seconds self.now) (rank w.key) (rank self.now.end) result }
+    {
+        let mut n = 0;
+        let mut s = self.edge(w, true);
+        while s.key < self.end {
+            let e = self.edge(s, false);
+            n += 1;
+            s = self.edge(e, true);
+        }
+        n
     }
-    shut(out_starts, out_ends, n, false, start, end)
+
+    // Whether `room` places are enough. There is at most one range more than the maps have together, so mostly none is counted.
+    pub fn fits(&self, w: Walk, room: usize) -> bool
+        requires { Stands (firsts self.now) (seconds self.now) w × (rank w.key ≤ rank self.now.end)
+            × Bounded self.now.table self.now.a.now self.now.b.now w.key self.now.end }
+        ensures { Measures self.now.table (firsts self.now) (seconds self.now) (rank w.key) (rank self.now.end) room result }
+    {
+        room > 0 && roomy(self.a.count, self.b.count, room - 1) || self.count(w) <= room
+    }
+
+    // Writes those ranges, and answers how many they are. The table says yes from `start` on up to the walk: a range that is open, or none.
+    pub fn write(&self, w: Walk, out_starts: &mut [i64], out_ends: &mut [i64]) -> usize
+        requires { Stands (firsts self.now) (seconds self.now) w × (rank w.key ≤ rank self.now.end)
+            × HasRoom self.now.table (firsts self.now) (seconds self.now) (rank w.key) (rank self.now.end) 0 out_starts.old out_ends.old }
+        ensures { Writes self.now.table (firsts self.now) (seconds self.now)
+            (rank w.key) (rank self.now.end) 0 out_starts.old out_ends.old result out_starts.new out_ends.new }
+    {
+        let mut n = 0;
+        let mut start = w.key;
+        let mut here = w;
+        while here.key < self.end {
+            let c = self.quick_cell(here);
+            n = shut(out_starts, out_ends, n, c.yes, start, here.key);
+            start = pick(c.yes, start, c.next.key);
+            here = c.next;
+        }
+        shut(out_starts, out_ends, n, false, start, self.end)
+    }
 }

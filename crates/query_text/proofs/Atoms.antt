@@ -18,9 +18,9 @@ use Rattle.query_text.specs.InnerCursor.{cursor, starts_digit}
 use Rattle.query_text.proofs.Bytes.{seen, past, digit_seen, digit_here}
 use Rattle.query_text.specs.declared.truth.Truth.{Truth}
 use Rattle.query_text.specs.InnerTable.{Shows}
-use Rattle.query_text.specs.declared.reader.Reading.{Reading}
-use Rattle.query_text.specs.InnerReading.{Finds, ReadAs}
-use Rattle.query_text.proofs.Parts.{as_is}
+use Rattle.std.specs.Prelude.{Option}
+use Rattle.query_text.specs.InnerReading.{Finds, Reads}
+use Rattle.query_text.proofs.Parts.{reads_is}
 
 pub no_digit : (make : ℕ → Query) (bs : List ℕ) → starts_digit bs ≡ false → digit_then make bs ≡ bad
 unfolding digit_then
@@ -56,22 +56,22 @@ digit_found make bytes c z v t d e i s =
       table = λ a b ha hb. s a b ha hb ∙ ap (λ (x : ℕ). class_truth (make x) a b) i;
     }
 
-pub atom_first : (bytes : List ℕ) (c z : Cursor) (r : Reading) → starts 65 (drop c.at bytes) ≡ true → z ≡ cursor (c.at + 1) c.marks
-    → ReadAs bytes z.marks (digit_then first (drop z.at bytes)) r → ReadAs bytes c.marks (atom (drop c.at bytes)) r
+pub atom_first : (bytes : List ℕ) (c z : Cursor) (r : Option (Cursor × Truth)) → starts 65 (drop c.at bytes) ≡ true → z ≡ cursor (c.at + 1) c.marks
+    → Reads bytes z.marks (digit_then first (drop z.at bytes)) r → Reads bytes c.marks (atom (drop c.at bytes)) r
 unfolding atom
 atom_first bytes c z r e i s =
     let h = seen bytes c.at 65 e in
     let x : atom (drop c.at bytes) ≡ digit_then first (drop (c.at + 1) bytes) = rw (e, past bytes c.at h) in
-    as_is bytes c.marks _ _ r x (rw i at s)
+    reads_is bytes c.marks _ _ r x (rw i at s)
 
-pub atom_second : (bytes : List ℕ) (c z : Cursor) (r : Reading) → starts 65 (drop c.at bytes) ≡ false → starts 66 (drop c.at bytes) ≡ true
+pub atom_second : (bytes : List ℕ) (c z : Cursor) (r : Option (Cursor × Truth)) → starts 65 (drop c.at bytes) ≡ false → starts 66 (drop c.at bytes) ≡ true
     → z ≡ cursor (c.at + 1) c.marks
-    → ReadAs bytes z.marks (digit_then second (drop z.at bytes)) r → ReadAs bytes c.marks (atom (drop c.at bytes)) r
+    → Reads bytes z.marks (digit_then second (drop z.at bytes)) r → Reads bytes c.marks (atom (drop c.at bytes)) r
 unfolding atom
 atom_second bytes c z r f e i s =
     let h = seen bytes c.at 66 e in
     let x : atom (drop c.at bytes) ≡ digit_then second (drop (c.at + 1) bytes) = rw (f, e, past bytes c.at h) in
-    as_is bytes c.marks _ _ r x (rw i at s)
+    reads_is bytes c.marks _ _ r x (rw i at s)
 
 pub no_atom : (bytes : List ℕ) (c : Cursor) → starts 65 (drop c.at bytes) ≡ false → starts 66 (drop c.at bytes) ≡ false → atom (drop c.at bytes) ≡ bad
 unfolding atom

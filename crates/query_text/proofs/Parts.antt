@@ -3,6 +3,7 @@ use Prim.Native.Nat.{ℕ, suc, ◌+◌, ◌-◌, ◌*◌, ◌≤◌, ◌<◌}
 use mathlib.Core.Path.{◌≡◌, refl, sym, ap, subst, ◌∙◌}
 use mathlib.Core.Bool.{Bool, true, false, ◌&&◌, ◌||◌, not}
 use mathlib.Core.List.{List}
+use Rattle.std.specs.Prelude.{Option, Some, None}
 use native.Mathlib.Omega.{arith}
 use borrow.Author.Tests.{leb-false}
 use lib.Dec.{leb}
@@ -18,7 +19,7 @@ use Rattle.query_text.proofs.Bytes.{seen, past}
 use Rattle.query_text.specs.declared.truth.Truth.{Truth}
 use Rattle.query_text.specs.InnerTable.{says, Shows}
 use Rattle.query_text.specs.declared.reader.Reading.{Reading}
-use Rattle.query_text.specs.InnerReading.{Finds, ReadAs, here}
+use Rattle.query_text.specs.InnerReading.{Finds, ReadAs, Reads, here}
 
 -- the bytes that are left, four times, and which function it is
 abbrev pub left : List ℕ → ℕ → ℕ → ℕ
@@ -196,5 +197,12 @@ as_got bytes n x e s = subst (λ (r : Reading). ReadAs bytes n x r) e s
 pub as_bad : (bytes : List ℕ) (n : ℕ) (x : Read) {r : Reading} → r ≡ Reading.Bad → ReadAs bytes n x r → x ≡ bad
 as_bad bytes n x e s = subst (λ (r : Reading). ReadAs bytes n x r) e s
 
-pub as_is : (bytes : List ℕ) (n : ℕ) (x y : Read) (r : Reading) → x ≡ y → ReadAs bytes n y r → ReadAs bytes n x r
-as_is bytes n x y r e s = subst (λ (x : Read). ReadAs bytes n x r) (sym e) s
+-- the same inside the reader
+pub reads_got : (bytes : List ℕ) (n : ℕ) (x : Read) {r : Option (Cursor × Truth)} {d : Cursor} {t : Truth} → r ≡ Some (d, t) → Reads bytes n x r → Finds bytes n x d t
+reads_got bytes n x e s = subst (λ (r : Option (Cursor × Truth)). Reads bytes n x r) e s
+
+pub reads_bad : (bytes : List ℕ) (n : ℕ) (x : Read) {r : Option (Cursor × Truth)} → r ≡ None → Reads bytes n x r → x ≡ bad
+reads_bad bytes n x e s = subst (λ (r : Option (Cursor × Truth)). Reads bytes n x r) e s
+
+pub reads_is : (bytes : List ℕ) (n : ℕ) (x y : Read) (r : Option (Cursor × Truth)) → x ≡ y → Reads bytes n y r → Reads bytes n x r
+reads_is bytes n x y r e s = subst (λ (x : Read). Reads bytes n x r) (sym e) s

@@ -1,11 +1,11 @@
 -- What a table says: of two joined, of one turned over, and of the tables of one digit, by one test that is computed.
-use Prim.Native.Nat.{ℕ, zero, suc, ◌+◌, ◌-◌, ◌*◌, ◌<◌}
+use Prim.Native.Nat.{ℕ, zero, suc, ◌+◌, ◌-◌, ◌*◌, ◌^◌, ◌<◌}
 use mathlib.Core.Path.{◌≡◌, refl, sym}
 use mathlib.Core.Bool.{Bool, true, false, ◌&&◌, ◌||◌, not}
 use mathlib.Core.List.{List, [], ◌∷◌}
 use native.Mathlib.Omega.{arith}
 use native.Mathlib.Decide.{dec_lt}
-use lib.Bits.{bit_and, bit_or, bit_xor}
+use lib.Bits.{bit_and, bit_or}
 use lib.Dec.{eqb}
 use lib.ListN.{get_or}
 use borrow.Author.Tests.{lt-ltb, le-ltb}
@@ -46,18 +46,11 @@ all_at (suc n) p e i h = let t = both_true (p n) (all n p) e in elim (dec_lt i n
   | no q ↦ (let s : i ≡ n = omega arith in rw s t.0)
 ]
 
-abbrev ones : ℕ
-ones = 18446744073709551615
-
-ones_is : (i : ℕ) → i < 64 → is_one ones i ≡ true
-unfolding is_one
-ones_is i h = all_at 64 (is_one ones) refl i h
-
-pub not_shows : (t : Truth) → Shows (table (bit_xor t.low ones) (bit_xor t.high ones)) (λ a b. not (says t a b))
+pub not_shows : (t : Truth) → t.low < 2 ^ 64 → t.high < 2 ^ 64 → Shows (table (2 ^ 64 - 1 - t.low) (2 ^ 64 - 1 - t.high)) (λ a b. not (says t a b))
 unfolding says
-not_shows t a b ha hb = elim (dec_lt (11 * a + b) 64) [
-  | yes p ↦ rw (lt-ltb (11 * a + b) 64 p) (not_is t.low ones (11 * a + b) (ones_is (11 * a + b) p))
-  | no p ↦ rw (le-ltb (11 * a + b) 64 (omega arith)) (not_is t.high ones (11 * a + b - 64) (ones_is (11 * a + b - 64) (omega arith)))
+not_shows t l h a b ha hb = elim (dec_lt (11 * a + b) 64) [
+  | yes p ↦ rw (lt-ltb (11 * a + b) 64 p) (not_is t.low (11 * a + b) l p)
+  | no p ↦ rw (le-ltb (11 * a + b) 64 (omega arith)) (not_is t.high (11 * a + b - 64) h (omega arith))
 ]
 
 -- are two tests alike
@@ -71,38 +64,34 @@ alike_same false true e = let z : ◌≡◌ {A = ℕ} 0 1 = cc in absurd (omega 
 alike_same false false e = refl
 
 -- a list of tables shows a test of digit and classes
-unfoldable shown : List ℕ → List ℕ → (ℕ → ℕ → ℕ → Bool) → Bool
-shown lows highs f = all 10 (λ d. all 11 (λ a. all 11 (λ b. alike (says (table (get_or lows d 0) (get_or highs d 0)) a b) (f d a b))))
+unfoldable shown : List Truth → (ℕ → ℕ → ℕ → Bool) → Bool
+shown tables f = all 10 (λ d. all 11 (λ a. all 11 (λ b. alike (says (get_or tables d (table 0 0)) a b) (f d a b))))
 
-shown_at : (lows highs : List ℕ) (f : ℕ → ℕ → ℕ → Bool) → shown lows highs f ≡ true → (d : ℕ) → d < 10 → Shows (table (get_or lows d 0) (get_or highs d 0)) (f d)
+shown_at : (tables : List Truth) (f : ℕ → ℕ → ℕ → Bool) → shown tables f ≡ true → (d : ℕ) → d < 10 → Shows (get_or tables d (table 0 0)) (f d)
 unfolding shown
-shown_at lows highs f e d h a b ha hb =
-    let t = table (get_or lows d 0) (get_or highs d 0) in
-    let ofDigit = all_at 10 (λ d. all 11 (λ a. all 11 (λ b. alike (says (table (get_or lows d 0) (get_or highs d 0)) a b) (f d a b)))) e d h in
+shown_at tables f e d h a b ha hb =
+    let t = get_or tables d (table 0 0) in
+    let ofDigit = all_at 10 (λ d. all 11 (λ a. all 11 (λ b. alike (says (get_or tables d (table 0 0)) a b) (f d a b)))) e d h in
     let ofFirst = all_at 11 (λ a. all 11 (λ b. alike (says t a b) (f d a b))) ofDigit a (omega arith) in
     alike_same (says t a b) (f d a b) (all_at 11 (λ b. alike (says t a b) (f d a b)) ofFirst b (omega arith))
 
 -- the constants of the code
-abbrev low_firsts : List ℕ
-low_firsts = 2047 ∷ 4192256 ∷ 8585740288 ∷ 17583596109824 ∷ 36011204832919552 ∷ 18410715276690587648 ∷ 0 ∷ 0 ∷ 0 ∷ 0 ∷ []
+abbrev firsts : List Truth
+firsts =
+    table 2047 0 ∷ table 4192256 0 ∷ table 8585740288 0 ∷ table 17583596109824 0 ∷ table 36011204832919552 0
+    ∷ table 18410715276690587648 3 ∷ table 0 8188 ∷ table 0 16769024 ∷ table 0 34342961152 ∷ table 0 70334384439296 ∷ []
 
-abbrev high_firsts : List ℕ
-high_firsts = 0 ∷ 0 ∷ 0 ∷ 0 ∷ 0 ∷ 3 ∷ 8188 ∷ 16769024 ∷ 34342961152 ∷ 70334384439296 ∷ []
+abbrev seconds : List Truth
+seconds =
+    table 36046397799139329 70403120701444 ∷ table 72092795598278658 140806241402888 ∷ table 144185591196557316 281612482805776
+    ∷ table 288371182393114632 563224965611552 ∷ table 576742364786229264 1126449931223104 ∷ table 1153484729572458528 2252899862446208
+    ∷ table 2306969459144917056 4505799724892416 ∷ table 4613938918289834112 9011599449784832 ∷ table 9227877836579668224 18023198899569664
+    ∷ table 9011599449784832 36046397799139329 ∷ []
 
-abbrev low_seconds : List ℕ
-low_seconds =
-    36046397799139329 ∷ 72092795598278658 ∷ 144185591196557316 ∷ 288371182393114632 ∷ 576742364786229264 ∷ 1153484729572458528
-    ∷ 2306969459144917056 ∷ 4613938918289834112 ∷ 9227877836579668224 ∷ 9011599449784832 ∷ []
-
-abbrev high_seconds : List ℕ
-high_seconds =
-    70403120701444 ∷ 140806241402888 ∷ 281612482805776 ∷ 563224965611552 ∷ 1126449931223104 ∷ 2252899862446208
-    ∷ 4505799724892416 ∷ 9011599449784832 ∷ 18023198899569664 ∷ 36046397799139329 ∷ []
-
-pub first_shows : (d : ℕ) → d < 10 → Shows (table (get_or low_firsts d 0) (get_or high_firsts d 0)) (class_truth (first d))
+pub first_shows : (d : ℕ) → d < 10 → Shows (get_or firsts d (table 0 0)) (class_truth (first d))
 unfolding shown says is_one class_truth
-first_shows d h = shown_at low_firsts high_firsts (λ d a b. eqb a d) refl d h
+first_shows d h = shown_at firsts (λ d a b. eqb a d) refl d h
 
-pub second_shows : (d : ℕ) → d < 10 → Shows (table (get_or low_seconds d 0) (get_or high_seconds d 0)) (class_truth (second d))
+pub second_shows : (d : ℕ) → d < 10 → Shows (get_or seconds d (table 0 0)) (class_truth (second d))
 unfolding shown says is_one class_truth
-second_shows d h = shown_at low_seconds high_seconds (λ d a b. eqb b d) refl d h
+second_shows d h = shown_at seconds (λ d a b. eqb b d) refl d h

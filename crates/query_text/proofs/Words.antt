@@ -1,12 +1,14 @@
 -- A bit of two words joined, and of a word turned over.
-use Prim.Native.Nat.{ℕ, ◌/◌, ◌%◌, ◌^◌, ◌<◌, min, max}
+use Prim.Native.Nat.{ℕ, ◌-◌, ◌^◌, ◌<◌, min, max}
 use mathlib.Core.Path.{◌≡◌, refl}
-use mathlib.Core.Bool.{true, ◌&&◌, ◌||◌, not}
+use mathlib.Core.Bool.{◌&&◌, ◌||◌, not}
 use native.Mathlib.Omega.{arith}
 use native.Mathlib.Decide.{dec_lt}
-use lib.Bits.{bit_and, bit_or, bit_xor, differ, and_step, or_step, xor_step, and_shr, or_shr, xor_shr}
+use lib.Bits.{bit_and, bit_or}
 use lib.Dec.{eqb}
-use borrow.Author.Tests.{eqb-true}
+use mir.Syntax.{w64}
+use Rattle.std.specs.Int.{bit_at}
+use Rattle.std.proofs.lemmas.Nat.Bits.{bit_at-lt, bit_at_and, bit_at_or, bit_at_not}
 use Rattle.query_text.specs.InnerTable.{is_one}
 
 -- the digits 0 and 1
@@ -23,34 +25,17 @@ or_digit u v h k = two (λ (u : ℕ). eqb (max u v) 1 ≡ (eqb u 1 || eqb v 1)) 
     (two (λ (v : ℕ). eqb (max 0 v) 1 ≡ (eqb 0 1 || eqb v 1)) v k refl refl)
     (two (λ (v : ℕ). eqb (max 1 v) 1 ≡ (eqb 1 1 || eqb v 1)) v k refl refl)
 
-and_last : (a b : ℕ) → eqb (bit_and a b % 2) 1 ≡ (eqb (a % 2) 1 && eqb (b % 2) 1)
-and_last a b =
-    let e : bit_and a b % 2 ≡ min (a % 2) (b % 2) = omega (arith, and_step a b) in
-    rw e (and_digit (a % 2) (b % 2) (omega arith) (omega arith))
-
-or_last : (a b : ℕ) → eqb (bit_or a b % 2) 1 ≡ (eqb (a % 2) 1 || eqb (b % 2) 1)
-or_last a b =
-    let e : bit_or a b % 2 ≡ max (a % 2) (b % 2) = omega (arith, or_step a b) in
-    rw e (or_digit (a % 2) (b % 2) (omega arith) (omega arith))
-
-differ_digit : (u v : ℕ) → u < 2 → v ≡ 1 → (differ u v < 2) × (eqb (differ u v) 1 ≡ not (eqb u 1))
-differ_digit u v h e = rw e (two (λ (u : ℕ). (differ u 1 < 2) × (eqb (differ u 1) 1 ≡ not (eqb u 1))) u h (omega arith, refl) (omega arith, refl))
-
-xor_last : (a b : ℕ) → b % 2 ≡ 1 → eqb (bit_xor a b % 2) 1 ≡ not (eqb (a % 2) 1)
-xor_last a b one =
-    let d = differ_digit (a % 2) (b % 2) (omega arith) one in
-    let e : bit_xor a b % 2 ≡ differ (a % 2) (b % 2) = omega (arith, xor_step a b, d.0) in
-    rw e d.1
+not_digit : (u : ℕ) → u < 2 → eqb (1 - u) 1 ≡ not (eqb u 1)
+not_digit u h = two (λ (u : ℕ). eqb (1 - u) 1 ≡ not (eqb u 1)) u h refl refl
 
 pub and_is : (x y i : ℕ) → is_one (bit_and x y) i ≡ (is_one x i && is_one y i)
 unfolding is_one
-and_is x y i = rw (and_shr x y i) (and_last (x / 2 ^ i) (y / 2 ^ i))
+and_is x y i = rw (bit_at_and x y i) (and_digit (bit_at x i) (bit_at y i) (bit_at-lt x i) (bit_at-lt y i))
 
 pub or_is : (x y i : ℕ) → is_one (bit_or x y) i ≡ (is_one x i || is_one y i)
 unfolding is_one
-or_is x y i = rw (or_shr x y i) (or_last (x / 2 ^ i) (y / 2 ^ i))
+or_is x y i = rw (bit_at_or x y i) (or_digit (bit_at x i) (bit_at y i) (bit_at-lt x i) (bit_at-lt y i))
 
--- turned over by a word whose bit there is 1
-pub not_is : (x y i : ℕ) → is_one y i ≡ true → is_one (bit_xor x y) i ≡ not (is_one x i)
+pub not_is : (x i : ℕ) → x < 2 ^ 64 → i < 64 → is_one (2 ^ 64 - 1 - x) i ≡ not (is_one x i)
 unfolding is_one
-not_is x y i one = rw (xor_shr x y i) (xor_last (x / 2 ^ i) (y / 2 ^ i) (eqb-true (y / 2 ^ i % 2) 1 one))
+not_is x i h k = rw (bit_at_not w64 x i h k) (not_digit (bit_at x i) (bit_at-lt x i))

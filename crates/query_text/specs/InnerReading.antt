@@ -1,5 +1,5 @@
 -- What the functions of the reader answer, in the terms of the reader's definition.
-use Rattle.std.specs.Prelude.{ℕ, ◌-◌, ◌≤◌, ◌≡◌, List, length, drop}
+use Rattle.std.specs.Prelude.{ℕ, ◌-◌, ◌≤◌, ◌≡◌, List, Option, Some, None, length, drop}
 use Rattle.query_text.specs.Grammar.{Query, no, Level, factor, sum, open_limit}
 use Rattle.query_text.specs.Reader.{Read, got, bad, behind, and_then, deeper, closed, read_level}
 use Rattle.query_text.specs.InnerClasses.{class_truth}
@@ -32,3 +32,8 @@ pub record Finds (bytes : List ℕ) (n : ℕ) (x : Read) (d : Cursor) (t : Truth
 abbrev pub ReadAs : List ℕ → ℕ → Read → Reading → Type 0
 ReadAs bytes n x (Reading.Got d t) = Finds bytes n x d t
 ReadAs bytes n x Reading.Bad = x ≡ bad
+
+-- the same of a function inside the reader
+abbrev pub Reads : List ℕ → ℕ → Read → Option (Cursor × Truth) → Type 0
+Reads bytes n x (Some (d, t)) = Finds bytes n x d t
+Reads bytes n x None = x ≡ bad

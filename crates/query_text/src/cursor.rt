@@ -2,7 +2,7 @@
 ghost use Rattle.std.specs.Prelude.{◌≡◌, ◌+◌, ◌-◌, ◌^◌, ◌≤◌, ◌<◌, leb, length, drop, get_or};
 ghost use Rattle.query_text.specs.Grammar.{open_limit};
 ghost use Rattle.query_text.specs.Reader.{starts};
-ghost use Rattle.query_text.specs.InnerCursor.{cursor, is_digit, starts_digit};
+ghost use Rattle.query_text.specs.InnerCursor.{cursor, starts_digit};
 
 #[derive(Clone, Copy)]
 pub struct Cursor {
@@ -28,22 +28,14 @@ impl Cursor {
     pub fn sees(self, bytes: &[u8], byte: u8) -> bool
         ensures { result ≡ starts byte (drop self.at bytes.now) }
     {
-        let at = self.at;
-        if at >= bytes.len() {
-            return false;
-        }
-        bytes[at] == byte
+        self.at < bytes.len() && bytes[self.at] == byte
     }
 
     // Whether a digit comes next.
     pub fn sees_digit(self, bytes: &[u8]) -> bool
         ensures { result ≡ starts_digit (drop self.at bytes.now) }
     {
-        let at = self.at;
-        if at >= bytes.len() {
-            return false;
-        }
-        is_digit(bytes[at])
+        self.at < bytes.len() && bytes[self.at].is_ascii_digit()
     }
 
     // The digit that comes next.
@@ -51,8 +43,7 @@ impl Cursor {
         requires { (self.at < length bytes.now) × (48 ≤ get_or bytes.now self.at 0) }
         ensures { result ≡ get_or bytes.now self.at 0 - 48 }
     {
-        let at = self.at;
-        wide(bytes[at]) - 48
+        usize::from(bytes[self.at] - b'0')
     }
 
     // Past a byte.
@@ -62,7 +53,7 @@ impl Cursor {
     {
         Cursor {
             at: self.at + 1,
-            marks: self.marks,
+            ..self
         }
     }
 
@@ -83,23 +74,8 @@ impl Cursor {
         ensures { result ≡ cursor self.at (self.marks - 1) }
     {
         Cursor {
-            at: self.at,
             marks: self.marks - 1,
+            ..self
         }
     }
-}
-
-fn wide(byte: u8) -> usize
-    ensures { result ≡ byte }
-{
-    byte as usize
-}
-
-fn is_digit(byte: u8) -> bool
-    ensures { result ≡ is_digit byte }
-{
-    if byte < b'0' {
-        return false;
-    }
-    byte <= b'9'
 }

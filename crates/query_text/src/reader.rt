@@ -5,12 +5,13 @@ ghost use Rattle.query_text.specs.Grammar.{open_limit, factor as Level·factor, 
 ghost use Rattle.query_text.specs.Reader.{digit_then, atom as Reader·atom, query_of};
 ghost use Rattle.query_text.specs.InnerClasses.{atom_of};
 ghost use Rattle.query_text.specs.InnerCursor.{Placed};
-ghost use Rattle.query_text.specs.InnerReading.{ReadAs, here, negation, grouping};
+ghost use Rattle.query_text.specs.InnerReading.{ReadAs, Reads, here, negation, grouping};
 
 use crate::cursor::Cursor;
 use crate::truth::Truth;
 
-// What was read, and where the cursor is then; or the bytes are no query.
+// What was read, and where the cursor is then; or the bytes are no query. Inside the reader that is an Option; this stays, since it is the answer
+// of read_query, a name of docs/EXCEPTIONS.md.
 #[derive(Clone, Copy)]
 pub enum Reading {
     Got(Cursor, Truth),
@@ -18,20 +19,20 @@ pub enum Reading {
 }
 
 // A digit: the second map holds it, or else the first.
-fn holding(bytes: &[u8], c: Cursor, second: bool) -> Reading
+fn holding(bytes: &[u8], c: Cursor, second: bool) -> Option<(Cursor, Truth)>
     requires { c.at ≤ length bytes.now }
-    ensures { ReadAs bytes.now c.marks (digit_then (atom_of second) (drop c.at bytes.now)) result }
+    ensures { Reads bytes.now c.marks (digit_then (atom_of second) (drop c.at bytes.now)) result }
 {
     if !c.sees_digit(bytes) {
-        return Reading::Bad;
+        return None;
     }
-    Reading::Got(c.next(), Truth::atom(second, c.digit(bytes)))
+    Some((c.next(), Truth::atom(second, c.digit(bytes))))
 }
 
 // A or B, then a digit.
-fn atom(bytes: &[u8], c: Cursor) -> Reading
+fn atom(bytes: &[u8], c: Cursor) -> Option<(Cursor, Truth)>
     requires { c.at ≤ length bytes.now }
-    ensures { ReadAs bytes.now c.marks (Reader·atom (drop c.at bytes.now)) result }
+    ensures { Reads bytes.now c.marks (Reader·atom (drop c.at bytes.now)) result }
 {
     if c.sees(bytes, b'A') {
         return holding(bytes, c.next(), false);
@@ -39,47 +40,43 @@ fn atom(bytes: &[u8], c: Cursor) -> Reading
     if c.sees(bytes, b'B') {
         return holding(bytes, c.next(), true);
     }
-    Reading::Bad
+    None
 }
 
 // `!` and its operand. The mark is open until the operand ends.
 #[cycle(factor_grouped_negated_sum_term)]
-fn negated(bytes: &[u8], c: Cursor) -> Reading
+fn negated(bytes: &[u8], c: Cursor) -> Option<(Cursor, Truth)>
     requires { (c.at < length bytes.now) × (c.marks ≤ open_limit) }
-    ensures { ReadAs bytes.now c.marks (negation (open_limit - c.marks) (drop c.at bytes.now)) result }
+    ensures { Reads bytes.now c.marks (negation (open_limit - c.marks) (drop c.at bytes.now)) result }
 {
     if c.is_full() {
-        return Reading::Bad;
+        return None;
     }
-    let Reading::Got(d, t) = factor(bytes, c.opened()) else {
-        return Reading::Bad;
-    };
-    Reading::Got(d.shut(), t.not())
+    let (d, t) = factor(bytes, c.opened())?;
+    Some((d.shut(), t.not()))
 }
 
 // A query in parentheses.
 #[cycle(factor_grouped_negated_sum_term)]
-fn grouped(bytes: &[u8], c: Cursor) -> Reading
+fn grouped(bytes: &[u8], c: Cursor) -> Option<(Cursor, Truth)>
     requires { (c.at < length bytes.now) × (c.marks ≤ open_limit) }
-    ensures { ReadAs bytes.now c.marks (grouping (open_limit - c.marks) (drop c.at bytes.now)) result }
+    ensures { Reads bytes.now c.marks (grouping (open_limit - c.marks) (drop c.at bytes.now)) result }
 {
     if c.is_full() {
-        return Reading::Bad;
+        return None;
     }
-    let Reading::Got(d, t) = sum(bytes, c.opened()) else {
-        return Reading::Bad;
-    };
+    let (d, t) = sum(bytes, c.opened())?;
     if !d.sees(bytes, b')') {
-        return Reading::Bad;
+        return None;
     }
-    Reading::Got(d.next().shut(), t)
+    Some((d.next().shut(), t))
 }
 
 // What binds tightest.
 #[cycle(factor_grouped_negated_sum_term)]
-fn factor(bytes: &[u8], c: Cursor) -> Reading
+fn factor(bytes: &[u8], c: Cursor) -> Option<(Cursor, Truth)>
     requires { Placed bytes.now c }
-    ensures { ReadAs bytes.now c.marks (here Level·factor bytes.now c) result }
+    ensures { Reads bytes.now c.marks (here Level·factor bytes.now c) result }
 {
     if c.sees(bytes, b'!') {
         return negated(bytes, c);
@@ -90,40 +87,33 @@ fn factor(bytes: &[u8], c: Cursor) -> Reading
     atom(bytes, c)
 }
 
-// Factors with `&` between them.
+// Factors with `&` between them. This and `sum` stay two functions: one over both would ask a level for its mark, the level below and how two tables
+// join, each by a match, and be longer.
 #[cycle(factor_grouped_negated_sum_term)]
-fn term(bytes: &[u8], c: Cursor) -> Reading
+fn term(bytes: &[u8], c: Cursor) -> Option<(Cursor, Truth)>
     requires { Placed bytes.now c }
-    ensures { ReadAs bytes.now c.marks (here Level·term bytes.now c) result }
+    ensures { Reads bytes.now c.marks (here Level·term bytes.now c) result }
 {
-    let Reading::Got(d, t) = factor(bytes, c) else {
-        return Reading::Bad;
-    };
+    let (d, t) = factor(bytes, c)?;
     if !d.sees(bytes, b'&') {
-        return Reading::Got(d, t);
+        return Some((d, t));
     }
-    let Reading::Got(e, u) = term(bytes, d.next()) else {
-        return Reading::Bad;
-    };
-    Reading::Got(e, t.and(u))
+    let (e, u) = term(bytes, d.next())?;
+    Some((e, t.and(u)))
 }
 
 // Terms with `|` between them.
 #[cycle(factor_grouped_negated_sum_term)]
-fn sum(bytes: &[u8], c: Cursor) -> Reading
+fn sum(bytes: &[u8], c: Cursor) -> Option<(Cursor, Truth)>
     requires { Placed bytes.now c }
-    ensures { ReadAs bytes.now c.marks (here Level·sum bytes.now c) result }
+    ensures { Reads bytes.now c.marks (here Level·sum bytes.now c) result }
 {
-    let Reading::Got(d, t) = term(bytes, c) else {
-        return Reading::Bad;
-    };
+    let (d, t) = term(bytes, c)?;
     if !d.sees(bytes, b'|') {
-        return Reading::Got(d, t);
+        return Some((d, t));
     }
-    let Reading::Got(e, u) = sum(bytes, d.next()) else {
-        return Reading::Bad;
-    };
-    Reading::Got(e, t.or(u))
+    let (e, u) = sum(bytes, d.next())?;
+    Some((e, t.or(u)))
 }
 
 // The most bytes that a query has.
@@ -136,7 +126,7 @@ pub fn read_query(bytes: &[u8]) -> Reading
     if bytes.len() > LONGEST {
         return Reading::Bad;
     }
-    let Reading::Got(d, t) = sum(bytes, Cursor::FRESH) else {
+    let Some((d, t)) = sum(bytes, Cursor::FRESH) else {
         return Reading::Bad;
     };
     if d.at < bytes.len() {

@@ -10,57 +10,91 @@ pub struct Truth {
     pub high: u64,
 }
 
-// The tables of `A0` to `A9`, and of `B0` to `B9`: their low words and their high words. The proof computes each bit.
-const LOW_FIRSTS: [u64; 10] = [
-    0x7ff,
-    0x3ff800,
-    0x1ffc00000,
-    0xffe00000000,
-    0x7ff00000000000,
-    0xff80000000000000,
-    0x0,
-    0x0,
-    0x0,
-    0x0,
+// The tables of `A0` to `A9`, and of `B0` to `B9`. The proof computes each bit.
+const FIRSTS: [Truth; 10] = [
+    Truth {
+        low: 0x7ff,
+        high: 0x0,
+    },
+    Truth {
+        low: 0x3ff800,
+        high: 0x0,
+    },
+    Truth {
+        low: 0x1ffc00000,
+        high: 0x0,
+    },
+    Truth {
+        low: 0xffe00000000,
+        high: 0x0,
+    },
+    Truth {
+        low: 0x7ff00000000000,
+        high: 0x0,
+    },
+    Truth {
+        low: 0xff80000000000000,
+        high: 0x3,
+    },
+    Truth {
+        low: 0x0,
+        high: 0x1ffc,
+    },
+    Truth {
+        low: 0x0,
+        high: 0xffe000,
+    },
+    Truth {
+        low: 0x0,
+        high: 0x7ff000000,
+    },
+    Truth {
+        low: 0x0,
+        high: 0x3ff800000000,
+    },
 ];
 
-const HIGH_FIRSTS: [u64; 10] = [
-    0x0,
-    0x0,
-    0x0,
-    0x0,
-    0x0,
-    0x3,
-    0x1ffc,
-    0xffe000,
-    0x7ff000000,
-    0x3ff800000000,
-];
-
-const LOW_SECONDS: [u64; 10] = [
-    0x80100200400801,
-    0x100200400801002,
-    0x200400801002004,
-    0x400801002004008,
-    0x801002004008010,
-    0x1002004008010020,
-    0x2004008010020040,
-    0x4008010020040080,
-    0x8010020040080100,
-    0x20040080100200,
-];
-
-const HIGH_SECONDS: [u64; 10] = [
-    0x400801002004,
-    0x801002004008,
-    0x1002004008010,
-    0x2004008010020,
-    0x4008010020040,
-    0x8010020040080,
-    0x10020040080100,
-    0x20040080100200,
-    0x40080100200400,
-    0x80100200400801,
+const SECONDS: [Truth; 10] = [
+    Truth {
+        low: 0x80100200400801,
+        high: 0x400801002004,
+    },
+    Truth {
+        low: 0x100200400801002,
+        high: 0x801002004008,
+    },
+    Truth {
+        low: 0x200400801002004,
+        high: 0x1002004008010,
+    },
+    Truth {
+        low: 0x400801002004008,
+        high: 0x2004008010020,
+    },
+    Truth {
+        low: 0x801002004008010,
+        high: 0x4008010020040,
+    },
+    Truth {
+        low: 0x1002004008010020,
+        high: 0x8010020040080,
+    },
+    Truth {
+        low: 0x2004008010020040,
+        high: 0x10020040080100,
+    },
+    Truth {
+        low: 0x4008010020040080,
+        high: 0x20040080100200,
+    },
+    Truth {
+        low: 0x8010020040080100,
+        high: 0x40080100200400,
+    },
+    Truth {
+        low: 0x20040080100200,
+        high: 0x80100200400801,
+    },
 ];
 
 impl Truth {
@@ -70,14 +104,9 @@ impl Truth {
         ensures { Shows result (class_truth (atom_of second digit)) }
     {
         if second {
-            return Truth {
-                low: LOW_SECONDS[digit],
-                high: HIGH_SECONDS[digit],
-            };
-        }
-        Truth {
-            low: LOW_FIRSTS[digit],
-            high: HIGH_FIRSTS[digit],
+            SECONDS[digit]
+        } else {
+            FIRSTS[digit]
         }
     }
 
@@ -86,8 +115,8 @@ impl Truth {
         ensures { Shows result (λ a b. Bool·not (Table·says self a b)) }
     {
         Truth {
-            low: self.low ^ u64::MAX,
-            high: self.high ^ u64::MAX,
+            low: !self.low,
+            high: !self.high,
         }
     }
 
@@ -118,9 +147,10 @@ impl Truth {
     {
         let i = 11 * a + b;
         if i < 64 {
-            return bit(self.low, i);
+            bit(self.low, i)
+        } else {
+            bit(self.high, i - 64)
         }
-        bit(self.high, i - 64)
     }
 }
 

@@ -16,8 +16,9 @@ use Rattle.key.specs.Rank.{bit_rank, key_at}
 use Rattle.key.specs.Range.{Kind}
 use Rattle.key.proofs.Laws.{key_bits}
 use Rattle.outcomes.specs.Outcomes.{in_first_places, into_lists}
-use Rattle.outcomes.specs.declared.Counted.TheVariants as Counted
 use Rattle.range_list.specs.InnerLists.{wrote, starts_of, ends_of, ListRoom, Puts}
+use Rattle.std.specs.Prelude.{Ok, Err}
+use Rattle.answers.specs.declared.Refusal.TheVariants.{TooShort}
 
 -- a lent list with stores in its first places
 sets_over : (vs l : List ℤ) → length vs ≤ length l → sets l 0 vs ≡ in_first_places vs l
@@ -29,7 +30,7 @@ not_le {a} {b} h = elim (dec_lt b a) [ yes p ↦ p | no p ↦ absurd (h (omega a
 -- THE ANSWERS: r is the room that there is, and xs the ranges
 module _ (kind : Kind) (xs : List Span) (os oe : List ℤ) {r : ℕ} (room : r ≡ min (length os) (length oe)) where
   -- there is no room
-  pub answers_short : (length xs ≤ r → ⊥) → wrote (Counted.Refused too_short) os oe ≡ into_lists kind xs os oe
+  pub answers_short : (length xs ≤ r → ⊥) → wrote (Err TooShort) os oe ≡ into_lists kind xs os oe
   unfolding into_lists
   answers_short f = let h = rw room at (not_le f) in rw (lt-ltb (min (length os) (length oe)) (length xs) h)
 
@@ -37,7 +38,7 @@ module _ (kind : Kind) (xs : List Span) (os oe : List ℤ) {r : ℕ} (room : r �
   pub enough : length xs ≤ r → ListRoom 0 xs os oe
   enough h = record { starts = omega (arith, room); ends = omega (arith, room) }
 
-  all_written : length xs ≤ r → wrote (Counted.Count (length xs)) (sets os 0 (starts_of xs)) (sets oe 0 (ends_of kind xs)) ≡ into_lists kind xs os oe
+  all_written : length xs ≤ r → wrote (Ok (length xs)) (sets os 0 (starts_of xs)) (sets oe 0 (ends_of kind xs)) ≡ into_lists kind xs os oe
   unfolding into_lists
   all_written h =
       let a = sets_over (starts_of xs) os (omega (arith, room, length-map xs (λ (x : Span). key_at x.lo))) in
@@ -45,7 +46,7 @@ module _ (kind : Kind) (xs : List Span) (os oe : List ℤ) {r : ℕ} (room : r �
       rw (a, b, le-ltb (min (length os) (length oe)) (length xs) (omega (arith, room)))
 
   -- and the ranges are written
-  pub answers_done : {n : ℕ} {os₁ oe₁ : List ℤ} → length xs ≤ r → (n ≡ length xs) × Puts kind 0 xs os oe os₁ oe₁ → wrote (Counted.Count n) os₁ oe₁ ≡ into_lists kind xs os oe
+  pub answers_done : {n : ℕ} {os₁ oe₁ : List ℤ} → length xs ≤ r → (n ≡ length xs) × Puts kind 0 xs os oe os₁ oe₁ → wrote (Ok n) os₁ oe₁ ≡ into_lists kind xs os oe
   answers_done h w = rw (w.0, w.1.starts, w.1.ends) (all_written h)
 
 -- a start as the code writes it

@@ -7,7 +7,7 @@ use Rattle.span.specs.Span.{Span}
 use Rattle.key.specs.Range.{Kind}
 use Rattle.key.proofs.Answers.{one_answer}
 use Rattle.outcomes.specs.Outcomes.{Written}
-use Rattle.outcomes.specs.declared.Counted.{Counted}
+use Rattle.outcomes.specs.Answered.{Counted}
 use Rattle.range_list.specs.InnerLists.{wrote, Puts}
 
 -- what a door answers that writes a list, and the lists

@@ -5,7 +5,7 @@ use Rattle.span.specs.Span.{Span}
 use Rattle.key.specs.Rank.{key_at}
 use Rattle.key.specs.Range.{Kind}
 use Rattle.outcomes.specs.Outcomes.{Written}
-use Rattle.outcomes.specs.declared.Counted.{Counted}
+use Rattle.outcomes.specs.Answered.{Counted}
 
 -- what a door answers, and what the two lent lists hold then
 abbrev pub wrote : Counted → List ℤ → List ℤ → Written

@@ -7,10 +7,7 @@ ghost use Rattle.std.specs.Prelude.{◌≡◌, ◌<◌, min, length, set};
 pub fn shorter(a: usize, b: usize) -> usize
     ensures { result ≡ min a b }
 {
-    if a < b {
-        return a;
-    }
-    b
+    a.min(b)
 }
 
 // Writes a range into place `n`.

@@ -11,14 +11,7 @@ range_line_room = 65
 abbrev pub result_line_room : ℕ
 result_line_room = 43
 
--- the first n places are there in three columns, and so is the room for their lines
-pub record RangesRoom (n : ℕ) (ss es : List ℤ) (vs out : List ℕ) : Type 0 where
-  pub starts : n ≤ length ss
-  pub ends : n ≤ length es
-  pub values : n ≤ length vs
-  pub bytes : range_line_room * n ≤ length out
-
--- the same of a result
+-- the first n places are there in two lists, and so is the room for their lines
 pub record ResultsRoom (n : ℕ) (ss es : List ℤ) (out : List ℕ) : Type 0 where
   pub starts : n ≤ length ss
   pub ends : n ≤ length es

@@ -1,6 +1,7 @@
 -- Ranges as document 01 writes them: a line START..END>VALUE for each range of a map, and a line START..END for each range of a query's result.
 use Rattle.std.specs.Prelude.{ℕ, ◌+◌, ◌*◌, List, [], ◌∷◌, ◌++◌, get_or, ℤ, pos}
-use Rattle.outcomes.specs.Stored.{places, Stored}
+use Rattle.outcomes.specs.Stored.{places}
+use Rattle.outcomes.specs.declared.Stored.{Stored}
 use Rattle.decimal.specs.Decimal.{signed_text}
 use Rattle.filling.specs.Filling.{ascii, filled_in, series}
 

@@ -2,14 +2,14 @@
 #![tactic(auto)]
 
 ghost use Rattle.std.specs.Prelude.{◌≡◌, ◌+◌, ◌*◌, ◌≤◌, length};
-ghost use Rattle.outcomes.specs.Stored.{places, stored};
+ghost use Rattle.outcomes.specs.Stored.{places};
 ghost use Rattle.filling.specs.Filling.{AddsWithin};
 ghost use Rattle.range_text.specs.RangeText.{range_text, range_line, result_line, ranges_text, results, result_text};
-ghost use Rattle.range_text.specs.InnerRoom.{range_room, range_line_room, result_line_room, RangesRoom, ResultsRoom};
+ghost use Rattle.range_text.specs.InnerRoom.{range_room, range_line_room, result_line_room, ResultsRoom};
 
 use decimal::put_i64;
 use filling::fill;
-use outcomes::PLACES;
+use outcomes::{PLACES, Stored};
 use text::{put, put_byte};
 
 // The most bytes that a line takes: two numbers of 20 bytes, two dots, and a value of at most 20 bytes with what stands around it.
@@ -40,7 +40,7 @@ fn put_line(out: &mut [u8], at: usize, start: i64, end: i64, value: u8) -> usize
     ensures { AddsWithin range_line_room (range_line start end value) out.old at out.new result }
 {
     let to = put_range(out, at, start, end);
-    let numbers = [value as u64];
+    let numbers = [u64::from(value)];
     fill(out, to, b">{\n", &numbers)
 }
 
@@ -54,31 +54,23 @@ fn put_result_line(out: &mut [u8], at: usize, start: i64, end: i64) -> usize
 }
 
 // The lines of the first `count` places.
-fn put_ranges(count: usize, starts: &[i64], ends: &[i64], values: &[u8], out: &mut [u8]) -> usize
-    requires { RangesRoom count starts.now ends.now values.now out.old }
-    ensures { AddsWithin (range_line_room * count) (ranges_text (stored count starts.now ends.now values.now)) out.old 0 out.new result }
+fn put_ranges(m: &Stored, out: &mut [u8]) -> usize
+    requires { (m.now.count ≤ places) × (range_line_room * m.now.count ≤ length out.old) }
+    ensures { AddsWithin (range_line_room * m.now.count) (ranges_text m.now) out.old 0 out.new result }
 {
     let mut to = 0;
-    let mut i = 0;
-    while i < count {
-        to = put_line(out, to, starts[i], ends[i], values[i]);
-        i += 1;
+    for i in 0..m.count {
+        to = put_line(out, to, m.starts[i], m.ends[i], m.values[i]);
     }
     to
 }
 
 // THE RANGES OF A MAP.
-pub fn ranges_text(
-    count: usize,
-    starts: &[i64; PLACES],
-    ends: &[i64; PLACES],
-    values: &[u8; PLACES],
-    out: &mut [u8; RANGES_ROOM],
-) -> usize
-    requires { count ≤ places }
-    ensures { AddsWithin (range_line_room * count) (ranges_text (stored count starts.now ends.now values.now)) out.old 0 out.new result }
+pub fn ranges_text(m: &Stored, out: &mut [u8; RANGES_ROOM]) -> usize
+    requires { m.now.count ≤ places }
+    ensures { AddsWithin (range_line_room * m.now.count) (ranges_text m.now) out.old 0 out.new result }
 {
-    put_ranges(count, starts, ends, values, out)
+    put_ranges(m, out)
 }
 
 // The lines of the first n places of a result.
@@ -87,10 +79,8 @@ fn put_results(n: usize, starts: &[i64], ends: &[i64], out: &mut [u8]) -> usize
     ensures { AddsWithin (result_line_room * n) (result_text starts.now ends.now n) out.old 0 out.new result }
 {
     let mut to = 0;
-    let mut i = 0;
-    while i < n {
+    for i in 0..n {
         to = put_result_line(out, to, starts[i], ends[i]);
-        i += 1;
     }
     to
 }

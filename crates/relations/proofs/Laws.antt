@@ -7,6 +7,7 @@ use mathlib.Core.Bool.{Bool, true, false, ◌||◌}
 use borrow.Author.Tests.{ltb-true, leb-true, leb-false}
 use lib.Dec.{ltb, leb}
 use lib.IntN.{ℤ}
+use Rattle.std.specs.Prelude.{Ok, Some, None}
 use Rattle.span.specs.Span.{Span, inside}
 use Rattle.span.specs.Operations.{spans_overlap}
 use Rattle.span.proofs.Tests.{Within, yes_in, both, neither}
@@ -15,22 +16,12 @@ use Rattle.key.specs.Range.{Kind, span_of, empty}
 use Rattle.key.proofs.Laws.{rank_greater}
 use Rattle.key.proofs.Lawful.{Lawful}
 use Rattle.relations.specs.Relations.{spans_touch, related, range_contains, ranges_overlap, ranges_touch, ranges_intersect}
-use Rattle.relations.specs.declared.Relation.{Relation}
-use Rattle.relations.specs.declared.Relation.TheVariants.{Yes, No, Empty}
-use Rattle.relations.specs.declared.Common.TheVariants.{Between, Nothing}
 use Rattle.relations.proofs.Returns.{contains_yes, overlaps_yes, touches_yes, intersect_some}
 
 -- yes is said only where no range is empty
-clash : {X : Type 0} → ◌≡◌ {A = Relation} Empty Yes → X
-clash e = let z : ◌≡◌ {A = ℕ} 0 1 = cc in absurd (omega arith)
-
-clash' : {X : Type 0} → ◌≡◌ {A = Relation} No Yes → X
-clash' e = let z : ◌≡◌ {A = ℕ} 0 1 = cc in absurd (omega arith)
-
-related_yes : (b t : Bool) → related b t ≡ Yes → (b ≡ false) × (t ≡ true)
-related_yes true t e = clash e
-related_yes false true e = (refl, refl)
-related_yes false false e = clash' e
+related_yes : (b t : Bool) → related b t ≡ Ok true → (b ≡ false) × (t ≡ true)
+related_yes true t e = cc
+related_yes false t e = (refl, cc)
 
 proper : (x : Span) → empty x ≡ false → x.lo < x.hi
 proper x e = leb-false x.hi x.lo e
@@ -40,11 +31,11 @@ module _ (kind : Kind) (s e : ℤ) where
   x = span_of kind s e 0
 
   -- CONTAINS says yes exactly of the keys of the range
-  pub contains_in : (k : ℤ) → range_contains kind s e k ≡ Yes → Within x.lo x.hi (rank k)
+  pub contains_in : (k : ℤ) → range_contains kind s e k ≡ Ok true → Within x.lo x.hi (rank k)
   unfolding range_contains
   contains_in k h = yes_in x.lo x.hi (rank k) (related_yes (empty x) (inside x.lo x.hi (rank k)) h).1
 
-  pub in_contains : (k : ℤ) → Within x.lo x.hi (rank k) → range_contains kind s e k ≡ Yes
+  pub in_contains : (k : ℤ) → Within x.lo x.hi (rank k) → range_contains kind s e k ≡ Ok true
   in_contains k w = sym (contains_yes kind s e k (omega arith) w)
 
   module _ (s' e' : ℤ) where
@@ -52,7 +43,7 @@ module _ (kind : Kind) (s e : ℤ) where
     y = span_of kind s' e' 0
 
     -- OVERLAPS says yes exactly where some key is in both: the greater start is one
-    pub overlaps_shares : ranges_overlap kind s e s' e' ≡ Yes → Within x.lo x.hi (max x.lo y.lo) × Within y.lo y.hi (max x.lo y.lo)
+    pub overlaps_shares : ranges_overlap kind s e s' e' ≡ Ok true → Within x.lo x.hi (max x.lo y.lo) × Within y.lo y.hi (max x.lo y.lo)
     unfolding ranges_overlap spans_overlap
     overlaps_shares h =
         let (full, held) = related_yes (empty x || empty y) (spans_overlap x y) h in
@@ -60,7 +51,7 @@ module _ (kind : Kind) (s e : ℤ) where
         let (p, q) = both (ltb x.lo y.hi) (ltb y.lo x.hi) held in
         (omega (arith, ltb-true x.lo y.hi p, ltb-true y.lo x.hi q, proper x ex, proper y ey), omega (arith, ltb-true x.lo y.hi p, ltb-true y.lo x.hi q, proper x ex, proper y ey))
 
-    pub shares_overlaps : (k : ℕ) → Within x.lo x.hi k → Within y.lo y.hi k → ranges_overlap kind s e s' e' ≡ Yes
+    pub shares_overlaps : (k : ℕ) → Within x.lo x.hi k → Within y.lo y.hi k → ranges_overlap kind s e s' e' ≡ Ok true
     shares_overlaps k v w = sym (overlaps_yes kind s e s' e' (omega arith) (omega arith) (omega arith) (omega arith))
 
     -- k lies between the two ranges, in neither
@@ -69,7 +60,7 @@ module _ (kind : Kind) (s e : ℤ) where
       past_second : y.hi ≤ k → k < x.lo → Amid k
 
     -- TOUCHES says yes exactly where nothing lies between two ranges
-    pub touches_near : ranges_touch kind s e s' e' ≡ Yes → (k : ℕ) → Amid k → ⊥
+    pub touches_near : ranges_touch kind s e s' e' ≡ Ok true → (k : ℕ) → Amid k → ⊥
     unfolding ranges_touch spans_touch
     touches_near h k a =
         let held = (related_yes (empty x || empty y) (spans_touch x y) h).1 in
@@ -79,7 +70,7 @@ module _ (kind : Kind) (s e : ℤ) where
           | past_second f t ↦ omega (arith, leb-true x.lo y.hi p)
         ]
 
-    pub near_touches : x.lo < x.hi → y.lo < y.hi → ((k : ℕ) → Amid k → ⊥) → ranges_touch kind s e s' e' ≡ Yes
+    pub near_touches : x.lo < x.hi → y.lo < y.hi → ((k : ℕ) → Amid k → ⊥) → ranges_touch kind s e s' e' ≡ Ok true
     near_touches h i n = sym (touches_yes kind s e s' e' h i
         (elim (dec_lt y.hi x.lo) [ yes p ↦ absurd (n y.hi (past_second (omega arith) p)) | no p ↦ omega arith ])
         (elim (dec_lt x.hi y.lo) [ yes p ↦ absurd (n x.hi (past_first (omega arith) p)) | no p ↦ omega arith ]))
@@ -102,8 +93,8 @@ module _ (kind : Kind) (lawful : Lawful kind) (s e s' e' : ℤ) where
   pub in_left : (k : ℕ) → Within (span_of kind s e 0).lo (span_of kind s e 0).hi k → Within (span_of kind s' e' 0).lo (span_of kind s' e' 0).hi k → Within both_of.lo both_of.hi k
   in_left k v w = let b = ends in omega arith
 
-  pub shares_some : (k : ℕ) → Within (span_of kind s e 0).lo (span_of kind s e 0).hi k → Within (span_of kind s' e' 0).lo (span_of kind s' e' 0).hi k → ranges_intersect kind s e s' e' ≡ Between (greater s s') (lesser e e')
+  pub shares_some : (k : ℕ) → Within (span_of kind s e 0).lo (span_of kind s e 0).hi k → Within (span_of kind s' e' 0).lo (span_of kind s' e' 0).hi k → ranges_intersect kind s e s' e' ≡ Some (record { start = greater s s'; end = lesser e e' })
   shares_some k v w = let i = in_left k v w in sym (intersect_some kind s e s' e' (omega arith))
 
-  pub none_shares : ranges_intersect kind s e s' e' ≡ Nothing → (k : ℕ) → Within (span_of kind s e 0).lo (span_of kind s e 0).hi k → Within (span_of kind s' e' 0).lo (span_of kind s' e' 0).hi k → ⊥
+  pub none_shares : ranges_intersect kind s e s' e' ≡ None → (k : ℕ) → Within (span_of kind s e 0).lo (span_of kind s e 0).hi k → Within (span_of kind s' e' 0).lo (span_of kind s' e' 0).hi k → ⊥
   none_shares n k v w = let z : ◌≡◌ {A = ℕ} 0 1 = cc (n, shares_some k v w) in omega arith

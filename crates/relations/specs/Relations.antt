@@ -1,15 +1,15 @@
 -- Document 01, module 1: contains, overlaps, touches and intersect, of spans of ranks, and so of both kinds of range.
 -- `kind` is `half_open` or `inclusive`.
-use Rattle.std.specs.Prelude.{Bool, true, false, ◌&&◌, ◌||◌, cond, leb, ℤ, pos}
-use Rattle.answers.specs.Answers.{done, empty_range, none_there}
+use Rattle.std.specs.Prelude.{Bool, true, false, ◌&&◌, ◌||◌, cond, leb, Result, Ok, Err, Option, Some, None, ℤ, pos}
+use Rattle.answers.specs.Answers.{done, none_there}
+use Rattle.answers.specs.Refusals.{number}
+use Rattle.answers.specs.declared.Refusal.{Refusal}
+use Rattle.answers.specs.declared.Refusal.TheVariants.{EmptyRange}
 use Rattle.span.specs.Span.{Span, inside}
 use Rattle.span.specs.Operations.{spans_overlap}
 use Rattle.key.specs.Rank.{rank, lesser, greater}
 use Rattle.key.specs.Range.{Kind, span_of, empty}
-use Rattle.relations.specs.declared.Relation.{Relation}
-use Rattle.relations.specs.declared.Relation.TheVariants.{Yes, No, Empty}
-use Rattle.relations.specs.declared.Common.{Common}
-use Rattle.relations.specs.declared.Common.TheVariants.{Between, Nothing}
+use Rattle.key.specs.declared.Bounds.{Bounds}
 use Rattle.relations.specs.declared.Related.{Related}
 use Rattle.relations.specs.declared.Intersected.{Intersected}
 
@@ -17,11 +17,18 @@ use Rattle.relations.specs.declared.Intersected.{Intersected}
 unfoldable pub spans_touch : Span → Span → Bool
 spans_touch x y = leb x.lo y.hi && leb y.lo x.hi
 
+-- whether two ranges are related; there is no answer for a range that is empty or reversed
+abbrev pub Relation : Type 0
+Relation = Result Bool Refusal
+
+-- what two ranges have in common, if they have a key in common
+abbrev pub Common : Type 0
+Common = Option Bounds
+
 -- yes or no, unless a range is empty or reversed
 abbrev pub related : Bool → Bool → Relation
-related true held = Empty
-related false true = Yes
-related false false = No
+related true held = Err EmptyRange
+related false held = Ok held
 
 -- CONTAINS: is the key in the range
 unfoldable pub range_contains : Kind → ℤ → ℤ → ℤ → Relation
@@ -37,14 +44,13 @@ ranges_touch kind s e s' e' = let x = span_of kind s e 0 in let y = span_of kind
 
 -- INTERSECT, of any pair: from the greater start to the lesser end, if a key is left
 unfoldable pub ranges_intersect : Kind → ℤ → ℤ → ℤ → ℤ → Common
-ranges_intersect kind s e s' e' = let a = greater s s' in let b = lesser e e' in cond (empty (span_of kind a b 0)) Nothing (Between a b)
+ranges_intersect kind s e s' e' = let a = greater s s' in let b = lesser e e' in cond (empty (span_of kind a b 0)) None (Some (record { start = a; end = b }))
 
 -- the number and the values of each answer
 abbrev pub relation_in_c : Relation → Related
-relation_in_c Yes = record { answer = done; yes = true }
-relation_in_c No = record { answer = done; yes = false }
-relation_in_c Empty = record { answer = empty_range; yes = false }
+relation_in_c (Ok held) = record { answer = done; yes = held }
+relation_in_c (Err why) = record { answer = number why; yes = false }
 
 abbrev pub common_in_c : Common → Intersected
-common_in_c (Between s e) = record { answer = done; start = s; end = e }
-common_in_c Nothing = record { answer = none_there; start = pos 0; end = pos 0 }
+common_in_c (Some x) = record { answer = done; start = x.start; end = x.end }
+common_in_c None = record { answer = none_there; start = pos 0; end = pos 0 }

@@ -1,9 +1,8 @@
 // The relations of half-open ranges, start..end, for C and Rust.
+// Each names its kind, since C has a function of its own for each kind.
 ghost use Rattle.relations.specs.Promises.{RangeContains, RangeOverlaps, RangeTouches, RangeIntersect};
 
-use crate::{
-    Intersected, Related, common_numbers, contains, intersect, overlaps, relation_numbers, touches,
-};
+use crate::{Intersected, Related, contains, intersect, overlaps, touches};
 use key::{Bounds, RangeKind};
 
 // Whether the key is in start..end.
@@ -11,7 +10,7 @@ pub fn range_contains(start: i64, end: i64, key: i64) -> Related
     ensures { RangeContains start end key result }
 {
     let range = Bounds { start, end };
-    relation_numbers(contains(RangeKind::HalfOpen, range, key))
+    Related::from(contains(RangeKind::HalfOpen, range, key))
 }
 
 // Whether a key is in both ranges.
@@ -23,7 +22,7 @@ pub fn range_overlaps(start: i64, end: i64, other_start: i64, other_end: i64) ->
         start: other_start,
         end: other_end,
     };
-    relation_numbers(overlaps(RangeKind::HalfOpen, range, other))
+    Related::from(overlaps(RangeKind::HalfOpen, range, other))
 }
 
 // Whether nothing lies between the two ranges; so ranges that overlap touch too.
@@ -35,7 +34,7 @@ pub fn range_touches(start: i64, end: i64, other_start: i64, other_end: i64) -> 
         start: other_start,
         end: other_end,
     };
-    relation_numbers(touches(RangeKind::HalfOpen, range, other))
+    Related::from(touches(RangeKind::HalfOpen, range, other))
 }
 
 // The keys of both ranges, from the greater start to the lesser end, or 5.
@@ -47,5 +46,5 @@ pub fn range_intersect(start: i64, end: i64, other_start: i64, other_end: i64) -
         start: other_start,
         end: other_end,
     };
-    common_numbers(intersect(RangeKind::HalfOpen, range, other))
+    Intersected::from(intersect(RangeKind::HalfOpen, range, other))
 }

@@ -1,9 +1,8 @@
 // The relations of inclusive ranges, start..=end, for C and Rust.
+// Each names its kind, since C has a function of its own for each kind.
 ghost use Rattle.relations.specs.Promises.{RangeInclusiveContains, RangeInclusiveOverlaps, RangeInclusiveTouches, RangeInclusiveIntersect};
 
-use crate::{
-    Intersected, Related, common_numbers, contains, intersect, overlaps, relation_numbers, touches,
-};
+use crate::{Intersected, Related, contains, intersect, overlaps, touches};
 use key::{Bounds, RangeKind};
 
 // Whether the key is in start..=end.
@@ -11,7 +10,7 @@ pub fn range_inclusive_contains(start: i64, end: i64, key: i64) -> Related
     ensures { RangeInclusiveContains start end key result }
 {
     let range = Bounds { start, end };
-    relation_numbers(contains(RangeKind::Inclusive, range, key))
+    Related::from(contains(RangeKind::Inclusive, range, key))
 }
 
 // Whether a key is in both ranges.
@@ -23,7 +22,7 @@ pub fn range_inclusive_overlaps(start: i64, end: i64, other_start: i64, other_en
         start: other_start,
         end: other_end,
     };
-    relation_numbers(overlaps(RangeKind::Inclusive, range, other))
+    Related::from(overlaps(RangeKind::Inclusive, range, other))
 }
 
 // Whether nothing lies between the two ranges; so ranges that overlap touch too.
@@ -35,7 +34,7 @@ pub fn range_inclusive_touches(start: i64, end: i64, other_start: i64, other_end
         start: other_start,
         end: other_end,
     };
-    relation_numbers(touches(RangeKind::Inclusive, range, other))
+    Related::from(touches(RangeKind::Inclusive, range, other))
 }
 
 // The keys of both ranges, from the greater start to the lesser end, or 5.
@@ -52,5 +51,5 @@ pub fn range_inclusive_intersect(
         start: other_start,
         end: other_end,
     };
-    common_numbers(intersect(RangeKind::Inclusive, range, other))
+    Intersected::from(intersect(RangeKind::Inclusive, range, other))
 }

@@ -11,25 +11,10 @@ ghost use Rattle.key.specs.Rank.{rank};
 ghost use Rattle.key.specs.Range.{kind_of};
 ghost use Rattle.relations.specs.Relations.{range_contains, ranges_overlap, ranges_touch, ranges_intersect, relation_in_c, common_in_c};
 
-use answers::{DONE, EMPTY_RANGE, NONE_THERE};
+use answers::{DONE, NONE_THERE, Refusal};
 use key::{Bounds, RangeKind, full};
 
-// Whether two ranges are related; there is no answer for a range that is empty or reversed.
-#[derive(Clone, Copy)]
-pub enum Relation {
-    Yes,
-    No,
-    Empty,
-}
-
-// What two ranges have in common.
-#[derive(Clone, Copy)]
-pub enum Common {
-    Between(i64, i64),
-    Nothing,
-}
-
-// A relation as C and Rust see it: answer 0 with yes or no, or 1.
+// A relation as C and Rust see it: answer 0 with yes or no, or 1. A number beside the value, since that is the layout in C.
 #[repr(C)]
 #[derive(Clone, Copy)]
 pub struct Related {
@@ -37,7 +22,7 @@ pub struct Related {
     pub yes: bool,
 }
 
-// What is in common as C and Rust see it: answer 0 with the range, or 5.
+// What is in common as C and Rust see it: answer 0 with the range, or 5. A number beside the value, since that is the layout in C.
 #[repr(C)]
 #[derive(Clone, Copy)]
 pub struct Intersected {
@@ -54,45 +39,30 @@ fn starts_before(kind: RangeKind, range: Bounds, other: Bounds) -> bool
 }
 
 // Whether the key is in the range: not before its start, and before its end.
-pub fn contains(kind: RangeKind, range: Bounds, key: i64) -> Relation
+pub fn contains(kind: RangeKind, range: Bounds, key: i64) -> Result<bool, Refusal>
     ensures { result ≡ range_contains (kind_of kind) range.start range.end key }
 {
     if !starts_before(kind, range, range) {
-        return Relation::Empty;
+        return Err(Refusal::EmptyRange);
     }
-    if key < range.start {
-        return Relation::No;
-    }
-    if !full(kind, key, range.end) {
-        return Relation::No;
-    }
-    Relation::Yes
+    Ok(range.start <= key && full(kind, key, range.end))
 }
 
 // Whether each of two ranges has a key: it starts before its own end.
 fn both_full(kind: RangeKind, range: Bounds, other: Bounds) -> bool
     ensures { Decides result ((rank range.start < (kind_of kind).past range.end) × (rank other.start < (kind_of kind).past other.end)) }
 {
-    if !starts_before(kind, range, range) {
-        return false;
-    }
-    starts_before(kind, other, other)
+    starts_before(kind, range, range) && starts_before(kind, other, other)
 }
 
 // Whether some key is in both ranges: each starts before the other's end.
-pub fn overlaps(kind: RangeKind, range: Bounds, other: Bounds) -> Relation
+pub fn overlaps(kind: RangeKind, range: Bounds, other: Bounds) -> Result<bool, Refusal>
     ensures { result ≡ ranges_overlap (kind_of kind) range.start range.end other.start other.end }
 {
     if !both_full(kind, range, other) {
-        return Relation::Empty;
+        return Err(Refusal::EmptyRange);
     }
-    if !starts_before(kind, range, other) {
-        return Relation::No;
-    }
-    if !starts_before(kind, other, range) {
-        return Relation::No;
-    }
-    Relation::Yes
+    Ok(starts_before(kind, range, other) && starts_before(kind, other, range))
 }
 
 // Whether some key lies past a range and before another. One is added to an end only where a later key was seen, so the greatest key is an
@@ -102,80 +72,61 @@ fn apart(kind: RangeKind, range: Bounds, other: Bounds) -> bool
 {
     let end = range.end;
     let start = other.start;
-    if start <= end {
-        return false;
+    start > end
+        && match kind {
+            RangeKind::HalfOpen => true,
+            RangeKind::Inclusive => key::next(end) < start,
+        }
+}
+
+// Whether nothing lies between the ranges: they overlap, or one begins right where the other ends.
+pub fn touches(kind: RangeKind, range: Bounds, other: Bounds) -> Result<bool, Refusal>
+    ensures { result ≡ ranges_touch (kind_of kind) range.start range.end other.start other.end }
+{
+    if !both_full(kind, range, other) {
+        return Err(Refusal::EmptyRange);
     }
-    match kind {
-        RangeKind::HalfOpen => true,
-        RangeKind::Inclusive => {
-            if key::next(end) < start {
-                return true;
-            }
-            false
+    Ok(!apart(kind, other, range) && !apart(kind, range, other))
+}
+
+// What both ranges have: from the greater start to the lesser end, if a key is left. Any pair is taken.
+pub fn intersect(kind: RangeKind, range: Bounds, other: Bounds) -> Option<Bounds>
+    ensures { result ≡ ranges_intersect (kind_of kind) range.start range.end other.start other.end }
+{
+    let start = key::max(range.start, other.start);
+    let end = key::min(range.end, other.end);
+    full(kind, start, end).then_some(Bounds { start, end })
+}
+
+impl From<Result<bool, Refusal>> for Related {
+    fn from(relation: Result<bool, Refusal>) -> Related
+        ensures { result ≡ relation_in_c relation }
+    {
+        match relation {
+            Ok(yes) => Related { answer: DONE, yes },
+            Err(why) => Related {
+                answer: why.number(),
+                yes: false,
+            },
         }
     }
 }
 
-// Whether nothing lies between the ranges: they overlap, or one begins right where the other ends.
-pub fn touches(kind: RangeKind, range: Bounds, other: Bounds) -> Relation
-    ensures { result ≡ ranges_touch (kind_of kind) range.start range.end other.start other.end }
-{
-    if !both_full(kind, range, other) {
-        return Relation::Empty;
-    }
-    if apart(kind, other, range) {
-        return Relation::No;
-    }
-    if apart(kind, range, other) {
-        return Relation::No;
-    }
-    Relation::Yes
-}
-
-// What both ranges have: from the greater start to the lesser end, if a key is left. Any pair is taken.
-pub fn intersect(kind: RangeKind, range: Bounds, other: Bounds) -> Common
-    ensures { result ≡ ranges_intersect (kind_of kind) range.start range.end other.start other.end }
-{
-    let s = key::max(range.start, other.start);
-    let e = key::min(range.end, other.end);
-    if !full(kind, s, e) {
-        return Common::Nothing;
-    }
-    Common::Between(s, e)
-}
-
-pub fn relation_numbers(r: Relation) -> Related
-    ensures { result ≡ relation_in_c r }
-{
-    match r {
-        Relation::Yes => Related {
-            answer: DONE,
-            yes: true,
-        },
-        Relation::No => Related {
-            answer: DONE,
-            yes: false,
-        },
-        Relation::Empty => Related {
-            answer: EMPTY_RANGE,
-            yes: false,
-        },
-    }
-}
-
-pub fn common_numbers(c: Common) -> Intersected
-    ensures { result ≡ common_in_c c }
-{
-    match c {
-        Common::Between(start, end) => Intersected {
-            answer: DONE,
-            start: start,
-            end: end,
-        },
-        Common::Nothing => Intersected {
-            answer: NONE_THERE,
-            start: 0,
-            end: 0,
-        },
+impl From<Option<Bounds>> for Intersected {
+    fn from(common: Option<Bounds>) -> Intersected
+        ensures { result ≡ common_in_c common }
+    {
+        match common {
+            Some(Bounds { start, end }) => Intersected {
+                answer: DONE,
+                start,
+                end,
+            },
+            None => Intersected {
+                answer: NONE_THERE,
+                start: 0,
+                end: 0,
+            },
+        }
     }
 }

@@ -3,20 +3,21 @@ use mathlib.Core.Path.{◌≡◌, refl}
 use mathlib.Core.Bool.{false}
 use lib.IntN.{ℤ, pos}
 use lib.Ieee.{fin}
-use Rattle.answers.specs.Answers.{bad_day, bad_status}
+use Rattle.std.specs.Prelude.{Ok, Err}
+use Rattle.answers.specs.declared.Refusal.TheVariants.{BadDay, BadStatus}
 use Rattle.span.specs.Span.{inside, keep, before, after, joins, tidy, push, joined, given, history}
 use Rattle.span.specs.Operations.{cuts, uncovered, within, span_total, any}
 use Rattle.key.specs.Rank.{above_least, bit_rank, key_at}
 use Rattle.key.specs.Range.{half_open}
-use Rattle.outcomes.specs.Stored.{Stored, spans, ranges, filled, storing, zeros, noughts, unused, well_formed}
+use Rattle.outcomes.specs.Stored.{spans, ranges, filled, storing, zeros, noughts, unused, well_formed}
+use Rattle.outcomes.specs.declared.Stored.{Stored}
 use Rattle.outcomes.specs.Outcomes.{edit_sound, edit, insert, clear}
 use Rattle.hours.specs.Hours.{hours_of}
 use Rattle.duty.proofs.ByStatus.{of_duties}
 use Rattle.calendar.specs.Calendar.{leap, year_length, month_length, years_before, months_before, day_number, is_date, next_date, weekday, sunday_within, sunday_from, march_sunday, november_sunday}
 use Rattle.calendar.specs.Calendar as Calendar
 use Rattle.log_day.specs.Days.{standard, changes_clock, daylight, offset, midnight, accepted, day_of}
-use Rattle.report.specs.Report.{day_report, reported_in_c}
-use Rattle.report.specs.declared.Reported.{Reported}
+use Rattle.report.specs.Report.{day_totals, Reported, day_report, reported_in_c}
 
 -- status 1 over 2024-11-03, Eastern, then 3 on 1730628000..1730653200
 abbrev november : Stored
@@ -63,14 +64,14 @@ november_report = refl
 
 -- its seconds
 abbrev as_november : Reported
-as_november = Reported.Totals (pos 1730606400) (pos 1730696400) (record { off_duty = 64800; sleeper_berth = 0; driving = 25200; on_duty = 0; unrecorded = 0 })
+as_november = Ok (day_totals (pos 1730606400) (pos 1730696400) (record { off_duty = 64800; sleeper_berth = 0; driving = 25200; on_duty = 0; unrecorded = 0 }))
 
 -- a bad date, and a bad zone
-pub no_date : day_report november 0 2023 2 29 ≡ Reported.Refused bad_day
+pub no_date : day_report november 0 2023 2 29 ≡ Err BadDay
 unfolding all
 no_date = refl
 
-pub no_zone : day_report november 7 2024 11 3 ≡ Reported.Refused bad_day
+pub no_zone : day_report november 7 2024 11 3 ≡ Err BadDay
 unfolding all
 no_zone = refl
 
@@ -78,7 +79,7 @@ no_zone = refl
 abbrev marked : ℤ → ℤ → Stored
 marked s e = (insert half_open november s e 0).left
 
-pub status_0 : day_report (marked (pos 1730696399) (pos 1730696400)) 0 2024 11 3 ≡ Reported.Refused bad_status
+pub status_0 : day_report (marked (pos 1730696399) (pos 1730696400)) 0 2024 11 3 ≡ Err BadStatus
 unfolding all
 status_0 = refl
 

@@ -8,77 +8,78 @@ use mathlib.Core.Bool.{Bool, true, false, cond}
 use mathlib.Core.List.{List}
 use mathlib.Core.Option.{some, none}
 use lib.IntN.{ℤ}
-use Rattle.answers.specs.Answers.{not_formed, bad_status}
+use Rattle.std.specs.Prelude.{Result, Ok, Err}
+use Rattle.answers.specs.declared.Refusal.{Refusal}
+use Rattle.answers.specs.declared.Refusal.TheVariants.{NotFormed, BadDay, BadStatus}
 use Rattle.span.specs.Span.{Span, inside, at, Ordered}
 use Rattle.span.specs.Labels.{through, passed}
 use Rattle.span.specs.Operations.{count, unless}
 use Rattle.key.specs.Rank.{rank}
 use Rattle.key.specs.Range.{half_open}
-use Rattle.outcomes.specs.Stored.{places, Stored, ranges}
+use Rattle.key.specs.declared.Bounds.{Bounds}
+use Rattle.outcomes.specs.Stored.{places, ranges}
+use Rattle.outcomes.specs.declared.Stored.{Stored}
 use Rattle.outcomes.specs.Outcomes.{formed}
 use Rattle.outcomes.proofs.Formed as Formed
 use Rattle.hours.specs.Hours.{hours_of, Nearest}
 use Rattle.hours.proofs.Near.{hours_nearest}
 use Rattle.duty.specs.Duty.{is_off_duty, is_sleeper_berth, is_driving, is_on_duty, seconds_of, unrecorded_of, strange, totals_of, tally_sound}
 use Rattle.duty.specs.declared.Totals.{Totals}
-use Rattle.duty.specs.declared.Tallied.{Tallied}
 use Rattle.duty.proofs.Instants.{seconds_instants, unrecorded_instants}
 use Rattle.duty.proofs.Sums.{duties_sum, unrecorded_free, free_unrecorded}
-use Rattle.log_day.specs.Days.{day_of}
-use Rattle.log_day.specs.declared.Day.{Day}
-use Rattle.report.specs.Report.{with_keys, day_report_sound, day_report}
-use Rattle.report.specs.declared.Reported.{Reported}
+use Rattle.log_day.specs.Days.{bounds, day_of}
+use Rattle.log_day.proofs.Spans.{refused_is}
+use Rattle.report.specs.Report.{day_totals, with_keys, day_report_sound, day_report}
+use Rattle.report.specs.declared.DayTotals.{DayTotals}
 use Rattle.report.proofs.Returns.{Window, day_window}
 
 -- a report that is no refusal: the map is well formed, the day is the date's, no strange status is in it, and its seconds are counted
 pub record Told (m : Stored) (z y mo d : ℕ) (s e : ℤ) (t : Totals) : Type 0 where
   pub well : formed half_open m ≡ true
-  pub day : day_of z y mo d ≡ Day.Span s e
+  pub day : day_of z y mo d ≡ Ok (bounds s e)
   pub calm : strange (rank s) (rank e) (ranges half_open m) ≡ false
   pub totals : t ≡ totals_of (rank s) (rank e) (ranges half_open m)
 
-apart : {s e : ℤ} {t : Totals} {n : ℕ} → Reported.Refused n ≡ Reported.Totals s e t → ⊥
-apart e = let z : ◌≡◌ {A = ℕ} 0 1 = cc in omega arith
-
 module _ (m : Stored) (z y mo d : ℕ) {s e : ℤ} {t : Totals} where
-  of_tally : (b : Bool) (s' e' : ℤ) → formed half_open m ≡ true → day_of z y mo d ≡ Day.Span s' e' → strange (rank s') (rank e') (ranges half_open m) ≡ b
-      → with_keys s' e' (cond b (Tallied.Refused bad_status) (Tallied.Seconds (totals_of (rank s') (rank e') (ranges half_open m)))) ≡ Reported.Totals s e t → Told m z y mo d s e t
-  of_tally true s' e' w h c q = absurd (apart q)
+  of_tally : (b : Bool) (s' e' : ℤ) → formed half_open m ≡ true → day_of z y mo d ≡ Ok (bounds s' e') → strange (rank s') (rank e') (ranges half_open m) ≡ b
+      → with_keys s' e' (cond b (Err BadStatus) (Ok (totals_of (rank s') (rank e') (ranges half_open m)))) ≡ Ok (day_totals s e t) → Told m z y mo d s e t
+  of_tally true s' e' w h c q = cc
   of_tally false s' e' w h c q =
-      let a : s' ≡ s = cc in
-      let b : e' ≡ e = cc in
-      let u : totals_of (rank s') (rank e') (ranges half_open m) ≡ t = cc in
+      let r : day_totals s' e' (totals_of (rank s') (rank e') (ranges half_open m)) ≡ day_totals s e t = cc in
+      let a : s' ≡ s = ap (λ (x : DayTotals). x.day.start) r in
+      let b : e' ≡ e = ap (λ (x : DayTotals). x.day.end) r in
+      let u : totals_of (rank s') (rank e') (ranges half_open m) ≡ t = ap (λ (x : DayTotals). x.totals) r in
       record { well = w; day = rw (← a, ← b) h; calm = rw (← a, ← b) c; totals = sym (rw (a, b) at u) }
 
-  of_day : (x : Day) → formed half_open m ≡ true → day_of z y mo d ≡ x → day_report_sound m x ≡ Reported.Totals s e t → Told m z y mo d s e t
+  of_day : (x : Result Bounds Refusal) → formed half_open m ≡ true → day_of z y mo d ≡ x → day_report_sound m x ≡ Ok (day_totals s e t) → Told m z y mo d s e t
   unfolding tally_sound
-  of_day (Day.Span s' e') w h q = of_tally (strange (rank s') (rank e') (ranges half_open m)) s' e' w h refl q
-  of_day (Day.Refused n) w h q = absurd (apart q)
+  of_day (Ok b) w h q = of_tally (strange (rank b.start) (rank b.end) (ranges half_open m)) b.start b.end w h refl q
+  of_day (Err why) w h q = cc
 
-  pub told : day_report m z y mo d ≡ Reported.Totals s e t → Told m z y mo d s e t
+  pub told : day_report m z y mo d ≡ Ok (day_totals s e t) → Told m z y mo d s e t
   unfolding day_report
   told q = go (formed half_open m) refl q
     where
-      go : (b : Bool) → formed half_open m ≡ b → cond b (day_report_sound m (day_of z y mo d)) (Reported.Refused not_formed) ≡ Reported.Totals s e t → Told m z y mo d s e t
+      go : (b : Bool) → formed half_open m ≡ b → cond b (day_report_sound m (day_of z y mo d)) (Err NotFormed) ≡ Ok (day_totals s e t) → Told m z y mo d s e t
       go true w q = of_day (day_of z y mo d) w refl q
-      go false w q = absurd (apart q)
+      go false w q = cc
 
 -- THE ORDER OF REFUSALS
-pub not_formed_lem : (m : Stored) (z y mo d : ℕ) → formed half_open m ≡ false → day_report m z y mo d ≡ Reported.Refused not_formed
+pub not_formed_lem : (m : Stored) (z y mo d : ℕ) → formed half_open m ≡ false → day_report m z y mo d ≡ Err NotFormed
 unfolding day_report
 not_formed_lem m z y mo d h = rw h
 
-pub no_day_lem : (m : Stored) (z y mo d n : ℕ) → formed half_open m ≡ true → day_of z y mo d ≡ Day.Refused n → day_report m z y mo d ≡ Reported.Refused n
+pub no_day_lem : (m : Stored) (z y mo d : ℕ) {why : Refusal} → formed half_open m ≡ true → day_of z y mo d ≡ Err why → day_report m z y mo d ≡ Err BadDay
 unfolding day_report
-no_day_lem m z y mo d n h q = rw (h, q)
+no_day_lem m z y mo d h q = rw (h, q, refused_is z y mo d q)
 
-pub strange_day : (m : Stored) (z y mo d : ℕ) (s e : ℤ) → formed half_open m ≡ true → day_of z y mo d ≡ Day.Span s e → strange (rank s) (rank e) (ranges half_open m) ≡ true
-    → day_report m z y mo d ≡ Reported.Refused bad_status
+pub strange_day : (m : Stored) (z y mo d : ℕ) (s e : ℤ) → formed half_open m ≡ true → day_of z y mo d ≡ Ok (bounds s e) → strange (rank s) (rank e) (ranges half_open m) ≡ true
+    → day_report m z y mo d ≡ Err BadStatus
 unfolding day_report tally_sound
 strange_day m z y mo d s e h q c = rw (h, q, c)
 
 -- WHAT IS IN IT
-module _ (m : Stored) (z y mo d : ℕ) (s e : ℤ) (t : Totals) (q : day_report m z y mo d ≡ Reported.Totals s e t) where
+module _ (m : Stored) (z y mo d : ℕ) (s e : ℤ) (t : Totals) (q : day_report m z y mo d ≡ Ok (day_totals s e t)) where
   abbrev xs : List Span
   xs = ranges half_open m
 

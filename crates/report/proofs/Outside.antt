@@ -13,17 +13,18 @@ use Rattle.answers.specs.Answers.{done, empty_range, too_many, not_formed}
 use Rattle.span.specs.Span.{Span, at, Ordered, given}
 use Rattle.span.proofs.Tests.{Within, in_no}
 use Rattle.span.proofs.Laws.{tidy_given, at_given}
+use Rattle.std.specs.Prelude.{Ok}
 use Rattle.key.specs.Rank.{rank}
 use Rattle.key.specs.Range.{half_open}
 use Rattle.key.proofs.Lawful.{half_open_lawful}
-use Rattle.outcomes.specs.Stored.{places, Stored, ranges, storing, well_formed}
+use Rattle.outcomes.specs.Stored.{places, ranges, storing, well_formed}
+use Rattle.outcomes.specs.declared.Stored.{Stored}
 use Rattle.outcomes.specs.Outcomes.{leaving, edit_sound, edit, formed}
 use Rattle.outcomes.proofs.Formed as Formed
 use Rattle.outcomes.proofs.Edits.{edit_accepted, edit_ranges, edit_sound_lem, edit_length}
 use Rattle.duty.specs.Duty.{tally_sound}
 use Rattle.duty.proofs.Sums.{same_totals, same_strange}
-use Rattle.log_day.specs.Days.{day_of}
-use Rattle.log_day.specs.declared.Day.{Day}
+use Rattle.log_day.specs.Days.{bounds, day_of}
 use Rattle.report.specs.Report.{with_keys, day_report}
 use Rattle.report.proofs.Returns.{day_window}
 
@@ -52,11 +53,11 @@ kept_or_done m a b new = go (leb (rank b) (rank a)) (ltb places (length xs))
     go false false = inr refl
 
 -- of a well-formed map and a day the report is what is counted in it
-of_day : (m : Stored) (z y mo d : ℕ) {s e : ℤ} → formed half_open m ≡ true → day_of z y mo d ≡ Day.Span s e → day_report m z y mo d ≡ with_keys s e (tally_sound m s e)
+of_day : (m : Stored) (z y mo d : ℕ) {s e : ℤ} → formed half_open m ≡ true → day_of z y mo d ≡ Ok (bounds s e) → day_report m z y mo d ≡ with_keys s e (tally_sound m s e)
 unfolding day_report
 of_day m z y mo d h q = rw (h, q)
 
-module _ (m : Stored) (z y mo d : ℕ) {s e : ℤ} (day : day_of z y mo d ≡ Day.Span s e) (a b : ℤ) (new : Option ℕ) (off : Off a b s e) where
+module _ (m : Stored) (z y mo d : ℕ) {s e : ℤ} (day : day_of z y mo d ≡ Ok (bounds s e)) (a b : ℤ) (new : Option ℕ) (off : Off a b s e) where
   outside : (k : ℕ) → rank s ≤ k → k < rank e → Within (rank a) (rank b) k → ⊥
   outside k p q w = elim off [ earlier h ↦ omega arith | later h ↦ omega arith ]
 

@@ -5,12 +5,13 @@ use mathlib.Core.Path.{◌≡◌, refl, ap, ◌∙◌}
 use lib.IntN.{ℤ}
 use lib.Dec.{lt→ltb}
 use lib.Ieee.{binary64, of_bits}
+use Rattle.std.specs.Prelude.{Ok}
 use Rattle.key.specs.Rank.{rank}
+use Rattle.key.specs.declared.Bounds.{Bounds}
 use Rattle.key.proofs.Laws.{rank_pos}
 use Rattle.hours.specs.Hours.{hours_of}
 use Rattle.duty.specs.InnerWalk.{u32_limit}
-use Rattle.log_day.specs.Days.{day_of}
-use Rattle.log_day.specs.declared.Day.TheVariants as Day
+use Rattle.log_day.specs.Days.{bounds, day_of}
 use Rattle.log_day.proofs.Spans.{held, short, long, plain}
 
 -- 0.0 is the hours of no seconds
@@ -24,7 +25,7 @@ pub record Window (s e : ℤ) : Type 0 where
   pub at_least : 82800 ≤ rank e - rank s
   pub at_most : rank e - rank s ≤ 90000
 
-pub day_window : (z y m d : ℕ) {s e : ℤ} → day_of z y m d ≡ Day.Span s e → Window s e
+pub day_window : (z y m d : ℕ) {s e : ℤ} → day_of z y m d ≡ Ok (bounds s e) → Window s e
 day_window z y m d {s} {e} q =
     let h = held z y m d q in
     let a : rank s ≡ 2 ^ 63 + h.from = ap rank h.start_is ∙ rank_pos h.from (lt→ltb h.from (2 ^ 63) (omega arith)) in
@@ -35,5 +36,6 @@ day_window z y m d {s} {e} q =
       | plain n c i ↦ record { real = omega (arith, a, b); at_least = omega (arith, a, b); at_most = omega (arith, a, b) }
     ]
 
-pub window_short : {s e : ℤ} → Window s e → rank e - rank s < u32_limit
-window_short w = omega (arith, w.at_most)
+-- so its seconds can be counted
+pub countable : (z y m d : ℕ) {x : Bounds} → day_of z y m d ≡ Ok x → (rank x.start < rank x.end) × (rank x.end - rank x.start < u32_limit)
+countable z y m d q = let w = day_window z y m d q in (w.real, omega (arith, w.at_most))

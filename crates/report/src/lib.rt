@@ -3,24 +3,22 @@
 
 ghost use Rattle.std.specs.Prelude.{◌≡◌};
 ghost use Rattle.key.specs.Range.{half_open};
-ghost use Rattle.outcomes.specs.Stored.{stored, Sound};
-ghost use Rattle.outcomes.specs.Outcomes.{formed};
+ghost use Rattle.outcomes.specs.Stored.{Sound};
 ghost use Rattle.log_day.specs.Days.{day_of};
-ghost use Rattle.report.specs.Report.{with_keys, day_report_sound, day_report, reported_in_c};
+ghost use Rattle.report.specs.Report.{day_report_sound, day_report, reported_in_c};
 
-use answers::{DONE, NOT_FORMED};
-use duty::{Tallied, Totals};
+use answers::{DONE, Refusal};
+use duty::Totals;
 use hours::hours;
-use key::{Bounds, RangeKind, Value};
-use log_day::Day;
-use outcomes::PLACES;
+use key::{Bounds, RangeKind};
+use outcomes::Stored;
 use store::check::well_formed;
 
-// The day's start and end, and its seconds; or the number of a refusal.
-#[derive(Clone, Copy)]
-pub enum Reported {
-    Totals(i64, i64, Totals),
-    Refused(u8),
+// A day that is reported: its start and end, and the seconds of each duty in it.
+#[derive(Clone, Copy, Debug, PartialEq, Eq)]
+pub struct DayTotals {
+    pub day: Bounds,
+    pub totals: Totals,
 }
 
 // A report as C and Rust see it: answer 0 with all that it says, or 4, 8 or 10.
@@ -42,140 +40,83 @@ pub struct DayReport {
     pub unrecorded_hours: f64,
 }
 
-// The report of a day, with its hours.
-fn filled(start: i64, end: i64, t: Totals) -> DayReport
-    ensures { result ≡ reported_in_c (Reported.Totals start end t) }
-{
-    DayReport {
-        answer: DONE,
-        start: start,
-        end: end,
-        off_duty: t.off_duty,
-        sleeper_berth: t.sleeper_berth,
-        driving: t.driving,
-        on_duty: t.on_duty,
-        unrecorded: t.unrecorded,
-        off_duty_hours: hours(t.off_duty),
-        sleeper_berth_hours: hours(t.sleeper_berth),
-        driving_hours: hours(t.driving),
-        on_duty_hours: hours(t.on_duty),
-        unrecorded_hours: hours(t.unrecorded),
-    }
-}
+// With its hours. Of a refusal all but the number is 0.
+impl From<Result<DayTotals, Refusal>> for DayReport {
+    ghost from_gives = { λ a r. r ≡ reported_in_c a };
 
-// A refusal: all but the number is 0.
-fn refused(n: u8) -> DayReport
-    ensures { result ≡ reported_in_c (Reported.Refused n) }
-{
-    DayReport {
-        answer: n,
-        start: 0,
-        end: 0,
-        off_duty: 0,
-        sleeper_berth: 0,
-        driving: 0,
-        on_duty: 0,
-        unrecorded: 0,
-        off_duty_hours: 0.0,
-        sleeper_berth_hours: 0.0,
-        driving_hours: 0.0,
-        on_duty_hours: 0.0,
-        unrecorded_hours: 0.0,
-    }
-}
-
-// A report as C and Rust see it.
-pub fn report_of(r: Reported) -> DayReport
-    ensures { result ≡ reported_in_c r }
-{
-    match r {
-        Reported::Totals(start, end, t) => filled(start, end, t),
-        Reported::Refused(n) => refused(n),
-    }
-}
-
-// The seconds of a window, with its keys.
-fn with_keys(window: Bounds, t: Tallied) -> Reported
-    ensures { result ≡ with_keys window.start window.end t }
-{
-    match t {
-        Tallied::Seconds(totals) => Reported::Totals(window.start, window.end, totals),
-        Tallied::Refused(n) => Reported::Refused(n),
+    #[tactic(auto, using(crate::proofs::Returns::no_hours))]
+    fn from(reported: Result<DayTotals, Refusal>) -> DayReport {
+        match reported {
+            Ok(DayTotals { day, totals: t }) => DayReport {
+                answer: DONE,
+                start: day.start,
+                end: day.end,
+                off_duty: t.off_duty,
+                sleeper_berth: t.sleeper_berth,
+                driving: t.driving,
+                on_duty: t.on_duty,
+                unrecorded: t.unrecorded,
+                off_duty_hours: hours(t.off_duty),
+                sleeper_berth_hours: hours(t.sleeper_berth),
+                driving_hours: hours(t.driving),
+                on_duty_hours: hours(t.on_duty),
+                unrecorded_hours: hours(t.unrecorded),
+            },
+            Err(why) => DayReport {
+                answer: why.number(),
+                start: 0,
+                end: 0,
+                off_duty: 0,
+                sleeper_berth: 0,
+                driving: 0,
+                on_duty: 0,
+                unrecorded: 0,
+                off_duty_hours: 0.0,
+                sleeper_berth_hours: 0.0,
+                driving_hours: 0.0,
+                on_duty_hours: 0.0,
+                unrecorded_hours: 0.0,
+            },
+        }
     }
 }
 
 // The report of a well-formed map. The caller answers for the check.
-pub fn unchecked(
-    count: usize,
-    starts: &[i64],
-    ends: &[i64],
-    values: &[Value],
-    zone: u8,
-    year: u16,
-    month: u8,
-    day: u8,
-) -> Reported
-    requires { Sound half_open (stored count starts.now ends.now values.now) }
-    ensures { result ≡ day_report_sound (stored count starts.now ends.now values.now) (day_of zone year month day) }
+#[tactic(auto, using(crate::proofs::Returns::countable))]
+pub fn unchecked(m: &Stored, zone: u8, year: u16, month: u8, day: u8) -> Result<DayTotals, Refusal>
+    requires { Sound half_open m.now }
+    ensures { result ≡ day_report_sound m.now (day_of zone year month day) }
 {
-    let d = log_day::day_of(zone, year, month, day);
-    match d {
-        Day::Span(start, end) => {
-            let window = Bounds { start, end };
-            with_keys(window, duty::between(count, starts, ends, values, window))
-        }
-        Day::Refused(n) => Reported::Refused(n),
-    }
+    let bounds = log_day::day_of(zone, year, month, day)?;
+    let totals = duty::between(m, bounds)?;
+    Ok(DayTotals {
+        day: bounds,
+        totals,
+    })
 }
 
-// The report of any map, over all its fields.
-pub fn checked(
-    count: &usize,
-    starts: &[i64; PLACES],
-    ends: &[i64; PLACES],
-    values: &[Value; PLACES],
-    zone: u8,
-    year: u16,
-    month: u8,
-    day: u8,
-) -> Reported
-    ensures { result ≡ day_report (stored count.now starts.now ends.now values.now) zone year month day }
+// The report of any map.
+#[tactic(auto, unfolding(crate::specs::Report::day_report))]
+pub fn checked(m: &Stored, zone: u8, year: u16, month: u8, day: u8) -> Result<DayTotals, Refusal>
+    ensures { result ≡ day_report m.now zone year month day }
 {
-    if !well_formed(RangeKind::HalfOpen, *count, starts, ends, values) {
-        return Reported::Refused(NOT_FORMED);
+    if !well_formed(RangeKind::HalfOpen, m) {
+        return Err(Refusal::NotFormed);
     }
-    unchecked(*count, starts, ends, values, zone, year, month, day)
+    unchecked(m, zone, year, month, day)
 }
 
 // The same as C and Rust see it.
-pub fn day_report(
-    count: &usize,
-    starts: &[i64; PLACES],
-    ends: &[i64; PLACES],
-    values: &[Value; PLACES],
-    zone: u8,
-    year: u16,
-    month: u8,
-    day: u8,
-) -> DayReport
-    ensures { result ≡ reported_in_c (day_report (stored count.now starts.now ends.now values.now) zone year month day) }
+pub fn day_report(m: &Stored, zone: u8, year: u16, month: u8, day: u8) -> DayReport
+    ensures { result ≡ reported_in_c (day_report m.now zone year month day) }
 {
-    report_of(checked(count, starts, ends, values, zone, year, month, day))
+    DayReport::from(checked(m, zone, year, month, day))
 }
 
 // The same of a well-formed map. The caller answers for the check.
-pub fn day_report_unchecked(
-    count: &usize,
-    starts: &[i64; PLACES],
-    ends: &[i64; PLACES],
-    values: &[Value; PLACES],
-    zone: u8,
-    year: u16,
-    month: u8,
-    day: u8,
-) -> DayReport
-    requires { Sound half_open (stored count.now starts.now ends.now values.now) }
-    ensures { result ≡ reported_in_c (day_report_sound (stored count.now starts.now ends.now values.now) (day_of zone year month day)) }
+pub fn day_report_unchecked(m: &Stored, zone: u8, year: u16, month: u8, day: u8) -> DayReport
+    requires { Sound half_open m.now }
+    ensures { result ≡ reported_in_c (day_report_sound m.now (day_of zone year month day)) }
 {
-    report_of(unchecked(*count, starts, ends, values, zone, year, month, day))
+    DayReport::from(unchecked(m, zone, year, month, day))
 }

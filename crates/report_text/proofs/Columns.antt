@@ -9,7 +9,7 @@ use mir.Syntax.{w64}
 use mir.Val.{SFits, to_z, of_z}
 use mir.Facts.{to_z-of_z}
 use Rattle.text.specs.Text.{space, Adds, right_of, left_of}
-use Rattle.text.proofs.Laws.{length_right, length_left, adds_left}
+use Rattle.text.proofs.Laws.{length_right, length_left}
 use Rattle.decimal.specs.Decimal.{digits_text, decimal_text, signed_text}
 use Rattle.decimal.proofs.Digits.{length_u64, length_digits}
 use Rattle.decimal.proofs.Signs.{length_signed}
@@ -79,10 +79,3 @@ pub name_within : (name : List ℕ) {out out₁ : List ℕ} {at r : ℕ} → len
     → AddsWithin name_room (name_column name) out at out₁ r
 unfolding name_column
 name_within name h a = in_room (omega (arith, length_left 14 name)) a
-
--- a name, and spaces up to the end of its columns
-pub name_spaces : {name out out₁ out₂ : List ℕ} {at r₁ r₂ : ℕ} → AddsWithin name_room name out at out₁ r₁ → Adds (replicate (at + 14 - r₁) space) out₁ r₁ out₂ r₂
-    → AddsWithin name_room (name_column name) out at out₂ r₂
-name_spaces {name} {at = at} {r₁ = r} a b =
-    let n : at + 14 - r ≡ 14 - length name = omega (arith, a.adds.upto) in
-    name_within name (omega (arith, a.within, a.adds.upto)) (adds_left 14 name n a.adds b)

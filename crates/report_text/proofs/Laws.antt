@@ -4,10 +4,10 @@ use native.Mathlib.Omega.{arith}
 use mathlib.Core.Path.{◌≡◌, ap}
 use lib.IntN.{ℤ}
 use Rattle.key.specs.Rank.{rank}
-use Rattle.outcomes.specs.Stored.{Stored}
+use Rattle.outcomes.specs.declared.Stored.{Stored}
 use Rattle.duty.specs.declared.Totals.{Totals}
-use Rattle.report.specs.Report.{day_report}
-use Rattle.report.specs.declared.Reported.TheVariants as Reported
+use Rattle.std.specs.Prelude.{Ok}
+use Rattle.report.specs.Report.{day_totals, day_report}
 use Rattle.report.proofs.Laws.{report_sum}
 use Rattle.report_text.specs.Rows.{sum_seconds}
 use Rattle.report_text.specs.Times.{ten_thousandths}
@@ -28,7 +28,7 @@ unfolding ten_thousandths
 four_decimals n = omega arith
 
 -- THE SUM that a day's report shows is the length that it shows
-module _ (m : Stored) (z y mo d : ℕ) {s e : ℤ} {t : Totals} (q : day_report m z y mo d ≡ Reported.Totals s e t) where
+module _ (m : Stored) (z y mo d : ℕ) {s e : ℤ} {t : Totals} (q : day_report m z y mo d ≡ Ok (day_totals s e t)) where
   pub sum_is_length : sum_seconds t ≡ rank e - rank s
   unfolding sum_seconds
   sum_is_length = report_sum m z y mo d s e t q

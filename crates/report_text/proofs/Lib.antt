@@ -1,6 +1,5 @@
--- Rows (of the rows of a day), Columns (numbers and names in columns), Laws (what a report says), Clock (the clock tells its seconds),
+-- Columns (numbers and names in columns), Laws (what a report says), Clock (the clock tells its seconds),
 -- Cases (document 01's November day as text).
-pub mod Rows
 pub mod Columns
 pub mod Laws
 pub mod Clock

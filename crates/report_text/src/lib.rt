@@ -13,10 +13,13 @@ ghost use Rattle.report_text.specs.InnerRoom.{name_room, clock_room, report_line
 use decimal::{put_digits, put_i64_right, put_u64_right};
 use duty::Totals;
 use key::Bounds;
-use text::{put, put_byte, put_left, put_spaces};
+use text::{put, put_byte, put_left};
 
 // The rows of a day: the four duties, and unrecorded time.
 pub const ROWS: usize = 5;
+
+// The row of unrecorded time, the last.
+pub const UNRECORDED: usize = ROWS - 1;
 
 // The columns of a name.
 const NAME_ROOM: usize = 14;
@@ -44,6 +47,7 @@ pub fn put_clock(out: &mut [u8], at: usize, width: usize, n: u64) -> usize
 }
 
 // The nearest ten-thousandths of an hour of some seconds.
+#[tactic(auto, unfolding(crate::specs::Times::ten_thousandths))]
 fn ten_thousandths(n: u64) -> u64
     requires { n < 3600 }
     ensures { result ≡ ten_thousandths n }
@@ -108,63 +112,63 @@ pub fn put_name_column(out: &mut [u8], at: usize, name: &[u8]) -> usize
 }
 
 // The name of a row.
+#[tactic(auto, unfolding(crate::specs::Rows::row_name))]
+pub fn name_of(row: usize) -> &'static [u8]
+    requires { row < row_count }
+    ensures name { result.now ≡ row_name row }
+    ensures short { length result.now ≤ name_room }
+{
+    match row {
+        0 => b"off duty",
+        1 => b"sleeper berth",
+        2 => b"driving",
+        3 => b"on duty",
+        _ => b"unrecorded",
+    }
+}
+
+// The same in lent bytes.
 pub fn put_name(out: &mut [u8], at: usize, row: usize) -> usize
     requires { (row < row_count) × (at + name_room ≤ length out.old) }
     ensures { AddsWithin name_room (row_name row) out.old at out.new result }
 {
-    if row == 0 {
-        return put(out, at, b"off duty");
-    }
-    if row == 1 {
-        return put(out, at, b"sleeper berth");
-    }
-    if row == 2 {
-        return put(out, at, b"driving");
-    }
-    if row == 3 {
-        return put(out, at, b"on duty");
-    }
-    put(out, at, b"unrecorded")
+    put(out, at, name_of(row))
 }
 
-// The name of a row in its columns.
+// The same in its columns.
 pub fn put_row_column(out: &mut [u8], at: usize, row: usize) -> usize
     requires { (row < row_count) × (at + name_room ≤ length out.old) }
     ensures { AddsWithin name_room (name_column (row_name row)) out.old at out.new result }
 {
-    let to = put_name(out, at, row);
-    put_spaces(out, to, at + NAME_ROOM - to)
+    put_name_column(out, at, name_of(row))
 }
 
 // The seconds of a row.
+#[tactic(auto, unfolding(crate::specs::Rows::row_of))]
 pub fn seconds_of(t: Totals, row: usize) -> u32
     requires { row < row_count }
     ensures { result ≡ row_of t row }
 {
-    if row == 0 {
-        return t.off_duty;
-    }
-    if row == 1 {
-        return t.sleeper_berth;
-    }
-    if row == 2 {
-        return t.driving;
-    }
-    if row == 3 {
-        return t.on_duty;
-    }
-    t.unrecorded
+    let seconds = [
+        t.off_duty,
+        t.sleeper_berth,
+        t.driving,
+        t.on_duty,
+        t.unrecorded,
+    ];
+    seconds[row]
 }
 
 // All five added up.
+#[tactic(auto, unfolding(crate::specs::Rows::sum_seconds))]
 pub fn sum_of(t: Totals) -> u64
     ensures { result ≡ sum_seconds t }
 {
-    t.off_duty as u64
-        + t.sleeper_berth as u64
-        + t.driving as u64
-        + t.on_duty as u64
-        + t.unrecorded as u64
+    u64::from(t.off_duty)
+        + u64::from(t.sleeper_berth)
+        + u64::from(t.driving)
+        + u64::from(t.on_duty)
+        + u64::from(t.unrecorded)
 }
 
 // The seconds from the start of a range up to its end: none if that lies before. A difference of ranks never wraps.
@@ -173,10 +177,7 @@ pub fn seconds_between(range: Bounds) -> u64
 {
     let from = key::rank_of(range.start);
     let to = key::rank_of(range.end);
-    if from < to {
-        return to - from;
-    }
-    0
+    to.saturating_sub(from)
 }
 
 // The line of a key.
@@ -198,25 +199,14 @@ fn put_seconds_line(out: &mut [u8], at: usize, name: &[u8], n: u64) -> usize
     put_times(out, to, n)
 }
 
-// The line of a row.
-fn put_row_line(out: &mut [u8], at: usize, row: usize, n: u32) -> usize
-    requires { (row < row_count) × (at + report_line_room ≤ length out.old) }
-    ensures { AddsWithin report_line_room (seconds_line (row_name row) n) out.old at out.new result }
-{
-    let to = put_row_column(out, at, row);
-    put_times(out, to, n as u64)
-}
-
 // The lines of the five rows.
 fn put_rows(out: &mut [u8], at: usize, t: Totals) -> usize
     requires { at + row_count * report_line_room ≤ length out.old }
     ensures { AddsWithin (row_count * report_line_room) (row_lines t) out.old at out.new result }
 {
     let mut to = at;
-    let mut row = 0;
-    while row < ROWS {
-        to = put_row_line(out, to, row, seconds_of(t, row));
-        row += 1;
+    for row in 0..ROWS {
+        to = put_seconds_line(out, to, name_of(row), u64::from(seconds_of(t, row)));
     }
     to
 }

@@ -12,8 +12,9 @@ use Rattle.span.proofs.Tests.{tidy_yes}
 use Rattle.span.proofs.Cases.{comb}
 use Rattle.key.specs.Rank.{above_least, bit_rank, key_at}
 use Rattle.key.specs.Range.{half_open}
+use Rattle.key.specs.declared.Entry.{Entry}
 use Rattle.outcomes.specs.Stored.{places, spans, ranges, filled, storing}
-use Rattle.outcomes.specs.Outcomes.{Entry, edit_sound, bulk_insert_sound, clear}
+use Rattle.outcomes.specs.Outcomes.{edit_sound, bulk_insert_sound, clear}
 use Rattle.rust_algorithm.specs.Btree.{filtered, filtered_by, taken_while, reversed, taken, up_to, from_to, strictly_between, starting, starting_by}
 use Rattle.rust_algorithm.specs.Btree.{deleted}
 use Rattle.rust_algorithm.specs.Btree.{entered}

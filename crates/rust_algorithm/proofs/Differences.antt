@@ -13,20 +13,21 @@ use lib.IntN.{ℤ}
 use mir.Syntax.{w64}
 use mir.Val.{of_z}
 use borrow.Author.Tests.{lt-ltb, le-ltb, le-leb, lt-leb, eq-eqb, ne_eqb}
+use Rattle.std.specs.Prelude.{Err}
 use Rattle.answers.specs.Answers.{done, empty_range, too_many}
+use Rattle.answers.specs.declared.Refusal.TheVariants.{EmptyRange}
 use Rattle.span.specs.Span.{Span, span, inside, given}
 use Rattle.span.specs.Operations.{spans_overlap, any}
 use Rattle.span.proofs.Tests.{in_no}
 use Rattle.key.specs.Rank.{rank, keys}
 use Rattle.key.specs.Range.{Kind}
+use Rattle.key.specs.declared.Entry.{Entry}
 use Rattle.key.proofs.Laws.{rank_below}
 use Rattle.relations.specs.Relations as relations
-use Rattle.relations.specs.declared.Relation.TheVariants.{Empty}
-use Rattle.outcomes.specs.Stored.{places, Stored, ranges, storing, well_formed}
+use Rattle.outcomes.specs.Stored.{places, ranges, storing, well_formed}
+use Rattle.outcomes.specs.declared.Stored.{Stored}
 use Rattle.outcomes.specs.Outcomes.{not_written, Edited, leaving, edit_sound, edit, overlaps_sound, overlaps, overlapping_sound, overlapping, gaps_sound, gaps}
-use Rattle.outcomes.specs.Outcomes.{Entry, entry_change, bulk_insert_sound, span_edits}
-use Rattle.outcomes.specs.declared.Asked.TheVariants as Asked
-use Rattle.outcomes.specs.declared.Part.TheVariants as Part
+use Rattle.outcomes.specs.Outcomes.{entry_change, bulk_insert_sound, span_edits}
 use Rattle.rust_algorithm.specs.Btree.{filtered}
 use Rattle.rust_algorithm.specs.Map.{rust_ranges_overlap}
 use Rattle.rust_algorithm.specs.InclusiveMap.{inclusive_range_contains, inclusive_ranges_overlap}
@@ -56,15 +57,15 @@ inclusive_overlaps_says_no a b c d h = lt-leb (max a c) (min b d) (omega arith)
 -- an empty or reversed range
 module _ (kind : Kind) (s e : ℤ) (empty : kind.past e ≤ rank s) where
   -- the ledger refuses
-  pub contains_refused : (k : ℤ) → relations.range_contains kind s e k ≡ Empty
+  pub contains_refused : (k : ℤ) → relations.range_contains kind s e k ≡ Err EmptyRange
   unfolding relations.range_contains
   contains_refused k = rw (le-leb (kind.past e) (rank s) empty)
 
-  pub overlaps_refused : (s' e' : ℤ) → relations.ranges_overlap kind s e s' e' ≡ Empty
+  pub overlaps_refused : (s' e' : ℤ) → relations.ranges_overlap kind s e s' e' ≡ Err EmptyRange
   unfolding relations.ranges_overlap
   overlaps_refused s' e' = rw (le-leb (kind.past e) (rank s) empty)
 
-  pub touches_refused : (s' e' : ℤ) → relations.ranges_touch kind s e s' e' ≡ Empty
+  pub touches_refused : (s' e' : ℤ) → relations.ranges_touch kind s e s' e' ≡ Err EmptyRange
   unfolding relations.ranges_touch
   touches_refused s' e' = rw (le-leb (kind.past e) (rank s) empty)
 
@@ -76,7 +77,7 @@ module _ (kind : Kind) (s e : ℤ) (empty : kind.past e ≤ rank s) where
     is_kept = kept kind rust transcribed m is_well
 
     -- overlapping and overlaps of a map: the Rust gives the ranges with start < the query's end and end > its start, whether it is empty or not
-    pub overlaps_answers : (overlaps kind m s e ≡ Asked.Refused empty_range) × (rust.overlaps (rank s) (kind.past e) (ranges kind m)
+    pub overlaps_answers : (overlaps kind m s e ≡ Err EmptyRange) × (rust.overlaps (rank s) (kind.past e) (ranges kind m)
         ≡ any (spans_overlap (span (rank s) (kind.past e) 0)) (ranges kind m))
     unfolding overlaps overlaps_sound
     overlaps_answers = (
@@ -87,7 +88,7 @@ module _ (kind : Kind) (s e : ℤ) (empty : kind.past e ≤ rank s) where
       transcribed.same.overlaps_same (rank s) (kind.past e) (ranges kind m) (transcribed.ends_from e) is_kept,
     )
 
-    pub overlapping_answers : (overlapping kind m s e ≡ Part.Refused empty_range) × (rust.overlapping (rank s) (kind.past e) (ranges kind m)
+    pub overlapping_answers : (overlapping kind m s e ≡ Err EmptyRange) × (rust.overlapping (rank s) (kind.past e) (ranges kind m)
         ≡ filtered (spans_overlap (span (rank s) (kind.past e) 0)) (ranges kind m))
     unfolding overlapping overlapping_sound
     overlapping_answers = (
@@ -99,7 +100,7 @@ module _ (kind : Kind) (s e : ℤ) (empty : kind.past e ≤ rank s) where
     )
 
     -- gaps: the Rust gives no gap
-    pub gaps_answers : (starts ends : List ℤ) → (gaps kind m s e starts ends ≡ not_written empty_range starts ends)
+    pub gaps_answers : (starts ends : List ℤ) → (gaps kind m s e starts ends ≡ not_written EmptyRange starts ends)
         × (rust.gaps (rank s) (kind.past e) (ranges kind m) ≡ some [])
     unfolding gaps gaps_sound
     gaps_answers starts ends = (

@@ -1,14 +1,14 @@
 -- The list that stands for the BTreeMap: what its operations do where the entry in question is the first of a part of it.
-use Prim.Native.Nat.{ℕ, suc, ◌+◌, ◌≤◌, ◌<◌}
+use Prim.Native.Nat.{ℕ, suc, ◌≤◌, ◌<◌}
 use native.Mathlib.Omega.{arith}
 use native.Mathlib.Decide.{dec_lt}
-use mathlib.Core.Path.{◌≡◌, refl, ap}
+use mathlib.Core.Path.{◌≡◌, refl}
 use mathlib.Core.List.{List, [], ◌∷◌, ◌++◌}
 use mathlib.Core.Bool.{cond}
 use mathlib.Core.Option.{some, Option, none}
 use lib.Dec.{ltb}
-use lib.ListN.{length}
 use borrow.Author.Tests.{lt-ltb, le-ltb, le-leb, lt-leb, eq-eqb, ne_eqb}
+use Rattle.std.proofs.lemmas.List.{append_assoc}
 use Rattle.span.specs.Span.{Span, span, Ordered, Upto, keep}
 use Rattle.span.proofs.Holding.{ordered_from, ordered_right}
 use Rattle.rust_algorithm.specs.Btree.{rust_then, filtered, next, from_to, strictly_between, deleted, entered}
@@ -34,14 +34,6 @@ below_first b (y ∷ ys) x xs o = (omega (arith, (ordered_right y.hi ys (x ∷ x
 pub below_snoc : {c : ℕ} (m : List Span) (x : Span) → x.lo < c → Below c m → Below c (m ++ x ∷ [])
 below_snoc [] x h b = (h, tt)
 below_snoc (y ∷ ys) x h b = (b.0, below_snoc ys x h b.1)
-
-pub length_app : (xs ys : List Span) → length (xs ++ ys) ≡ length xs + length ys
-length_app [] ys = omega arith
-length_app (x ∷ xs) ys = omega (arith, length_app xs ys)
-
-pub snoc : (xs : List Span) (y : Span) (ys : List Span) → (xs ++ y ∷ []) ++ ys ≡ xs ++ y ∷ ys
-snoc [] y ys = refl
-snoc (x ∷ xs) y ys = ap (x ∷◌) (snoc xs y ys)
 
 -- range((Included(a), Included(b))).next()
 pub query_skip : (a b : ℕ) (ls rest : List Span) → Below a ls → from_to a b (ls ++ rest) ≡ from_to a b rest
@@ -104,7 +96,7 @@ module _ (x : Span) (s e : ℕ) (xs : List Span) (full : x.lo < x.hi) (real : s 
   unfolding cut_out
   cut_left ls b h =
       let new = span x.lo s x.label in
-      rw (deleted_here ls x xs b, lt-ltb x.lo s h, entered_here ls new xs b (ordered_from xs full rest), ← snoc ls new xs)
+      rw (deleted_here ls x xs b, lt-ltb x.lo s h, entered_here ls new xs b (ordered_from xs full rest), ← append_assoc ls (new ∷ []) xs)
       (put_right (ls ++ new ∷ []) (below_snoc ls new (omega arith) (below_more ls from b)))
 
 -- what comes after what may panic is the same where it is the same of each answer

@@ -11,7 +11,8 @@ use lib.ListN.{length, take}
 use lib.IntN.{ℤ}
 use mir.Syntax.{w64}
 use mir.Val.{SFits}
-use borrow.Author.Tests.{lt-ltb, le-ltb, le-leb, lt-leb, eqb-true, eqb-false, eq-eqb}
+use borrow.Author.Tests.{lt-ltb, le-ltb, le-leb, lt-leb, eqb-true, eq-eqb}
+use Rattle.std.specs.Prelude.{Ok}
 use Rattle.answers.specs.Answers.{done}
 use Rattle.span.specs.Span.{Span, span, inside, at, Ordered, Upto, given, Real, history, Edit}
 use Rattle.span.specs.Operations.{Plain, holds, uncovered, common, united}
@@ -21,19 +22,20 @@ use Rattle.span.proofs.Sets.{plain_at, at_zero}
 use Rattle.span.proofs.Walks.{tidy_spaced}
 use Rattle.key.specs.Rank.{rank, keys, lesser, greater}
 use Rattle.key.specs.Range.{Kind, half_open, inclusive, span_of}
+use Rattle.key.specs.declared.Entry.{Entry}
 use Rattle.key.proofs.Laws.{key_at_rank, rank_greater, lesser_fits, greater_fits}
 use Rattle.key.proofs.Lawful.{Lawful}
 use Rattle.relations.specs.Relations as relations
-use Rattle.relations.specs.declared.Common.{Common}
-use Rattle.outcomes.specs.Stored.{places, Stored, ranges, storing, well_formed}
+use Rattle.relations.specs.Relations.{Common}
+use Rattle.outcomes.specs.Stored.{places, ranges, storing, well_formed}
+use Rattle.outcomes.specs.declared.Stored.{Stored}
 use Rattle.outcomes.specs.Outcomes.{Edited, leaving, edit_sound, edit, clear, Change, edits, span_edits, first_place, range_at_sound}
 use Rattle.outcomes.specs.Outcomes.{yes_no, lookup_sound, contains_sound, overlaps_sound, overlapping_sound, gaps_sound, order_sound}
-use Rattle.outcomes.specs.Outcomes.{is_empty, count_of, range_at, lookup, contains, overlaps, overlapping, gaps, equal, order, bulk_insert_sound, Entry, entry_change}
+use Rattle.outcomes.specs.Outcomes.{is_empty, count_of, range_at, lookup, contains, overlaps, overlapping, gaps, equal, order, bulk_insert_sound, entry_change}
 use Rattle.outcomes.specs.Sets.{plain, SoundSet, intersection_sound, union_sound, intersection, union}
-use Rattle.outcomes.specs.declared.Counted.TheVariants as Counted
 use Rattle.outcomes.proofs.Formed.{formed, shape, length_ranges, get_or_ranges, sound_held}
 use Rattle.outcomes.proofs.Storing.{upto_ranges, sound_storing, length_storing}
-use Rattle.outcomes.proofs.Edits.{edit_accepted, edit_ranges, edit_sound_lem, edit_length, ranges_cleared}
+use Rattle.outcomes.proofs.Edits.{edit_accepted, edit_ranges, edit_sound_lem, edit_length, none_refused, ranges_cleared}
 use Rattle.outcomes.proofs.Bulk.{changes_puts, bulk_singles}
 use Rattle.outcomes.proofs.Sets.{plain_ranges, plain_storing}
 use Rattle.rust_algorithm.specs.Btree.{next_back, nth}
@@ -161,13 +163,6 @@ module _ (kind : Kind) (rust : Functions) (transcribed : Transcribed kind rust) 
   unfolding span_edits
   by_changes [] = tt
   by_changes (c ∷ cs) = (ends_by c.end, by_changes cs)
-
-  none_refused : (one rest : Edited) → (cond (eqb one.answer 0) rest one).answer ≡ 0 → (one.answer ≡ 0) × (rest.answer ≡ 0)
-  none_refused one rest h = go (eqb one.answer 0) refl h
-    where
-      go : (t : Bool) → eqb one.answer 0 ≡ t → (cond t rest one).answer ≡ 0 → (one.answer ≡ 0) × (rest.answer ≡ 0)
-      go true e h = (eqb-true one.answer 0 e, h)
-      go false e h = absurd (eqb-false one.answer 0 e h)
 
   record Ran (m : Stored) (cs : List Change) (o : Edited) : Type 0 where
     real : Real (span_edits kind cs)
@@ -325,7 +320,7 @@ module _ (kind : Kind) (rust : Functions) (transcribed : Transcribed kind rust) 
         same = rw (well m l, lt-leb (kind.past e) (rank s) real);
       }
 
-    len_equal : count_of kind m ≡ Counted.Count (length xs)
+    len_equal : count_of kind m ≡ Ok (length xs)
     unfolding count_of
     len_equal = rw (well m l, count_is)
 

@@ -6,8 +6,9 @@ use mathlib.Core.Path.{◌≡◌, refl, ap, sym, subst, ◌∙◌}
 use mathlib.Core.List.{List, [], ◌∷◌, ◌++◌}
 use mathlib.Core.Bool.{cond}
 use mathlib.Core.Option.{Option, some}
-use lib.ListN.{length}
+use lib.ListN.{length, length-append}
 use borrow.Author.Tests.{lt-ltb, le-ltb, eq-eqb, ne_eqb}
+use Rattle.std.proofs.lemmas.List.{append_assoc}
 use Rattle.span.specs.Span.{Span, span, inside, at, Ordered, Upto, Separate, Tidy, Means, keep, inserted}
 use Rattle.span.proofs.Tests.{lt_cases}
 use Rattle.span.proofs.Holding.{ordered_from, upto_keep}
@@ -16,7 +17,7 @@ use Rattle.span.proofs.Pieces.{Ahead, tidy_left, tidy_right, tidy_ahead, tidy_ap
 use Rattle.span.proofs.Local.{EndsBefore}
 use Rattle.rust_algorithm.specs.Btree.{if_let, entered}
 use Rattle.rust_algorithm.specs.Map.{State, state, rust_ranges_overlap, cut_out, adjust, candidate}
-use Rattle.rust_algorithm.proofs.Entries.{Below, below_first, length_app, snoc}
+use Rattle.rust_algorithm.proofs.Entries.{Below, below_first}
 use Rattle.rust_algorithm.proofs.Entries.{deleted_here, entered_here, cut_clear, cut_left}
 use Rattle.rust_algorithm.proofs.Candidate.{Reaches, candidate_none, candidate_first}
 use Rattle.rust_algorithm.proofs.Held.{upto_right, at_behind, at_laid, at_adopt, at_trim, at_split, at_swap, apart_alike, ahead_alike, ahead_ends}
@@ -142,7 +143,7 @@ body top go lo hi v m t h tidy u p loop =
     let s = p.s in
     let below : Below s ls = below_ahead 0 ls (span s p.e v) p.tidy.ordered p.ahead in
     let w = swallow top go ls s v p.e loop p.real (suc (length (ls ++ p.rest))) p.rest p.from p.separate (p.fits top u)
-    (omega (arith, length_app ls p.rest)) in
+    (omega (arith, length-append ls p.rest)) in
     let new = span s w.far v in
     let means : Means (ls ++ new ∷ w.left) (λ k. cond (inside lo hi k) (some v) (at m k)) = record {
       tidy = tidy_app ls new w.left (omega arith) p.tidy (ahead_alike ls (span s p.e v) new refl refl p.ahead) w.tidy;
@@ -206,14 +207,14 @@ module _ (lo hi v : ℕ) (real : lo < hi) (ls : List Span) (ends : EndsBefore lo
       rest = xs;
       s = lo;
       e = hi;
-      is = adjust_apart ls x xs lo hi v below n (omega arith) ∙ ap (λ m. state m lo hi) (sym (snoc ls x xs));
+      is = adjust_apart ls x xs lo hi v below n (omega arith) ∙ ap (λ m. state m lo hi) (sym (append_assoc ls (x ∷ []) xs));
       real = real;
-      tidy = tidy_left (ls ++ x ∷ []) xs (subst (Tidy 0) (sym (snoc ls x xs)) t);
+      tidy = tidy_left (ls ++ x ∷ []) xs (subst (Tidy 0) (sym (append_assoc ls (x ∷ []) xs)) t);
       ahead = ahead_snoc ls x (span lo hi v) right.ordered.1 (tidy_ahead ls x xs t) (record { past = omega arith; apart = λ j. n j.alike });
       from = ordered_from xs (omega arith) right.ordered.2;
       separate = right.separate.1;
       fits = λ c u. (upto_right c ls (x ∷ xs) u).1;
-      holds = λ k. ap (λ m. at m k) (snoc ls x (span lo hi v ∷ xs))
+      holds = λ k. ap (λ m. at m k) (append_assoc ls (x ∷ []) (span lo hi v ∷ xs))
           ∙ laid (x ∷ span lo hi v ∷ xs) k (at_swap lo hi v x xs k real right.ordered.1 (omega arith));
     }
 
@@ -270,7 +271,7 @@ module _ (lo hi v : ℕ) (real : lo < hi) (ls : List Span) (ends : EndsBefore lo
           from = from;
           separate = separate;
           fits = fits;
-          holds = λ k. ap (λ m. at m k) (snoc ls left (span lo hi v ∷ rest))
+          holds = λ k. ap (λ m. at m k) (append_assoc ls (left ∷ []) (span lo hi v ∷ rest))
               ∙ laid (left ∷ span lo hi v ∷ rest) k (at_split lo hi v x xs k real right.ordered.1 by to);
         }
 

@@ -13,7 +13,7 @@ use Rattle.span.specs.Span.{Span, span, Ordered}
 use Rattle.span.specs.Operations.{spans_overlap}
 use Rattle.span.proofs.Tests.{cases}
 use Rattle.outcomes.specs.Outcomes.{first_place, how_many, part_of}
-use Rattle.outcomes.specs.declared.Part.{Part}
+use Rattle.outcomes.specs.Answered.{Located, places_from}
 use Rattle.rust_algorithm.specs.Btree.{filtered, reversed, next, next_back, nth}
 use Rattle.rust_algorithm.specs.Equal.{PartGiven}
 
@@ -109,9 +109,9 @@ module _ (lo hi : ℕ) where
 
   pub part_gives : (b : ℕ) (xs : List Span) → lo < hi → Ordered b xs → PartGiven xs (part_of meets xs) (filtered meets xs)
   unfolding part_of
-  part_gives b xs h o = cases (eqb (how_many meets xs) 0) (λ (p : Part). PartGiven xs p (filtered meets xs))
-      (λ z. record { place = 0; count = 0; told = refl; same = none_there_span (eqb-true (how_many meets xs) 0 z) })
-      (λ z. record { place = first_place meets xs; count = how_many meets xs; told = refl; same = part_is b xs o })
+  part_gives b xs h o = cases (eqb (how_many meets xs) 0) (λ (p : Located). PartGiven xs p (filtered meets xs))
+      (λ z. record { part = places_from 0 0; told = refl; same = none_there_span (eqb-true (how_many meets xs) 0 z) })
+      (λ z. record { part = places_from (first_place meets xs) (how_many meets xs); told = refl; same = part_is b xs o })
     where
       none_there_span : how_many meets xs ≡ 0 → [] ≡ filtered meets xs
       none_there_span z = sym (ap (λ (n : ℕ). take n (drop (first_place meets xs) xs)) z) ∙ part_is b xs o

@@ -6,7 +6,7 @@ use mathlib.Core.Path.{◌≡◌, refl, ap, sym, ◌∙◌}
 use mathlib.Core.List.{List, [], ◌∷◌, ◌++◌, append-nil}
 use mathlib.Core.Bool.{cond}
 use mathlib.Core.Option.{Option, some, none}
-use lib.ListN.{length}
+use lib.ListN.{length, length-append}
 use Rattle.span.specs.Span.{Span, span, inside, at, Ordered, Upto, Separate, Tidy, Means, keep, removed}
 use Rattle.span.proofs.Tests.{below, among, beyond, place, in_yes, in_no, in_same, lt_cases}
 use Rattle.span.proofs.Holding.{at_app, at_keep, at_below, at_upto, or_none, ordered_from, upto_keep}
@@ -15,7 +15,7 @@ use Rattle.span.proofs.Pieces.{tidy_left, tidy_right, tidy_ahead, tidy_app}
 use Rattle.span.proofs.Local.{EndsBefore}
 use Rattle.rust_algorithm.specs.Btree.{if_let}
 use Rattle.rust_algorithm.specs.Map.{cut_out, remove_candidate}
-use Rattle.rust_algorithm.proofs.Entries.{Below, below_more, below_upto, below_first, length_app, cut_clear, cut_left}
+use Rattle.rust_algorithm.proofs.Entries.{Below, below_more, below_upto, below_first, cut_clear, cut_left}
 use Rattle.rust_algorithm.proofs.Candidate.{Reaches, ends_snoc, remove_none, remove_first}
 use Rattle.rust_algorithm.proofs.Held.{at_behind, at_head, upto_right, apart_alike, ahead_alike, ahead_ends}
 
@@ -95,7 +95,7 @@ module _ (lo hi : ℕ) (real : lo < hi) where
   body top go m t tidy u p loop =
       let ls = p.ls in
       let by = upto ls p.ends in
-      let w = clears top go ls loop (suc (length (ls ++ p.rest))) p.rest p.from p.separate (p.fits top u) (omega (arith, length_app ls p.rest)) in
+      let w = clears top go ls loop (suc (length (ls ++ p.rest))) p.rest p.from p.separate (p.fits top u) (omega (arith, length-append ls p.rest)) in
       let means : Means (ls ++ w.left) (λ k. cond (inside lo hi k) none (at m k)) = record {
         tidy = tidy_gap ls w.left p.tidy p.ends w.tidy;
         holds = λ k. at_app ls w.left k ∙ elim (place lo hi k) [

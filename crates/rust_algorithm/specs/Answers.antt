@@ -1,19 +1,17 @@
 -- The Rust's functions of one kind, over ranges as spans from lo up to hi; and what the ledger answers, in the words of `outcomes`, by what the Rust answers.
 use Prim.Native.Nat.{ℕ, ◌-◌, Ordering}
-use Rattle.std.specs.Prelude.{Bool, false, cond, List, [], ◌∷◌, eqb, ltb, length, ℤ}
+use Rattle.std.specs.Prelude.{Bool, false, cond, List, [], ◌∷◌, eqb, ltb, length, ℤ, Ok, Err, Some, None}
 use Rattle.std.proofs.Math.Option.{Option, some, none}
 use Rattle.answers.specs.Answers.{done, empty_range, too_many}
+use Rattle.answers.specs.declared.Refusal.TheVariants.{EmptyRange}
 use Rattle.span.specs.Span.{Span, inside, Edit}
 use Rattle.key.specs.Rank.{rank, key_at}
 use Rattle.key.specs.Range.{Kind}
-use Rattle.relations.specs.Relations.{related}
-use Rattle.relations.specs.declared.Relation.{Relation}
-use Rattle.relations.specs.declared.Relation.TheVariants.{Empty}
-use Rattle.relations.specs.declared.Common.{Common}
-use Rattle.relations.specs.declared.Common.TheVariants.{Between, Nothing}
-use Rattle.outcomes.specs.Stored.{places, Stored, ranges, storing}
+use Rattle.relations.specs.Relations.{Relation, Common, related}
+use Rattle.outcomes.specs.Stored.{places, ranges, storing}
+use Rattle.outcomes.specs.declared.Stored.{Stored}
 use Rattle.outcomes.specs.Outcomes.{Edited, leaving, Change}
-use Rattle.outcomes.specs.declared.Found.{Found}
+use Rattle.outcomes.specs.Answered.{Found, entry}
 use Rattle.rust_algorithm.specs.Map.{map_edit, map_history, map_extend, map_get_key_value, map_contains_key, map_overlapping, map_overlaps, map_gaps}
 use Rattle.rust_algorithm.specs.Map.{map_eq, map_cmp}
 use Rattle.rust_algorithm.specs.InclusiveMap.{inclusive_edit, inclusive_history, inclusive_extend, inclusive_get_key_value, inclusive_contains_key}
@@ -93,18 +91,18 @@ inclusive_rust add-one sub-one = record {
 
 -- yes or no of two ranges: 1 where the Rust panics
 abbrev pub related_by : Option Bool → Relation
-related_by none = Empty
+related_by none = Err EmptyRange
 related_by (some t) = related false t
 
 -- what two ranges have in common: 5 where there is nothing
 abbrev pub common_by : Kind → Option Span → Common
-common_by kind none = Nothing
-common_by kind (some x) = Between (key_at x.lo) (kind.ending x.hi)
+common_by kind none = None
+common_by kind (some x) = Some (record { start = key_at x.lo; end = kind.ending x.hi })
 
 -- an entry as an answer: 5 where there is none
 abbrev pub rust_found : Kind → Option Span → Found
-rust_found kind none = Found.Nothing
-rust_found kind (some x) = Found.Range (key_at x.lo) (kind.ending x.hi) x.label
+rust_found kind none = Ok None
+rust_found kind (some x) = Ok (Some (entry (key_at x.lo) (kind.ending x.hi) x.label))
 
 -- an edit: 1 where the Rust panics, 2 where it leaves more ranges than a map has places, and else the map that holds what it leaves
 abbrev pub edited_by : Kind → Stored → Option (List Span) → Edited

@@ -1,19 +1,21 @@
 -- EQUAL TO THE RUST on every input not refused: the statement, for a kind and the Rust's functions of that kind. `proofs/Equal` has that both kinds meet it.
-use Rattle.std.specs.Prelude.{ℕ, ◌<◌, ◌≡◌, false, List, [], ◌∷◌, map, length, take, drop, ℤ}
-use Rattle.std.proofs.Math.Option.{Option, some}
+use Rattle.std.specs.Prelude.{ℕ, ◌<◌, ◌≡◌, false, List, [], ◌∷◌, map, length, take, drop, ℤ, Ok}
 use Rattle.std.specs.Int.{w64}
+use Rattle.std.proofs.Math.Option.{Option, some}
 use Rattle.std.proofs.Common.{SFits}
 use Rattle.span.specs.Span.{Span}
 use Rattle.key.specs.Rank.{rank}
 use Rattle.key.specs.Range.{Kind, span_of}
+use Rattle.key.specs.declared.Entry.{Entry}
 use Rattle.relations.specs.Relations as relations
 use Rattle.relations.specs.Relations.{related}
-use Rattle.outcomes.specs.Stored.{places, Stored, ranges, storing, Sound}
-use Rattle.outcomes.specs.Outcomes.{Entry, Change, Written, into_lists, yes_no, compared_by, clear, edits, span_edits, bulk_insert_sound}
+use Rattle.outcomes.specs.Stored.{places, ranges, storing, Sound}
+use Rattle.outcomes.specs.declared.Stored.{Stored}
+use Rattle.outcomes.specs.Outcomes.{Change, Written, into_lists, yes_no, compared_by, clear, edits, span_edits, bulk_insert_sound}
 use Rattle.outcomes.specs.Outcomes.{is_empty, count_of, range_at, first_of, last_of, lookup, contains, overlaps, overlapping, gaps, equal, order}
 use Rattle.outcomes.specs.Sets.{SoundSet, intersection, union}
-use Rattle.outcomes.specs.declared.Counted.TheVariants as Counted
 use Rattle.outcomes.specs.declared.Part.{Part}
+use Rattle.outcomes.specs.Answered.{Located}
 use Rattle.rust_algorithm.specs.Btree.{nth}
 use Rattle.rust_algorithm.specs.Map.{map_first, map_last, map_len, map_is_empty}
 use Rattle.rust_algorithm.specs.Answers.{Functions, related_by, common_by, rust_found, rust_run}
@@ -24,11 +26,10 @@ pub record LentMap (kind : Kind) (m : Stored) : Type 0 where
   pub full_size : length m.starts ≡ places
 
 -- a part of a map's places: those are the entries that the Rust gives
-pub record PartGiven (xs : List Span) (part : Part) (given : List Span) : Type 0 where
-  pub place : ℕ
-  pub count : ℕ
-  pub told : part ≡ Part.Places place count
-  pub same : take count (drop place xs) ≡ given
+pub record PartGiven (xs : List Span) (answer : Located) (given : List Span) : Type 0 where
+  pub part : Part
+  pub told : answer ≡ Ok part
+  pub same : take part.count (drop part.place xs) ≡ given
 
 -- a list that is written: the Rust's iterator ends, and what it gave is written into the lent lists
 pub record ListGiven (kind : Kind) (given : Option (List Span)) (starts ends : List ℤ) (w : Written) : Type 0 where
@@ -69,7 +70,7 @@ module _ (kind : Kind) (rust : Functions) where
 
   -- each question of a map is answered as the Rust answers it of the ranges that the map holds
   pub record SameAnswers (m : Stored) : Type 0 where
-    pub len : count_of kind m ≡ Counted.Count (map_len (ranges kind m))
+    pub len : count_of kind m ≡ Ok (map_len (ranges kind m))
     pub is_empty_lem : is_empty kind m ≡ yes_no (map_is_empty (ranges kind m))
     pub iter : (i : ℕ) → range_at kind m i ≡ rust_found kind (nth i (ranges kind m))
     pub first : first_of kind m ≡ rust_found kind (map_first (ranges kind m))

@@ -1,7 +1,7 @@
 -- The struct `RangeSet` as a set.
-use Rattle.outcomes.specs.Stored.{Stored, stored}
+use Rattle.outcomes.specs.declared.Stored.{Stored}
 use Rattle.set.specs.declared.RangeSet.{RangeSet}
 
 -- what a `RangeSet` stores
 abbrev pub held : RangeSet → Stored
-held m = stored m.count m.starts m.ends m.values
+held m = m.stored

@@ -1,5 +1,6 @@
-// Module 5: the half-open set, from set.rs of rangemap. Its functions, which `hourledger_c` exports for C and Rust: each lends all the
-// fields of its set to a function of `set_abi`, which answers in numbers, or of `set_ops` or `map_ops` where these do. Rattle callers use `set_ops`.
+// Module 5: the half-open set, from set.rs of rangemap. Its functions, which `hourledger_c` exports for C and Rust: each lends the set that its struct
+// holds to a function of `set_abi`, which answers in numbers, or of `set_ops` or `map_ops` where these do. Rattle callers use `set_ops`. The functions
+// of `inclusive_set` are twins of these, since C calls each by a name and with a struct of its own.
 #![tactic(auto)]
 
 ghost use Rattle.set.specs.Promises.{RangeSetNew, RangeSetIsEmpty, RangeSetLen, RangeSetRangeAt, RangeSetFirst, RangeSetLast, RangeSetGet};
@@ -7,9 +8,9 @@ ghost use Rattle.set.specs.Promises.{RangeSetContains, RangeSetOverlaps, RangeSe
 ghost use Rattle.set.specs.Promises.{RangeSetRemove, RangeSetExtend, RangeSetClear, RangeSetWellFormed, RangeSetIntersection, RangeSetUnion};
 ghost use Rattle.set.specs.Promises.{RangeSetTotal};
 
-use key::{RangeKind, Value};
+use key::RangeKind;
 use operations::Operation;
-use outcomes::{Applied, Count, Order, PLACES, Range, Stretch, Told, Total};
+use outcomes::{Applied, Count, Order, Range, Stored, Stretch, Told, Total};
 
 // The kind of this set's ranges.
 const KIND: RangeKind = RangeKind::HalfOpen;
@@ -18,10 +19,7 @@ const KIND: RangeKind = RangeKind::HalfOpen;
 #[repr(C)]
 #[derive(Drop)]
 pub struct RangeSet {
-    pub count: usize,
-    pub starts: [i64; PLACES],
-    pub ends: [i64; PLACES],
-    pub values: [Value; PLACES],
+    pub stored: Stored,
 }
 
 // A new set, which covers nothing.
@@ -29,10 +27,7 @@ pub fn range_set_new() -> RangeSet
     ensures { RangeSetNew result }
 {
     RangeSet {
-        count: 0,
-        starts: [0; PLACES],
-        ends: [0; PLACES],
-        values: [0; PLACES],
+        stored: Stored::new(),
     }
 }
 
@@ -40,63 +35,63 @@ pub fn range_set_new() -> RangeSet
 pub fn range_set_is_empty(m: &RangeSet) -> Told
     ensures { RangeSetIsEmpty m.now result }
 {
-    set_abi::is_empty(KIND, &m.count, &m.starts, &m.ends, &m.values)
+    set_abi::is_empty(KIND, &m.stored)
 }
 
 // How many ranges are held.
 pub fn range_set_len(m: &RangeSet) -> Count
     ensures { RangeSetLen m.now result }
 {
-    set_abi::len(KIND, &m.count, &m.starts, &m.ends, &m.values)
+    set_abi::len(KIND, &m.stored)
 }
 
 // The range at a place.
 pub fn range_set_range_at(m: &RangeSet, place: usize) -> Range
     ensures { RangeSetRangeAt m.now place result }
 {
-    set_abi::range_at(KIND, &m.count, &m.starts, &m.ends, &m.values, place)
+    set_abi::range_at(KIND, &m.stored, place)
 }
 
 // The first range.
 pub fn range_set_first(m: &RangeSet) -> Range
     ensures { RangeSetFirst m.now result }
 {
-    set_abi::first(KIND, &m.count, &m.starts, &m.ends, &m.values)
+    set_abi::first(KIND, &m.stored)
 }
 
 // The last range.
 pub fn range_set_last(m: &RangeSet) -> Range
     ensures { RangeSetLast m.now result }
 {
-    set_abi::last(KIND, &m.count, &m.starts, &m.ends, &m.values)
+    set_abi::last(KIND, &m.stored)
 }
 
 // The range that holds the key.
 pub fn range_set_get(m: &RangeSet, key: i64) -> Range
     ensures { RangeSetGet m.now key result }
 {
-    set_abi::get(KIND, &m.count, &m.starts, &m.ends, &m.values, key)
+    set_abi::get(KIND, &m.stored, key)
 }
 
 // Whether some range holds the key.
 pub fn range_set_contains(m: &RangeSet, key: i64) -> Told
     ensures { RangeSetContains m.now key result }
 {
-    set_abi::contains(KIND, &m.count, &m.starts, &m.ends, &m.values, key)
+    set_abi::contains(KIND, &m.stored, key)
 }
 
 // Whether some range has a key of the query.
 pub fn range_set_overlaps(m: &RangeSet, start: i64, end: i64) -> Told
     ensures { RangeSetOverlaps m.now start end result }
 {
-    set_abi::overlaps(KIND, &m.count, &m.starts, &m.ends, &m.values, start, end)
+    set_abi::overlaps(KIND, &m.stored, start, end)
 }
 
 // Which consecutive stored part meets the query.
 pub fn range_set_overlapping(m: &RangeSet, start: i64, end: i64) -> Stretch
     ensures { RangeSetOverlapping m.now start end result }
 {
-    set_abi::overlapping(KIND, &m.count, &m.starts, &m.ends, &m.values, start, end)
+    set_abi::overlapping(KIND, &m.stored, start, end)
 }
 
 // The maximal uncovered ranges inside start..end, into the first places of two lent lists.
@@ -109,86 +104,56 @@ pub fn range_set_gaps(
 ) -> Count
     ensures { RangeSetGaps m.now start end out_starts.old out_starts.new out_ends.old out_ends.new result }
 {
-    set_abi::gaps(
-        KIND, &m.count, &m.starts, &m.ends, &m.values, start, end, out_starts, out_ends,
-    )
+    set_abi::gaps(KIND, &m.stored, start, end, out_starts, out_ends)
 }
 
 // Whether two sets hold the same ranges.
 pub fn range_set_eq(a: &RangeSet, b: &RangeSet) -> Told
     ensures { RangeSetEq a.now b.now result }
 {
-    set_abi::eq(
-        KIND, &a.count, &a.starts, &a.ends, &a.values, &b.count, &b.starts, &b.ends, &b.values,
-    )
+    set_abi::eq(KIND, &a.stored, &b.stored)
 }
 
 // Which of two sets comes first: -1, 0 or 1.
 pub fn range_set_cmp(a: &RangeSet, b: &RangeSet) -> Order
     ensures { RangeSetCmp a.now b.now result }
 {
-    set_abi::cmp(
-        KIND, &a.count, &a.starts, &a.ends, &a.values, &b.count, &b.starts, &b.ends, &b.values,
-    )
+    set_abi::cmp(KIND, &a.stored, &b.stored)
 }
 
 // Covers each instant of start..end, and no other.
 pub fn range_set_insert(m: &mut RangeSet, start: i64, end: i64) -> u8
     ensures { RangeSetInsert m.old m.new start end result }
 {
-    set_abi::insert(
-        KIND,
-        &mut m.count,
-        &mut m.starts,
-        &mut m.ends,
-        &mut m.values,
-        start,
-        end,
-    )
+    set_abi::insert(KIND, &mut m.stored, start, end)
 }
 
 // Uncovers exactly the instants of start..end.
 pub fn range_set_remove(m: &mut RangeSet, start: i64, end: i64) -> u8
     ensures { RangeSetRemove m.old m.new start end result }
 {
-    set_abi::remove(
-        KIND,
-        &mut m.count,
-        &mut m.starts,
-        &mut m.ends,
-        &mut m.values,
-        start,
-        end,
-    )
+    set_abi::remove(KIND, &mut m.stored, start, end)
 }
 
 // Inserts the ranges of two lent lists in order, up to the first refusal.
 pub fn range_set_extend(m: &mut RangeSet, starts: &[i64], ends: &[i64]) -> Applied
     ensures { RangeSetExtend m.old m.new starts.now ends.now result }
 {
-    set_ops::bulk::extend(
-        KIND,
-        &mut m.count,
-        &mut m.starts,
-        &mut m.ends,
-        &mut m.values,
-        starts,
-        ends,
-    )
+    set_ops::bulk::extend(KIND, &mut m.stored, starts, ends)
 }
 
 // Leaves nothing covered, whatever the set was.
 pub fn range_set_clear(m: &mut RangeSet)
     ensures { RangeSetClear m.old m.new }
 {
-    map_ops::change::clear(&mut m.count, &mut m.starts, &mut m.ends, &mut m.values)
+    map_ops::change::clear(&mut m.stored)
 }
 
 // Whether a map is well formed.
 pub fn range_set_well_formed(m: &RangeSet) -> bool
     ensures { RangeSetWellFormed m.now result }
 {
-    set_abi::well_formed(KIND, &m.count, &m.starts, &m.ends, &m.values)
+    set_abi::well_formed(KIND, &m.stored)
 }
 
 // The common points of two sets as maximal ranges, into the first places of two lent lists.
@@ -203,14 +168,8 @@ pub fn range_set_intersection(
     set_abi::combine(
         KIND,
         Operation::Intersection,
-        &a.count,
-        &a.starts,
-        &a.ends,
-        &a.values,
-        &b.count,
-        &b.starts,
-        &b.ends,
-        &b.values,
+        &a.stored,
+        &b.stored,
         out_starts,
         out_ends,
     )
@@ -228,14 +187,8 @@ pub fn range_set_union(
     set_abi::combine(
         KIND,
         Operation::Union,
-        &a.count,
-        &a.starts,
-        &a.ends,
-        &a.values,
-        &b.count,
-        &b.starts,
-        &b.ends,
-        &b.values,
+        &a.stored,
+        &b.stored,
         out_starts,
         out_ends,
     )
@@ -245,5 +198,5 @@ pub fn range_set_union(
 pub fn range_set_total(m: &RangeSet) -> Total
     ensures { RangeSetTotal m.now result }
 {
-    set_abi::total(KIND, &m.count, &m.starts, &m.ends, &m.values)
+    set_abi::total(KIND, &m.stored)
 }

@@ -1,4 +1,5 @@
 -- A set stays a set: an edit of value 0, or a removal, leaves all values 0. So a map that the functions of a set made is never refused by them.
+use Rattle.answers.specs.Refusals.{number}
 use Prim.Native.Nat.{ℕ, ◌<◌}
 use native.Mathlib.Omega.{arith}
 use mathlib.Core.Path.{◌≡◌, refl, sym, ap, ◌∙◌}
@@ -13,7 +14,8 @@ use Rattle.span.proofs.Laws.{at_given, tidy_given, never}
 use Rattle.span.proofs.Sets.{plain_at, at_zero}
 use Rattle.key.specs.Rank.{rank}
 use Rattle.key.specs.Range.{Kind}
-use Rattle.outcomes.specs.Stored.{places, Stored, ranges, well_formed}
+use Rattle.outcomes.specs.Stored.{places, ranges, well_formed}
+use Rattle.outcomes.specs.declared.Stored.{Stored}
 use Rattle.outcomes.specs.Sets.{plain, if_set}
 use Rattle.outcomes.specs.Outcomes.{leaving, edit_sound, edit, insert, remove}
 use Rattle.outcomes.proofs.Formed.{formed}
@@ -51,22 +53,22 @@ module _ (kind : Kind) (m : Stored) (s e : ℤ) where
       go false w h = absurd (omega arith)
 
   -- of a set, insert and remove are those of the map
-  pub set_insert_is : plain m ≡ true → if_set m (insert kind m s e 0) (λ n. leaving n m) ≡ insert kind m s e 0
-  set_insert_is p = if_set_lem m (λ n. leaving n m) p
+  pub set_insert_is : plain m ≡ true → if_set m (insert kind m s e 0) (λ why. leaving (number why) m) ≡ insert kind m s e 0
+  set_insert_is p = if_set_lem m (λ why. leaving (number why) m) p
 
-  pub set_remove_is : plain m ≡ true → if_set m (remove kind m s e) (λ n. leaving n m) ≡ remove kind m s e
-  set_remove_is p = if_set_lem m (λ n. leaving n m) p
+  pub set_remove_is : plain m ≡ true → if_set m (remove kind m s e) (λ why. leaving (number why) m) ≡ remove kind m s e
+  set_remove_is p = if_set_lem m (λ why. leaving (number why) m) p
 
   -- so what is accepted leaves a set
-  accepted_stays : (new : Option ℕ) → Nought new → let o = if_set m (edit kind m s e new) (λ n. leaving n m) in o.answer ≡ 0 → plain o.left ≡ true
+  accepted_stays : (new : Option ℕ) → Nought new → let o = if_set m (edit kind m s e new) (λ why. leaving (number why) m) in o.answer ≡ 0 → plain o.left ≡ true
   accepted_stays new z h = go (plain m) refl h
     where
       go : (t : Bool) → plain m ≡ t → let o = cond t (edit kind m s e new) (leaving not_formed m) in o.answer ≡ 0 → plain o.left ≡ true
       go true p h = stays new z p h
       go false p h = absurd (omega arith)
 
-  pub insert_stays : let o = if_set m (insert kind m s e 0) (λ n. leaving n m) in o.answer ≡ 0 → plain o.left ≡ true
+  pub insert_stays : let o = if_set m (insert kind m s e 0) (λ why. leaving (number why) m) in o.answer ≡ 0 → plain o.left ≡ true
   insert_stays h = accepted_stays (some 0) refl h
 
-  pub remove_stays : let o = if_set m (remove kind m s e) (λ n. leaving n m) in o.answer ≡ 0 → plain o.left ≡ true
+  pub remove_stays : let o = if_set m (remove kind m s e) (λ why. leaving (number why) m) in o.answer ≡ 0 → plain o.left ≡ true
   remove_stays h = accepted_stays none tt h

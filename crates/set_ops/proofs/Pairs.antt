@@ -5,7 +5,7 @@ use mathlib.Core.Path.{◌≡◌, refl}
 use mathlib.Core.List.{List, [], ◌∷◌}
 use lib.ListN.{length, get_or}
 use lib.IntN.{ℤ, pos}
-use Rattle.outcomes.specs.Outcomes.{Entry}
+use Rattle.key.specs.declared.Entry.{Entry}
 use Rattle.outcomes.specs.Sets.{pairs}
 
 abbrev entry : ℤ → ℤ → Entry

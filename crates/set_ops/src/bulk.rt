@@ -1,84 +1,52 @@
 // Bulk insert into a set: in list order, up to the first refusal. The set is checked once.
+// It is not the map's bulk insert with values of 0: nobody lends a list of zeros, and none of any length fits in fixed memory.
 ghost use Rattle.std.specs.Prelude.{◌≡◌};
+ghost use Rattle.answers.specs.Refusals.{number};
 ghost use Rattle.key.specs.Range.{kind_of};
-ghost use Rattle.outcomes.specs.Stored.{Sound, stored};
+ghost use Rattle.outcomes.specs.Stored.{Sound};
 ghost use Rattle.outcomes.specs.Outcomes.{bulk_insert, bulk_insert_sound, extended};
 ghost use Rattle.outcomes.specs.Sets.{if_set, pairs};
 
-use answers::{DONE, NOT_FORMED};
-use key::{RangeKind, Value};
-use outcomes::{Applied, Outcome, PLACES};
-use range_list::shorter;
-use store::check::well_formed;
-use store::plain::plain;
+use answers::{DONE, Refusal};
+use key::RangeKind;
+use outcomes::{Applied, Stored};
+use store::plain::is_set;
 
 // The ranges of two lent lists, into a set that is well formed.
-fn extend_formed(
-    kind: RangeKind,
-    count: &mut usize,
-    starts: &mut [i64; PLACES],
-    ends: &mut [i64; PLACES],
-    values: &mut [Value; PLACES],
-    new_starts: &[i64],
-    new_ends: &[i64],
-) -> Applied
-    requires { Sound (kind_of kind) (stored count.old starts.old ends.old values.old) }
-    ensures { extended result (stored count.new starts.new ends.new values.new)
-        ≡ bulk_insert_sound (kind_of kind) (stored count.old starts.old ends.old values.old) 0 (pairs new_starts.now new_ends.now) }
+fn extend_formed(kind: RangeKind, m: &mut Stored, new_starts: &[i64], new_ends: &[i64]) -> Applied
+    requires { Sound (kind_of kind) m.old }
+    ensures { extended result m.new
+        ≡ bulk_insert_sound (kind_of kind) m.old 0 (pairs new_starts.now new_ends.now) }
 {
-    let n = shorter(new_starts.len(), new_ends.len());
-    let mut i = 0;
-    while i < n {
-        let went = edit::insert(
-            kind,
-            count,
-            starts,
-            ends,
-            values,
-            new_starts[i],
-            new_ends[i],
-            0,
-        );
-        if let Outcome::Refused(answer) = went {
+    let n = new_starts.len().min(new_ends.len());
+    for i in 0..n {
+        let went = edit::insert(kind, m, new_starts[i], new_ends[i], 0);
+        if let Err(why) = went {
             return Applied {
-                answer: answer,
+                answer: why.number(),
                 applied: i,
             };
         }
-        i += 1;
     }
     Applied {
         answer: DONE,
-        applied: i,
+        applied: n,
     }
 }
 
 // The same, into any set.
-pub fn extend(
-    kind: RangeKind,
-    count: &mut usize,
-    starts: &mut [i64; PLACES],
-    ends: &mut [i64; PLACES],
-    values: &mut [Value; PLACES],
-    new_starts: &[i64],
-    new_ends: &[i64],
-) -> Applied
-    ensures { extended result (stored count.new starts.new ends.new values.new)
-        ≡ if_set (stored count.old starts.old ends.old values.old)
-        (bulk_insert (kind_of kind) (stored count.old starts.old ends.old values.old) (pairs new_starts.now new_ends.now))
-        (λ n. extended (record { answer = n; applied = 0 }) (stored count.old starts.old ends.old values.old)) }
+#[tactic(auto, unfolding(outcomes::specs::Outcomes::bulk_insert))]
+pub fn extend(kind: RangeKind, m: &mut Stored, new_starts: &[i64], new_ends: &[i64]) -> Applied
+    ensures { extended result m.new
+        ≡ if_set m.old
+        (bulk_insert (kind_of kind) m.old (pairs new_starts.now new_ends.now))
+        (λ why. extended (record { answer = number why; applied = 0 }) m.old) }
 {
-    if !plain(values) {
+    if !is_set(kind, m) {
         return Applied {
-            answer: NOT_FORMED,
+            answer: Refusal::NotFormed.number(),
             applied: 0,
         };
     }
-    if !well_formed(kind, *count, starts, ends, values) {
-        return Applied {
-            answer: NOT_FORMED,
-            applied: 0,
-        };
-    }
-    extend_formed(kind, count, starts, ends, values, new_starts, new_ends)
+    extend_formed(kind, m, new_starts, new_ends)
 }

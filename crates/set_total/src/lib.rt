@@ -5,14 +5,13 @@ ghost use Rattle.std.specs.Prelude.{◌≡◌, ◌-◌, ◌≤◌, ◌<◌};
 ghost use Rattle.key.specs.InnerDecides.{Decides};
 ghost use Rattle.key.specs.Rank.{rank, keys};
 ghost use Rattle.key.specs.Range.{kind_of};
-ghost use Rattle.outcomes.specs.Stored.{stored};
 ghost use Rattle.outcomes.specs.Sets.{SoundSet, total_sound, total_of};
 ghost use Rattle.two_sets.specs.InnerSides.{Side};
-ghost use Rattle.set_total.specs.InnerSum.{columns_total};
+ghost use Rattle.set_total.specs.InnerSum.{rows_total};
 
-use answers::{NOT_FORMED, TOTAL_OVER};
-use key::{RangeKind, Value};
-use outcomes::{PLACES, Totalled};
+use answers::Refusal;
+use key::RangeKind;
+use outcomes::Stored;
 use store::plain::is_set;
 use two_sets::width;
 
@@ -25,67 +24,43 @@ fn apart(start: i64, end: i64) -> u64
 }
 
 // Whether the set is the one range of all keys. No u64 holds its total, and it is the only such set.
-fn full(kind: RangeKind, starts: &[i64], ends: &[i64], count: usize) -> bool
-    requires { Side (kind_of kind) starts.now ends.now count }
-    ensures { Decides result (keys ≤ columns_total kind starts.now ends.now count) }
+fn full(kind: RangeKind, m: &Stored) -> bool
+    requires { Side (kind_of kind) m.now }
+    ensures { Decides result (keys ≤ rows_total kind m.now) }
 {
-    if width(kind) == 0 {
-        return false;
-    }
-    if count == 0 {
-        return false;
-    }
-    let below = apart(starts[0], ends[0]);
-    if below == 18446744073709551615 {
-        return true;
-    }
-    false
+    width(kind) == 1 && m.count > 0 && apart(m.starts[0], m.ends[0]) == u64::MAX
 }
 
 // The lengths, added up.
-fn sum(kind: RangeKind, starts: &[i64], ends: &[i64], count: usize) -> u64
-    requires { Side (kind_of kind) starts.now ends.now count × (columns_total kind starts.now ends.now count < keys) }
-    ensures { result ≡ columns_total kind starts.now ends.now count }
+fn sum(kind: RangeKind, m: &Stored) -> u64
+    requires { Side (kind_of kind) m.now × (rows_total kind m.now < keys) }
+    ensures { result ≡ rows_total kind m.now }
 {
     let mut total = 0;
-    let mut k = 0;
-    while k < count {
-        total += apart(starts[k], ends[k]) + width(kind);
-        k += 1;
+    for k in 0..m.count {
+        total += apart(m.starts[k], m.ends[k]) + width(kind);
     }
     total
 }
 
 // THE UNCHECKED DOOR: the set must be sound. The values are lent as a part of the set, and none is read.
-pub fn total_unchecked(
-    kind: RangeKind,
-    count: usize,
-    starts: &[i64],
-    ends: &[i64],
-    values: &[Value],
-) -> Totalled
-    requires { SoundSet (kind_of kind) (stored count starts.now ends.now values.now) }
-    ensures { result ≡ total_sound (kind_of kind) (stored count starts.now ends.now values.now) }
+pub fn total_unchecked(kind: RangeKind, m: &Stored) -> Result<u64, Refusal>
+    requires { SoundSet (kind_of kind) m.now }
+    ensures { result ≡ total_sound (kind_of kind) m.now }
 {
-    if full(kind, starts, ends, count) {
-        return Totalled::Refused(TOTAL_OVER);
+    if full(kind, m) {
+        return Err(Refusal::TotalOver);
     }
-    let n = sum(kind, starts, ends, count);
-    Totalled::Total(n)
+    Ok(sum(kind, m))
 }
 
 // Any set is taken.
-pub fn total(
-    kind: RangeKind,
-    count: &usize,
-    starts: &[i64; PLACES],
-    ends: &[i64; PLACES],
-    values: &[Value; PLACES],
-) -> Totalled
-    ensures { result ≡ total_of (kind_of kind) (stored count.now starts.now ends.now values.now) }
+#[tactic(auto, unfolding(outcomes::specs::Sets::total_of))]
+pub fn total(kind: RangeKind, m: &Stored) -> Result<u64, Refusal>
+    ensures { result ≡ total_of (kind_of kind) m.now }
 {
-    if !is_set(kind, *count, starts, ends, values) {
-        return Totalled::Refused(NOT_FORMED);
+    if !is_set(kind, m) {
+        return Err(Refusal::NotFormed);
     }
-    total_unchecked(kind, *count, starts, ends, values)
+    total_unchecked(kind, m)
 }

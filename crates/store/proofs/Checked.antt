@@ -6,19 +6,36 @@ use native.Mathlib.Numerals.{add-one}
 use mir.Facts.{sfits_lit}
 use mathlib.Core.Path.{◌≡◌, refl, sym, ap, subst, ◌∙◌}
 use mathlib.Core.Logic.{◌⊎◌, inl, inr, ⊎_elim}
-use mathlib.Core.Bool.{Bool, true, false}
+use mathlib.Core.Bool.{Bool, true, false, not}
+use borrow.Author.Tests.{eq-eqb, ne_eqb}
+use lib.Dec.{eqb}
+use Rattle.key.proofs.Answers.{holds, fails, never}
+use Rattle.std.specs.Bool.{MatchBool}
+use Rattle.std.specs.List.{AllWithin, HoldsAt, range_with_len}
+use Rattle.std.proofs.lemmas.List.FromFn.{length-range_with_len, get_or-range_with_len}
 use lib.ListN.{length, get_or}
 use Rattle.span.specs.Span.{span, Tidy}
 use Rattle.span.proofs.Pieces.{tidy_places, places_tidy}
 use Rattle.key.specs.InnerDecides.{Decides}
 use Rattle.key.specs.Range.{Kind}
-use Rattle.outcomes.specs.Stored.{places, Stored, ranges, well_formed, AllFit, Sound}
+use Rattle.outcomes.specs.Stored.{places, ranges, well_formed, AllFit, Sound}
+use Rattle.outcomes.specs.declared.Stored.{Stored}
 use Rattle.outcomes.proofs.Formed.{Formed, Shaped, formed, well_formed_lem, length_ranges, get_or_ranges}
 use Rattle.store.specs.InnerCheck.{span_at, Step, Follows, Steps, Keys, Unused}
 
 pub refused : (t : Bool) → (t ≡ true → ⊥) → false ≡ t
 refused true h = absurd (h refl)
 refused false h = refl
+
+-- the test that two numbers differ
+pub differ : (a b : ℕ) → Decides (not (eqb a b)) (a ≡ b → ⊥)
+differ a b = elim (dec_lt a b) [
+  | yes h ↦ rw (ne_eqb a b (λ e. omega arith)) (holds (λ e. omega arith))
+  | no h ↦ elim (dec_lt b a) [
+    | yes i ↦ rw (ne_eqb a b (λ e. omega arith)) (holds (λ e. omega arith))
+    | no i ↦ rw (eq-eqb a b (omega arith)) (fails (λ f. f (omega arith)))
+  ]
+]
 
 -- a place that has a next, and the last place
 pub follows_step : {kind : Kind} {m : Stored} {k : ℕ} → Follows kind m k → Step kind m k
@@ -33,6 +50,18 @@ all_steps kind m last e f l k h =
       | yes p ↦ follows_step (f k p)
       | no p ↦ let q : last ≡ k = omega arith in record { full = subst (λ (j : ℕ). (span_at kind m j).lo < (span_at kind m j).hi) q l; past = λ i. absurd (omega arith); unlike = λ i. absurd (omega arith) }
     ]
+
+-- what `all` over the numbers below n answers
+pub all_below : (good bad : ℕ → Type 0) (n : ℕ) (r : Bool)
+    → MatchBool r (AllWithin good (range_with_len 0 n) 0 (length (range_with_len 0 n))) ((k : ℕ) × (k < length (range_with_len 0 n)) × HoldsAt bad (range_with_len 0 n) k)
+    → (r ≡ true → (k : ℕ) → k < n → good k) × (r ≡ false → (k : ℕ) × (k < n) × bad k)
+all_below good bad n true h = (λ _ k l. subst good (at k l) (h k 0 (omega arith) (omega (arith, length-range_with_len))), λ e. never (sym e))
+  where
+    at : (k : ℕ) → k < n → get_or (range_with_len 0 n) k 0 ≡ k
+    at k l = get_or-range_with_len 0 n k 0 l ∙ omega arith
+all_below good bad n false h =
+    let l : h.0 < n = omega (arith, length-range_with_len, h.1) in
+    (λ e. never e, λ _. (h.0, l, subst bad (get_or-range_with_len 0 n h.0 0 l ∙ omega arith) (h.2 0)))
 
 -- b is the greatest key at which the next range may not begin: e, the end of a half-open range, where the two values v and w are the same, else the key before
 module _ {v w e b : ℕ} (same : v ≡ w → b ≡ e) (other : (v ≡ w → ⊥) → b + 1 ≡ e) where
@@ -98,10 +127,11 @@ module _ (kind : Kind) {n : ℕ} {m : Stored} (shape : Shaped n m) where
   )
 
 -- what the check found of the columns of a whole map, as the callers ask for it
-pub whole : (kind : Kind) {m : Stored} {r : Bool} → Shaped (length m.starts) m → length m.starts ≡ places → r ≡ well_formed kind (length m.starts) m
-    → (r ≡ true → AllFit m.starts × AllFit m.ends)
-    → (r ≡ well_formed kind places m) × ((r ≡ true → Sound kind m) × (r ≡ true → length m.starts ≡ places))
-whole kind {m} shape n e f = (
-  e ∙ ap (λ (k : ℕ). well_formed kind k m) n,
-  ((λ t. record { ends_as = shape.ends; values_as = shape.values; starts_fit = (f t).0; ends_fit = (f t).1; well = sym e ∙ t }), λ _. n),
-)
+pub whole : (kind : Kind) {m : Stored} {r : Bool} → Shaped places m → r ≡ well_formed kind places m → (r ≡ true → AllFit m.starts × AllFit m.ends) → r ≡ true → Sound kind m
+whole kind {m} shape e f t = record {
+  ends_as = omega arith;
+  values_as = omega arith;
+  starts_fit = (f t).0;
+  ends_fit = (f t).1;
+  well = ap (λ (k : ℕ). well_formed kind k m) shape.starts ∙ sym e ∙ t;
+}

@@ -4,18 +4,21 @@ use Prim.Native.Nat.{ℕ, zero, suc, ◌+◌, ◌-◌, ◌/◌, ◌≤◌, ◌<�
 use native.Mathlib.Omega.{arith}
 use native.Mathlib.Decide.{dec_lt}
 use native.Mathlib.Numerals.{add-one}
-use mathlib.Core.Path.{◌≡◌, refl, subst}
-use mathlib.Core.Bool.{Bool, true, false, cond}
+use mathlib.Core.Path.{◌≡◌, refl, sym, subst, ◌∙◌}
+use mathlib.Core.Bool.{Bool, true, false, cond, not}
 use mathlib.Core.List.{List}
 use borrow.Author.Tests.{le-ltb}
-use lib.ListN.{length, get_or}
+use lib.ListN.{length, get_or, take, drop, length-drop}
+use lib.Seq.{get_or-take, get_or-drop, length-take-le}
 use lib.IntN.{ℤ, pos}
 use Rattle.key.specs.Rank.{rank, lesser}
 use Rattle.key.specs.Range.{Kind}
 use Rattle.key.specs.InnerDecides.{Decides}
-use Rattle.key.proofs.Answers.{neither_less, not_full}
+use Rattle.key.proofs.Answers.{neither_less, not_full, never}
+use Rattle.std.specs.List.{AllWithin, HoldsAt}
 use Rattle.key.proofs.Lawful.{Lawful}
-use Rattle.outcomes.specs.Stored.{Stored, Sound}
+use Rattle.outcomes.specs.Stored.{Sound}
+use Rattle.outcomes.specs.declared.Stored.{Stored}
 use Rattle.outcomes.proofs.Formed.{Formed, Shaped, shape, good}
 use Rattle.store.specs.InnerSearch.{Ascends, Reached, FirstPast}
 use Rattle.store.proofs.Checked.{formed_steps}
@@ -109,3 +112,42 @@ module _ {kind : Kind} {n : ℕ} {l : List ℤ} {k : ℤ} where
 
   pub first_past_one : {from p q : ℕ} → FirstPast kind n l from k p → FirstPast kind n l from k q → p ≡ q
   first_past_one a b = neither_less _ _ (past_first a b) (past_first b a)
+
+-- THE WALK: what a test of a place says, and where the first place is that it finds
+pub passed : {a b : ℕ} → (r : Bool) × Decides r (a < b) × (true ≡ not r) → b ≤ a
+passed (false, d, e) = not_full d refl
+passed (true, d, e) = never (sym e)
+
+pub not_passed : {a b : ℕ} → (r : Bool) × Decides r (a < b) × (false ≡ not r) → a < b
+not_passed (true, d, e) = d.right refl
+not_passed (false, d, e) = never e
+
+-- the keys from `from` up to n, and what the first of them that lies past a range up to `end` says of all
+module _ (kind : Kind) (keys : List ℤ) (end : ℤ) (from n : ℕ) (start : from ≤ n) (held : n ≤ length keys) where
+  abbrev part : List ℤ
+  part = take (n - from) (drop from keys)
+
+  abbrev pub Before : ℤ → Type 0
+  Before z = rank z < kind.past end
+
+  abbrev pub Past : ℤ → Type 0
+  Past z = kind.past end ≤ rank z
+
+  many : length part ≡ n - from
+  many = length-take-le (n - from) (drop from keys) (omega (arith, length-drop from keys))
+
+  at_part : (j : ℕ) → j < n - from → get_or part j (pos 0) ≡ get_or keys (from + j) (pos 0)
+  at_part j h = get_or-take (n - from) (drop from keys) j (pos 0) h ∙ get_or-drop from keys j (pos 0)
+
+  before_part : (m : ℕ) → m ≤ n - from → AllWithin Before part 0 m → (j : ℕ) → j < from + m → from ≤ j → Before (get_or keys j (pos 0))
+  before_part m b f j h i =
+      let e : from + (j - from) ≡ j = omega arith in
+      rw e at (rw (at_part (j - from) (omega arith)) at (f (j - from) (pos 0) (omega arith) (omega arith)))
+
+  pub found_none : AllWithin Before part 0 (length part) → FirstPast kind n keys from end n
+  found_none f = record { from = start; within = omega arith; before = λ j h i. before_part (n - from) (omega arith) (rw many at f) j (omega arith) i; at = λ h. absurd (omega arith) }
+
+  pub found_some : (i : ℕ) → (i < length part) × HoldsAt Past part i × AllWithin Before part 0 i → FirstPast kind n keys from end (from + i)
+  found_some i f =
+      let h : i < n - from = omega (arith, f.0, many) in
+      record { from = omega arith; within = omega arith; before = λ j l b. before_part i (omega arith) f.2 j l b; at = λ _. rw (at_part i h) at (f.1 (pos 0)) }

@@ -11,13 +11,11 @@ pub fn first_past(kind: RangeKind, starts: &[i64], from: usize, count: usize, en
     requires { (from ≤ count) × (count ≤ length starts.now) }
     ensures { FirstPast (kind_of kind) count starts.now from end result }
 {
-    let mut k = from;
-    while k < count {
-        let first = starts[k];
-        if !full(kind, first, end) {
-            return k;
-        }
-        k += 1;
+    match starts[from..count]
+        .iter()
+        .position(|start| !full(kind, *start, end))
+    {
+        Some(n) => from + n,
+        None => count,
     }
-    k
 }

@@ -3,7 +3,7 @@
 
 ghost use Rattle.std.specs.Prelude.{◌≡◌, ◌+◌, ◌*◌, ◌≤◌, ◌<◌, length};
 ghost use Rattle.key.specs.Range.{half_open};
-ghost use Rattle.outcomes.specs.Stored.{stored, ranges};
+ghost use Rattle.outcomes.specs.Stored.{ranges};
 ghost use Rattle.filling.specs.Filling.{series, AddsWithin};
 ghost use Rattle.report_text.specs.Rows.{row_count, row_name};
 ghost use Rattle.graph_text.specs.Grid.{Drawable};
@@ -13,12 +13,10 @@ ghost use Rattle.svg_text.specs.InnerRoom.{text_room, mark_room, marks_room, row
 
 use duty::Totals;
 use filling::fill;
-use graph_text::{clock_hour, is_marked, quarters_of};
-use report_text::{ROWS, put_clock, put_name, seconds_of, sum_of};
+use graph_text::{DrawnDay, clock_hour, is_marked, quarters_of};
+use outcomes::Stored;
+use report_text::{ROWS, UNRECORDED, name_of, put_clock, seconds_of, sum_of};
 use text::put;
-
-// The row of unrecorded time.
-const UNRECORDED: usize = 4;
 
 // The most bytes that a picture takes.
 pub const SVG_ROOM: usize = 29400;
@@ -57,10 +55,8 @@ fn put_hour_rules(out: &mut [u8], at: usize, n: usize) -> usize
     ensures { AddsWithin 754 (series hour_rule n) out.old at out.new result }
 {
     let mut to = at;
-    let mut i = 0;
-    while i < n {
+    for i in 0..n {
         to = put_hour_rule(out, to, i);
-        i += 1;
     }
     to
 }
@@ -90,10 +86,8 @@ fn put_row_rules(out: &mut [u8], at: usize, w: u64) -> usize
     ensures { AddsWithin 288 (series (row_rule w) (row_count + 1)) out.old at out.new result }
 {
     let mut to = at;
-    let mut j = 0;
-    while j <= ROWS {
+    for j in 0..=ROWS {
         to = put_row_rule(out, to, w, j);
-        j += 1;
     }
     to
 }
@@ -124,10 +118,8 @@ fn put_hour_texts(out: &mut [u8], at: usize, n: usize) -> usize
     ensures { AddsWithin 1750 (series (hour_svg n) n) out.old at out.new result }
 {
     let mut to = at;
-    let mut h = 0;
-    while h < n {
+    for h in 0..n {
         to = put_hour_text(out, to, n, h);
-        h += 1;
     }
     to
 }
@@ -155,17 +147,6 @@ fn put_label(out: &mut [u8], at: usize, y: u64, name: &[u8]) -> usize
     put(out, to, b"</text>\n")
 }
 
-// The name of a row.
-fn put_row_label(out: &mut [u8], at: usize, row: usize) -> usize
-    requires { (row < row_count) × (at + 60 ≤ length out.old) }
-    ensures { AddsWithin 60 (name_svg (49 + 24 * row) (row_name row)) out.old at out.new result }
-{
-    let numbers = [49 + 24 * row as u64];
-    let word = fill(out, at, b"<text x=\"6\" y=\"{\">", &numbers);
-    let to = put_name(out, word, row);
-    put(out, to, b"</text>\n")
-}
-
 // A total behind the quarters, which are w wide, at a height.
 fn put_total(out: &mut [u8], at: usize, w: u64, y: u64, n: u64) -> usize
     requires { (w ≤ 800) × (at + text_room ≤ length out.old) }
@@ -183,14 +164,16 @@ fn put_total(out: &mut [u8], at: usize, w: u64, y: u64, n: u64) -> usize
 }
 
 // The colour of a row's marks.
+#[tactic(auto, unfolding(crate::specs::SvgText::ink_of))]
 fn put_ink(out: &mut [u8], at: usize, row: usize) -> usize
     requires { at + 4 ≤ length out.old }
     ensures { AddsWithin 4 (ink_of row) out.old at out.new result }
 {
     if row == UNRECORDED {
-        return put(out, at, b"red");
+        put(out, at, b"red")
+    } else {
+        put(out, at, b"navy")
     }
-    put(out, at, b"navy")
 }
 
 // What stands before a row's marks.
@@ -213,115 +196,64 @@ fn put_one(out: &mut [u8], at: usize, row: usize, q: usize) -> usize
 }
 
 // A quarter of a row, if it is marked.
-fn put_mark(
-    count: usize,
-    starts: &[i64],
-    ends: &[i64],
-    values: &[u8],
-    start: i64,
-    row: usize,
-    q: usize,
-    out: &mut [u8],
-    at: usize,
-) -> usize
-    requires { Quarter (stored count starts.now ends.now values.now) start q × (row < row_count) × (q < most_quarters)
+#[tactic(auto, unfolding(crate::specs::SvgText::mark_svg))]
+fn put_mark(m: &Stored, start: i64, row: usize, q: usize, out: &mut [u8], at: usize) -> usize
+    requires { Quarter m.now start q × (row < row_count) × (q < most_quarters)
         × (at + mark_room ≤ length out.old) }
-    ensures { AddsWithin mark_room (mark_svg (ranges half_open (stored count starts.now ends.now values.now)) start row q) out.old at out.new result }
+    ensures { AddsWithin mark_room (mark_svg (ranges half_open m.now) start row q) out.old at out.new result }
 {
-    if is_marked(count, starts, ends, values, start, row, q) {
-        return put_one(out, at, row, q);
+    if is_marked(m, start, row, q) {
+        put_one(out, at, row, q)
+    } else {
+        at
     }
-    at
 }
 
-// The marks of a row of n quarters.
-fn put_marks(
-    count: usize,
-    starts: &[i64],
-    ends: &[i64],
-    values: &[u8],
-    start: i64,
-    n: usize,
-    row: usize,
-    out: &mut [u8],
-    at: usize,
-) -> usize
-    requires { Quarters (stored count starts.now ends.now values.now) start n × (row < row_count) × (at + marks_room ≤ length out.old) }
-    ensures { AddsWithin marks_room (series (mark_svg (ranges half_open (stored count starts.now ends.now values.now)) start row) n) out.old at
+// The marks of a row.
+fn put_marks(m: &Stored, day: DrawnDay, row: usize, out: &mut [u8], at: usize) -> usize
+    requires { Quarters m.now day.start day.quarters × (row < row_count) × (at + marks_room ≤ length out.old) }
+    ensures { AddsWithin marks_room (series (mark_svg (ranges half_open m.now) day.start row) day.quarters) out.old at
         out.new result }
 {
     let mut to = at;
-    let mut q = 0;
-    while q < n {
-        to = put_mark(count, starts, ends, values, start, row, q, out, to);
-        q += 1;
+    for q in 0..day.quarters {
+        to = put_mark(m, day.start, row, q, out, to);
     }
     to
 }
 
 // The same as a path.
-fn put_marks_path(
-    count: usize,
-    starts: &[i64],
-    ends: &[i64],
-    values: &[u8],
-    start: i64,
-    n: usize,
-    row: usize,
-    out: &mut [u8],
-    at: usize,
-) -> usize
-    requires { Quarters (stored count starts.now ends.now values.now) start n × (row < row_count) × (at + 4650 ≤ length out.old) }
-    ensures { AddsWithin 4650 (marks_svg (ranges half_open (stored count starts.now ends.now values.now)) start n row) out.old at out.new result }
+fn put_marks_path(m: &Stored, day: DrawnDay, row: usize, out: &mut [u8], at: usize) -> usize
+    requires { Quarters m.now day.start day.quarters × (row < row_count) × (at + 4650 ≤ length out.old) }
+    ensures { AddsWithin 4650 (marks_svg (ranges half_open m.now) day.start day.quarters row) out.old at out.new result }
 {
     let marks = put_ink_head(out, at, row);
-    let to = put_marks(count, starts, ends, values, start, n, row, out, marks);
+    let to = put_marks(m, day, row, out, marks);
     put(out, to, b"\"/>\n")
 }
 
 // A row: its name, its marks, its total.
-fn put_row(
-    count: usize,
-    starts: &[i64],
-    ends: &[i64],
-    values: &[u8],
-    start: i64,
-    n: usize,
-    t: Totals,
-    row: usize,
-    out: &mut [u8],
-    at: usize,
-) -> usize
-    requires { Quarters (stored count starts.now ends.now values.now) start n × (row < row_count) × (at + row_room ≤ length out.old) }
-    ensures { AddsWithin row_room (row_svg (ranges half_open (stored count starts.now ends.now values.now)) start n t row) out.old at out.new result }
+fn put_row(m: &Stored, day: DrawnDay, row: usize, out: &mut [u8], at: usize) -> usize
+    requires { Quarters m.now day.start day.quarters × (row < row_count) × (at + row_room ≤ length out.old) }
+    ensures { AddsWithin row_room (row_svg (ranges half_open m.now) day.start day.quarters day.totals row) out.old at
+        out.new result }
 {
-    let path = put_row_label(out, at, row);
-    let to = put_marks_path(count, starts, ends, values, start, n, row, out, path);
-    let total = seconds_of(t, row) as u64;
-    put_total(out, to, 8 * n as u64, 49 + 24 * row as u64, total)
+    let height = 49 + 24 * row as u64;
+    let path = put_label(out, at, height, name_of(row));
+    let to = put_marks_path(m, day, row, out, path);
+    let total = u64::from(seconds_of(day.totals, row));
+    put_total(out, to, 8 * day.quarters as u64, height, total)
 }
 
 // The five rows.
-fn put_rows(
-    count: usize,
-    starts: &[i64],
-    ends: &[i64],
-    values: &[u8],
-    start: i64,
-    n: usize,
-    t: Totals,
-    out: &mut [u8],
-    at: usize,
-) -> usize
-    requires { Quarters (stored count starts.now ends.now values.now) start n × (at + row_count * row_room ≤ length out.old) }
-    ensures { AddsWithin (row_count * row_room) (series (row_svg (ranges half_open (stored count starts.now ends.now values.now)) start n t) row_count)
-        out.old at out.new result }
+fn put_rows(m: &Stored, day: DrawnDay, out: &mut [u8], at: usize) -> usize
+    requires { Quarters m.now day.start day.quarters × (at + row_count * row_room ≤ length out.old) }
+    ensures { AddsWithin (row_count * row_room) (series
+        (row_svg (ranges half_open m.now) day.start day.quarters day.totals) row_count) out.old at out.new result }
 {
     let mut to = at;
-    let mut row = 0;
-    while row < ROWS {
-        to = put_row(count, starts, ends, values, start, n, t, row, out, to);
-        row += 1;
+    for row in 0..ROWS {
+        to = put_row(m, day, row, out, to);
     }
     to
 }
@@ -337,21 +269,17 @@ fn put_foot(out: &mut [u8], at: usize, n: usize, sum: u64) -> usize
 }
 
 // THE PICTURE of a day.
-pub fn svg_text(
-    count: usize,
-    starts: &[i64],
-    ends: &[i64],
-    values: &[u8],
-    start: i64,
-    end: i64,
-    t: Totals,
-    out: &mut [u8; SVG_ROOM],
-) -> usize
-    requires { Drawable (stored count starts.now ends.now values.now) start end }
-    ensures { AddsWithin svg_room (svg_text (ranges half_open (stored count starts.now ends.now values.now)) start end t) out.old 0 out.new result }
+pub fn svg_text(m: &Stored, start: i64, end: i64, t: Totals, out: &mut [u8; SVG_ROOM]) -> usize
+    requires { Drawable m.now start end }
+    ensures { AddsWithin svg_room (svg_text (ranges half_open m.now) start end t) out.old 0 out.new result }
 {
-    let n = quarters_of(start, end);
-    let first = put_frame(out, 0, n);
-    let foot = put_rows(count, starts, ends, values, start, n, t, out, first);
-    put_foot(out, foot, n, sum_of(t))
+    let quarters = quarters_of(start, end);
+    let day = DrawnDay {
+        start,
+        quarters,
+        totals: t,
+    };
+    let first = put_frame(out, 0, quarters);
+    let foot = put_rows(m, day, out, first);
+    put_foot(out, foot, quarters, sum_of(t))
 }

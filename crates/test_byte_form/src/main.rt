@@ -2,33 +2,31 @@
 // program prints the reader's answer as a digit, the form of the map that is there then, which is the empty one where the reader refused, and a line's end.
 #![tactic(auto)]
 
-use outcomes::{Counted, PLACES};
+use answers::Refusal;
+use outcomes::{Stored, number_of};
 use test_print::{print, print_number};
 
-fn print_first(out: &[u8], n: usize) {
-    if n <= out.len() {
-        io::write_all(1, &out[0..n]);
-    }
-}
+// Enough for the form of a full map. A longer input is not looked at.
+const ROOM: usize = 9000;
 
-fn print_written(out: &[u8], wrote: Counted) {
+fn print_written(out: &[u8], wrote: Result<usize, Refusal>) {
     match wrote {
-        Counted::Count(n) => print_first(out, n),
-        Counted::Refused(n) => print_number(n as u64),
+        Ok(n) => {
+            if n <= out.len() {
+                io::write_all(1, &out[..n]);
+            }
+        }
+        Err(why) => print_number(why.number() as u64),
     }
     print(b'\n');
 }
 
 fn read_and_write(bytes: &[u8]) {
-    let mut count = 0;
-    let mut starts = [0i64; PLACES];
-    let mut ends = [0i64; PLACES];
-    let mut values = [0u8; PLACES];
-    print_number(
-        byte_io::read::read(&mut count, &mut starts, &mut ends, &mut values, bytes) as u64,
-    );
-    let mut out = [0u8; 9000];
-    let wrote = byte_io::write::write(&count, &starts, &ends, &values, &mut out);
+    let mut m = Stored::new();
+    let read = byte_io::read::read(&mut m, bytes);
+    print_number(number_of(read) as u64);
+    let mut out = [0u8; ROOM];
+    let wrote = byte_io::write::write(&m, &mut out);
     print_written(&out, wrote);
 }
 
@@ -39,26 +37,20 @@ fn take_into(bytes: &mut [u8]) {
     }
 }
 
-// An input of so many bytes. One that is longer than the buffer is not looked at.
+// An input of so many bytes.
 fn take(n: usize) {
-    let mut bytes = [0u8; 9000];
-    if n <= 9000 {
-        take_into(&mut bytes[0..n]);
+    let mut bytes = [0u8; ROOM];
+    if n <= ROOM {
+        take_into(&mut bytes[..n]);
     }
 }
 
-fn joined(low: u8, high: u8) -> usize {
-    low as usize + high as usize * 256
-}
-
 fn main() {
-    let mut turns = 100u32;
-    while turns > 0 {
-        let mut head = [0u8; 2];
-        if io::read_full(0, &mut head) != 2 {
+    for _ in 0..100 {
+        let mut length = [0u8; 2];
+        if io::read_full(0, &mut length) != 2 {
             return;
         }
-        take(joined(head[0], head[1]));
-        turns -= 1;
+        take(usize::from(u16::from_le_bytes(length)));
     }
 }

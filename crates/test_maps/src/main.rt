@@ -4,26 +4,22 @@
 // A line that begins with # is printed as it is: document 01's cases are among the steps by name.
 // The file `stdout` is what rangemap 1.8.0 answers, with document 01's numbers:
 //     rust/compare --replay maps > crates/test_maps/stdout
-// A map is passed by value, and lent once for the question of a step: that is proved soonest.
 #![tactic(auto)]
 
 use key::RangeKind;
-use outcomes::{Applied, Count, Order, PLACES, Range, Stretch, Told};
+use outcomes::{Applied, Count, Order, PLACES, Range, Stored, Stretch, Told};
 use test_print::{
-    Ends, print, print_field, print_key, print_list, print_number, print_range, print_told,
-    read_byte,
+    Ends, print, print_colon, print_field, print_key, print_list, print_number, print_range,
+    print_told, read_byte, read_letter,
 };
 
 // As many places as the lists of a step have at most.
 const LISTED: usize = 9;
 
-#[derive(Clone, Copy)]
+#[derive(Drop)]
 struct Map {
     kind: RangeKind,
-    count: usize,
-    starts: [i64; PLACES],
-    ends: [i64; PLACES],
-    values: [u8; PLACES],
+    stored: Stored,
 }
 
 // Entries for a bulk insert.
@@ -47,8 +43,7 @@ struct Step {
 
 // Prints the rest of a line.
 fn echo_line() {
-    let mut turns = 1000u32;
-    while turns > 0 {
+    for _ in 0..1000 {
         let byte = read_byte();
         if byte == 0 {
             return;
@@ -57,14 +52,7 @@ fn echo_line() {
         if byte == b'\n' {
             return;
         }
-        turns -= 1;
     }
-}
-
-// A space and the letter behind it.
-fn read_letter() -> u8 {
-    read_byte();
-    read_byte()
 }
 
 // The rest of a step, and the end of its line.
@@ -74,24 +62,16 @@ fn read_step(what: u8) -> Step {
     let three = read_letter();
     read_byte();
     Step {
-        what: what,
-        one: one,
-        two: two,
-        three: three,
+        what,
+        one,
+        two,
+        three,
     }
 }
 
 fn digit(letter: u8) -> u8 {
     match letter {
-        b'1' => 1,
-        b'2' => 2,
-        b'3' => 3,
-        b'4' => 4,
-        b'5' => 5,
-        b'6' => 6,
-        b'7' => 7,
-        b'8' => 8,
-        b'9' => 9,
+        b'1'..=b'9' => letter - b'0',
         _ => 0,
     }
 }
@@ -133,12 +113,6 @@ fn ends_of(s: Step) -> Ends {
 }
 
 // ---- printing
-
-// What stands between a question and its answer.
-fn print_colon() {
-    print(b':');
-    print(b' ');
-}
 
 // The number of an answer.
 fn print_answer(answer: u8) {
@@ -190,13 +164,13 @@ fn print_stretch(r: Stretch) {
 fn print_order(r: Order) {
     print_answer(r.answer);
     print(b' ');
-    if r.order == -1 {
-        print(b'-');
-        print(b'1');
-    } else if r.order == 1 {
-        print(b'1');
-    } else {
-        print(b'0');
+    match r.order {
+        -1 => {
+            print(b'-');
+            print(b'1');
+        }
+        1 => print(b'1'),
+        _ => print(b'0'),
     }
 }
 
@@ -206,34 +180,12 @@ fn print_applied(r: Applied) {
     print_number(r.applied as u64);
 }
 
-// The fields of a local are lent at one lifetime: the borrow checker does not cover two at once.
-fn len_of<'a>(
-    kind: RangeKind,
-    count: &'a usize,
-    starts: &'a [i64; PLACES],
-    ends: &'a [i64; PLACES],
-    values: &'a [u8; PLACES],
-) -> Count {
-    map_abi::len(kind, count, starts, ends, values)
+fn len(m: &Map) -> Count {
+    map_abi::len(m.kind, &m.stored)
 }
 
-fn range_of<'a>(
-    kind: RangeKind,
-    count: &'a usize,
-    starts: &'a [i64; PLACES],
-    ends: &'a [i64; PLACES],
-    values: &'a [u8; PLACES],
-    place: usize,
-) -> Range {
-    map_abi::range_at(kind, count, starts, ends, values, place)
-}
-
-fn len(m: Map) -> Count {
-    len_of(m.kind, &m.count, &m.starts, &m.ends, &m.values)
-}
-
-fn range_at(m: Map, place: usize) -> Range {
-    range_of(m.kind, &m.count, &m.starts, &m.ends, &m.values, place)
+fn range_at(m: &Map, place: usize) -> Range {
+    map_abi::range_at(m.kind, &m.stored, place)
 }
 
 // The comma before all places but the first.
@@ -244,43 +196,29 @@ fn print_comma(place: usize) {
     }
 }
 
-// The range at a place, if it is among the first so many.
-fn print_place(m: Map, place: usize, many: usize) {
-    let kind = m.kind;
-    if place < many {
+// The first so many places.
+fn print_places(m: &Map, many: usize) {
+    for place in 0..many {
         print_comma(place);
-        print_entry(kind, range_at(m, place));
+        print_entry(m.kind, range_at(m, place));
     }
 }
 
-// The first places, of which there are eight at most.
-fn print_places(m: Map, many: usize) {
-    print_place(m, 0, many);
-    print_place(m, 1, many);
-    print_place(m, 2, many);
-    print_place(m, 3, many);
-    print_place(m, 4, many);
-    print_place(m, 5, many);
-    print_place(m, 6, many);
-    print_place(m, 7, many);
-}
-
 // A long map by its first three ranges, its last and their number.
-fn print_ranges(m: Map, count: usize) {
+fn print_ranges(m: &Map, count: usize) {
     if count <= 8 {
         print_places(m, count);
         return;
     }
-    let kind = m.kind;
     print_places(m, 3);
     io::write_all(1, b", .., ");
-    print_entry(kind, range_at(m, count - 1));
+    print_entry(m.kind, range_at(m, count - 1));
     print_colon();
     print_number(count as u64);
     io::write_all(1, b" ranges");
 }
 
-fn print_map(m: Map) {
+fn print_map(m: &Map) {
     let r = len(m);
     if r.answer == 0 {
         print(b'{');
@@ -292,7 +230,7 @@ fn print_map(m: Map) {
 }
 
 // The map after a step.
-fn print_now(m: Map) {
+fn print_now(m: &Map) {
     io::write_all(1, b", now ");
     print_map(m);
     print(b'\n');
@@ -302,112 +240,52 @@ fn print_now(m: Map) {
 
 fn new(kind: RangeKind) -> Map {
     Map {
-        kind: kind,
-        count: 0,
-        starts: [0; PLACES],
-        ends: [0; PLACES],
-        values: [0; PLACES],
-    }
-}
-
-// What an edit answers, and the map that it leaves.
-#[derive(Clone, Copy)]
-struct Edited {
-    answer: u8,
-    map: Map,
-}
-
-// Both printed, behind what was asked.
-fn shown(r: Edited) -> Map {
-    let left = r.map;
-    print_answer(r.answer);
-    print_now(left);
-    left
-}
-
-fn insert(m: Map, r: Ends, value: u8) -> Edited {
-    let kind = m.kind;
-    let mut count = m.count;
-    let mut starts = m.starts;
-    let mut ends = m.ends;
-    let mut values = m.values;
-    let answer = map_abi::insert(
         kind,
-        &mut count,
-        &mut starts,
-        &mut ends,
-        &mut values,
-        r.start,
-        r.end,
-        value,
-    );
-    Edited {
-        answer: answer,
-        map: Map {
-            kind: kind,
-            count: count,
-            starts: starts,
-            ends: ends,
-            values: values,
-        },
+        stored: Stored::new(),
     }
 }
 
-fn show_insert(m: Map, r: Ends, value: u8) -> Map {
-    let kind = m.kind;
-    print_asked(b"insert", kind, r);
-    print_value(value);
-    shown(insert(m, r, value))
-}
-
-fn remove(m: Map, r: Ends) -> Edited {
-    let kind = m.kind;
-    let mut count = m.count;
-    let mut starts = m.starts;
-    let mut ends = m.ends;
-    let mut values = m.values;
-    let answer = map_abi::remove(
-        kind,
-        &mut count,
-        &mut starts,
-        &mut ends,
-        &mut values,
-        r.start,
-        r.end,
-    );
-    Edited {
-        answer: answer,
-        map: Map {
-            kind: kind,
-            count: count,
-            starts: starts,
-            ends: ends,
-            values: values,
-        },
-    }
-}
-
-fn show_remove(m: Map, r: Ends) -> Map {
-    let kind = m.kind;
-    print_asked(b"remove", kind, r);
-    shown(remove(m, r))
-}
-
-fn clear(m: Map) -> Map {
-    let kind = m.kind;
-    let mut count = m.count;
-    let mut starts = m.starts;
-    let mut ends = m.ends;
-    let mut values = m.values;
-    map_ops::change::clear(&mut count, &mut starts, &mut ends, &mut values);
-    io::write_all(1, b"clear\n");
+// A map is lent for each step, and is copied where it is kept beside: `Stored` is not `Copy`, for it is large.
+fn copied(m: &Map) -> Map {
     Map {
-        kind: kind,
-        count: count,
-        starts: starts,
-        ends: ends,
-        values: values,
+        kind: m.kind,
+        stored: Stored {
+            count: m.stored.count,
+            starts: m.stored.starts,
+            ends: m.stored.ends,
+            values: m.stored.values,
+        },
     }
+}
+
+// What an edit answers, and the map that it leaves, behind what was asked.
+fn show_left(answer: u8, m: &Map) {
+    print_answer(answer);
+    print_now(m);
+}
+
+fn insert(m: &mut Map, r: Ends, value: u8) -> u8 {
+    map_abi::insert(m.kind, &mut m.stored, r.start, r.end, value)
+}
+
+fn show_insert(m: &mut Map, r: Ends, value: u8) {
+    print_asked(b"insert", m.kind, r);
+    print_value(value);
+    show_left(insert(m, r, value), m);
+}
+
+fn remove(m: &mut Map, r: Ends) -> u8 {
+    map_abi::remove(m.kind, &mut m.stored, r.start, r.end)
+}
+
+fn show_remove(m: &mut Map, r: Ends) {
+    print_asked(b"remove", m.kind, r);
+    show_left(remove(m, r), m);
+}
+
+fn clear(m: &mut Map) {
+    map_ops::change::clear(&mut m.stored);
+    io::write_all(1, b"clear\n");
 }
 
 // The range that has one key, by the key and the next.
@@ -425,39 +303,25 @@ fn range_of_one(kind: RangeKind, key: u32, next: u32) -> Ends {
 }
 
 // A range of one key and of value 7, and nothing printed.
-fn put(m: Map, key: u32, next: u32) -> Map {
-    let kind = m.kind;
-    insert(m, range_of_one(kind, key, next), 7).map
+fn put(m: &mut Map, key: u32, next: u32) {
+    let r = range_of_one(m.kind, key, next);
+    insert(m, r, 7);
 }
 
 // Document 01's full map: 512 ranges of one value at 0..1, 2..3, and so on; its inclusive sibling has 0..=0, 2..=2, and so on.
-fn fill(kind: RangeKind) -> Map {
-    let mut m = new(kind);
-    let mut key = 0u32;
-    while key < 1024 {
-        m = put(m, key, key + 1);
-        key += 2;
+fn fill(m: &mut Map) {
+    map_ops::change::clear(&mut m.stored);
+    for i in 0..512u32 {
+        put(m, 2 * i, 2 * i + 1);
     }
     io::write_all(1, b"full");
     print_now(m);
-    m
 }
 
 // Something in an unused place.
-fn damage(m: Map) -> Map {
-    let kind = m.kind;
-    let mut values = m.values;
-    values[511] = 1;
-    let starts = m.starts;
-    let ends = m.ends;
+fn damage(m: &mut Map) {
+    m.stored.values[511] = 1;
     io::write_all(1, b"damaged\n");
-    Map {
-        kind: kind,
-        count: m.count,
-        starts: starts,
-        ends: ends,
-        values: values,
-    }
 }
 
 // ---- questions
@@ -470,8 +334,7 @@ fn print_asked_gaps(kind: RangeKind, r: Ends, many: u8) {
 
 // What a step asks.
 fn print_question(kind: RangeKind, s: Step) {
-    let what = s.what;
-    match what {
+    match s.what {
         b'e' => {
             io::write_all(1, b"is_empty");
         }
@@ -503,136 +366,55 @@ fn print_question(kind: RangeKind, s: Step) {
 }
 
 // Overlaps is asked with overlapping, on a line of its own.
-fn answer_overlapping<'a>(
-    kind: RangeKind,
-    count: &'a usize,
-    starts: &'a [i64; PLACES],
-    ends: &'a [i64; PLACES],
-    values: &'a [u8; PLACES],
-    r: Ends,
-) {
-    print_stretch(map_abi::overlapping(kind, count, starts, ends, values, r.start, r.end));
+fn answer_overlapping(m: &Map, r: Ends) {
+    print_stretch(map_abi::overlapping(m.kind, &m.stored, r.start, r.end));
     print(b'\n');
-    print_asked(b"overlaps", kind, r);
-    print_yes(map_abi::overlaps(kind, count, starts, ends, values, r.start, r.end));
+    print_asked(b"overlaps", m.kind, r);
+    print_yes(map_abi::overlaps(m.kind, &m.stored, r.start, r.end));
 }
 
-fn answer_gaps_into<'a>(
-    kind: RangeKind,
-    count: &'a usize,
-    starts: &'a [i64; PLACES],
-    ends: &'a [i64; PLACES],
-    values: &'a [u8; PLACES],
-    r: Ends,
-    out_starts: &mut [i64],
-    out_ends: &mut [i64],
-) {
-    print_count(map_abi::gaps(
-        kind, count, starts, ends, values, r.start, r.end, out_starts, out_ends,
-    ));
-    print_list(kind, out_starts, out_ends);
+fn answer_gaps_into(m: &Map, r: Ends, out_starts: &mut [i64], out_ends: &mut [i64]) {
+    print_count(map_abi::gaps(m.kind, &m.stored, r.start, r.end, out_starts, out_ends));
+    print_list(m.kind, out_starts, out_ends);
 }
 
 // The gaps into lists of so many places, which hold 0 before. Only one list is cut: the shorter decides.
-fn answer_gaps<'a>(
-    kind: RangeKind,
-    count: &'a usize,
-    starts: &'a [i64; PLACES],
-    ends: &'a [i64; PLACES],
-    values: &'a [u8; PLACES],
-    r: Ends,
-    many: usize,
-) {
+fn answer_gaps(m: &Map, r: Ends, many: usize) {
     let mut out_starts = [0i64; LISTED];
     let mut out_ends = [0i64; LISTED];
     if many <= LISTED {
-        answer_gaps_into(
-            kind,
-            count,
-            starts,
-            ends,
-            values,
-            r,
-            &mut out_starts[0..many],
-            &mut out_ends,
-        );
+        answer_gaps_into(m, r, &mut out_starts[..many], &mut out_ends);
     }
 }
 
-fn answer<'a>(
-    kind: RangeKind,
-    count: &'a usize,
-    starts: &'a [i64; PLACES],
-    ends: &'a [i64; PLACES],
-    values: &'a [u8; PLACES],
-    s: Step,
-) {
-    let what = s.what;
-    match what {
-        b'e' => print_yes(map_abi::is_empty(kind, count, starts, ends, values)),
-        b'n' => print_count(map_abi::len(kind, count, starts, ends, values)),
-        b'h' => print_found(
-            kind,
-            map_abi::first_range_value(kind, count, starts, ends, values),
-        ),
-        b'l' => print_found(
-            kind,
-            map_abi::last_range_value(kind, count, starts, ends, values),
-        ),
-        b'p' => print_found(
-            kind,
-            map_abi::range_at(kind, count, starts, ends, values, digit(s.one) as usize),
-        ),
-        b'g' => print_found(
-            kind,
-            map_abi::get_key_value(kind, count, starts, ends, values, key_of(s.one)),
-        ),
-        b'k' => print_yes(map_abi::contains_key(kind, count, starts, ends, values, key_of(s.one))),
-        b'o' => answer_overlapping(kind, count, starts, ends, values, ends_of(s)),
-        b'w' => answer_gaps(
-            kind,
-            count,
-            starts,
-            ends,
-            values,
-            ends_of(s),
-            digit(s.three) as usize,
-        ),
+fn answer(m: &Map, s: Step) {
+    let kind = m.kind;
+    let stored = &m.stored;
+    match s.what {
+        b'e' => print_yes(map_abi::is_empty(kind, stored)),
+        b'n' => print_count(map_abi::len(kind, stored)),
+        b'h' => print_found(kind, map_abi::first_range_value(kind, stored)),
+        b'l' => print_found(kind, map_abi::last_range_value(kind, stored)),
+        b'p' => print_found(kind, map_abi::range_at(kind, stored, digit(s.one) as usize)),
+        b'g' => print_found(kind, map_abi::get_key_value(kind, stored, key_of(s.one))),
+        b'k' => print_yes(map_abi::contains_key(kind, stored, key_of(s.one))),
+        b'o' => answer_overlapping(m, ends_of(s)),
+        b'w' => answer_gaps(m, ends_of(s), digit(s.three) as usize),
         _ => {}
     }
 }
 
-fn ask(m: Map, s: Step) {
+fn ask(m: &Map, s: Step) {
     print_question(m.kind, s);
-    answer(m.kind, &m.count, &m.starts, &m.ends, &m.values, s);
+    answer(m, s);
     print(b'\n');
 }
 
-fn compare_by<'a, 'b>(
-    kind: RangeKind,
-    count: &'a usize,
-    starts: &'a [i64; PLACES],
-    ends: &'a [i64; PLACES],
-    values: &'a [u8; PLACES],
-    count2: &'b usize,
-    starts2: &'b [i64; PLACES],
-    ends2: &'b [i64; PLACES],
-    values2: &'b [u8; PLACES],
-) {
+fn compare(a: &Map, b: &Map) {
     io::write_all(1, b"eq");
-    print_yes(map_abi::eq(
-        kind, count, starts, ends, values, count2, starts2, ends2, values2,
-    ));
+    print_yes(map_abi::eq(a.kind, &a.stored, &b.stored));
     io::write_all(1, b", cmp");
-    print_order(map_abi::cmp(
-        kind, count, starts, ends, values, count2, starts2, ends2, values2,
-    ));
-}
-
-fn compare(a: Map, b: Map) {
-    compare_by(
-        a.kind, &a.count, &a.starts, &a.ends, &a.values, &b.count, &b.starts, &b.ends, &b.values,
-    );
+    print_order(map_abi::cmp(a.kind, &a.stored, &b.stored));
     print(b'\n');
 }
 
@@ -647,97 +429,54 @@ fn no_list() -> List {
     }
 }
 
-fn listed(list: List, r: Ends, value: u8) -> List {
+// An entry more, if there is room.
+fn add(list: &mut List, r: Ends, value: u8) {
     let n = list.length;
-    let mut starts = list.starts;
-    let mut ends = list.ends;
-    let mut values = list.values;
-    if n >= LISTED {
-        return list;
-    }
-    let start = r.start;
-    let end = r.end;
-    starts[n] = start;
-    ends[n] = end;
-    values[n] = value;
-    List {
-        length: n + 1,
-        starts: starts,
-        ends: ends,
-        values: values,
+    if n < LISTED {
+        list.starts[n] = r.start;
+        list.ends[n] = r.end;
+        list.values[n] = value;
+        list.length = n + 1;
     }
 }
 
-// The map with the entries, whose number is printed with the answer.
-fn extend(m: Map, new_starts: &[i64], new_ends: &[i64], new_values: &[u8]) -> Map {
-    let kind = m.kind;
-    let mut count = m.count;
-    let mut starts = m.starts;
-    let mut ends = m.ends;
-    let mut values = m.values;
-    print_applied(map_ops::change::bulk::extend(
-        kind,
-        &mut count,
-        &mut starts,
-        &mut ends,
-        &mut values,
-        new_starts,
-        new_ends,
-        new_values,
-    ));
-    Map {
-        kind: kind,
-        count: count,
-        starts: starts,
-        ends: ends,
-        values: values,
+// The map gets the first so many entries, whose number is printed with the answer. Only one list is cut: the shortest decides.
+fn extend(m: &mut Map, list: List) {
+    let many = list.length;
+    if many <= LISTED {
+        print_applied(map_ops::change::bulk::extend(
+            m.kind,
+            &mut m.stored,
+            &list.starts[..many],
+            &list.ends,
+            &list.values,
+        ));
     }
 }
 
-// The first so many entries. Only one list is cut: the shortest decides.
-fn extend_by(m: Map, many: usize, starts: &[i64], ends: &[i64], values: &[u8]) -> Map {
-    if many <= starts.len() {
-        return extend(m, &starts[0..many], ends, values);
-    }
-    m
-}
-
-fn extend_list(m: Map, list: List) -> Map {
-    let starts = list.starts;
-    let ends = list.ends;
-    let values = list.values;
-    extend_by(m, list.length, &starts, &ends, &values)
-}
-
-fn show_extend(m: Map, list: List) -> Map {
+fn show_extend(m: &mut Map, list: List) {
     io::write_all(1, b"extend by ");
     print_number(list.length as u64);
-    let left = extend_list(m, list);
-    print_now(left);
-    left
+    extend(m, list);
+    print_now(m);
 }
 
 // ---- steps
 
 // An edit, or else a question, which leaves the map as it is.
-fn edit(m: Map, s: Step) -> Map {
-    let what = s.what;
-    let kind = m.kind;
-    match what {
+fn edit(m: &mut Map, s: Step) {
+    match s.what {
         b'i' => show_insert(m, ends_of(s), digit(s.three)),
         b'r' => show_remove(m, ends_of(s)),
         b'c' => clear(m),
-        b'f' => fill(kind),
+        b'f' => fill(m),
         b'd' => damage(m),
-        _ => {
-            ask(m, s);
-            m
-        }
+        _ => ask(m, s),
     }
 }
 
 // What the steps work on.
-#[derive(Clone, Copy)]
+#[derive(Drop)]
 struct State {
     map: Map,
     other: Map,
@@ -752,54 +491,33 @@ fn anew(kind: RangeKind) -> State {
     }
 }
 
-fn take(state: State, s: Step) -> State {
-    let what = s.what;
-    let map = state.map;
-    let other = state.other;
-    let list = state.list;
-    match what {
+fn take(state: &mut State, s: Step) {
+    match s.what {
         b'H' => {
             io::write_all(1, b"half-open maps\n");
-            anew(RangeKind::HalfOpen)
+            *state = anew(RangeKind::HalfOpen);
         }
         b'I' => {
             io::write_all(1, b"inclusive maps\n");
-            anew(RangeKind::Inclusive)
+            *state = anew(RangeKind::Inclusive);
         }
         b's' => {
             io::write_all(1, b"stored\n");
-            State {
-                map: map,
-                other: map,
-                list: list,
-            }
+            state.other = copied(&state.map);
         }
-        b'q' => {
-            compare(map, other);
-            state
+        b'q' => compare(&state.map, &state.other),
+        b'b' => add(&mut state.list, ends_of(s), digit(s.three)),
+        b'x' => {
+            show_extend(&mut state.map, state.list);
+            state.list = no_list();
         }
-        b'b' => State {
-            map: map,
-            other: other,
-            list: listed(list, ends_of(s), digit(s.three)),
-        },
-        b'x' => State {
-            map: show_extend(map, list),
-            other: other,
-            list: no_list(),
-        },
-        _ => State {
-            map: edit(map, s),
-            other: other,
-            list: list,
-        },
+        _ => edit(&mut state.map, s),
     }
 }
 
 fn main() {
     let mut state = anew(RangeKind::HalfOpen);
-    let mut turns = 10000u32;
-    while turns > 0 {
+    for _ in 0..10000 {
         let what = read_byte();
         if what == 0 {
             return;
@@ -808,8 +526,7 @@ fn main() {
             print(what);
             echo_line();
         } else {
-            state = take(state, read_step(what));
+            take(&mut state, read_step(what));
         }
-        turns -= 1;
     }
 }

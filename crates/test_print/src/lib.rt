@@ -52,6 +52,18 @@ pub fn read_byte() -> u8 {
     byte[0]
 }
 
+// A space and the letter behind it.
+pub fn read_letter() -> u8 {
+    read_byte();
+    read_byte()
+}
+
+// What stands between a question and its answer.
+pub fn print_colon() {
+    print(b':');
+    print(b' ');
+}
+
 // ---- printing
 
 // One byte. A call with a byte is proved far sooner than one with a text, so what is short is printed by this.
@@ -113,13 +125,9 @@ pub fn print_range(kind: RangeKind, start: i64, end: i64) {
 
 // The ranges of two lists, as many as the shorter has, each behind a space.
 pub fn print_list(kind: RangeKind, starts: &[i64], ends: &[i64]) {
-    let mut i = 0;
-    while i < starts.len() {
-        if i < ends.len() {
-            print(b' ');
-            print_range(kind, starts[i], ends[i]);
-        }
-        i += 1;
+    for (start, end) in starts.iter().zip(ends) {
+        print(b' ');
+        print_range(kind, *start, *end);
     }
 }
 

@@ -3,39 +3,27 @@
 #![tactic(auto)]
 
 use key::RangeKind;
-use outcomes::PLACES;
+use outcomes::Stored;
 use report::DayReport;
 use test_print::{print, print_found, print_number};
 
-#[derive(Clone, Copy)]
-struct Map {
-    count: usize,
-    starts: [i64; PLACES],
-    ends: [i64; PLACES],
-    values: [u8; PLACES],
-}
+// The hours that are expected: none, those of document 01, and whole days.
+const EXPECTED: [u32; 5] = [0, 7, 18, 23, 24];
 
 // What the hours are, if it is one of these numbers, and else 99, which no day has.
 fn known(hours: f64) -> u64 {
-    if hours == 0.0 {
-        0
-    } else if hours == 7.0 {
-        7
-    } else if hours == 18.0 {
-        18
-    } else if hours == 23.0 {
-        23
-    } else if hours == 24.0 {
-        24
-    } else {
-        99
+    for whole in EXPECTED {
+        if hours == f64::from(whole) {
+            return u64::from(whole);
+        }
     }
+    99
 }
 
 // The seconds of a duty behind its name, and the hours in parentheses.
 fn print_duty(name: &[u8], seconds: u32, hours: f64) {
     io::write_all(1, name);
-    print_number(seconds as u64);
+    print_number(u64::from(seconds));
     io::write_all(1, b" (");
     print_number(known(hours));
     io::write_all(1, b".0)");
@@ -52,51 +40,20 @@ fn print_report(r: DayReport) {
 }
 
 // Status 1 over 2024-11-03, Eastern, then `status` on 1730628000..1730653200: three places. With a count of 2 it is not well formed.
-fn november(count: usize, status: u8) -> Map {
-    let mut starts = [0; PLACES];
-    let mut ends = [0; PLACES];
-    let mut values = [0; PLACES];
-    starts[0] = 1730606400;
-    ends[0] = 1730628000;
-    values[0] = 1;
-    starts[1] = 1730628000;
-    ends[1] = 1730653200;
-    values[1] = status;
-    starts[2] = 1730653200;
-    ends[2] = 1730696400;
-    values[2] = 1;
-    Map {
-        count: count,
-        starts: starts,
-        ends: ends,
-        values: values,
-    }
-}
-
-// The fields of a local are lent at one lifetime: the borrow checker does not cover two at once.
-fn report_on<'a>(
-    count: &'a usize,
-    starts: &'a [i64; PLACES],
-    ends: &'a [i64; PLACES],
-    values: &'a [u8; PLACES],
-    zone: u8,
-    year: u16,
-    month: u8,
-    day: u8,
-) -> DayReport {
-    report::day_report(count, starts, ends, values, zone, year, month, day)
-}
-
-fn report_of(m: Map, zone: u8, year: u16, month: u8, day: u8) -> DayReport {
-    report_on(
-        &m.count, &m.starts, &m.ends, &m.values, zone, year, month, day,
-    )
+fn november(count: usize, status: u8) -> Stored {
+    let mut m = Stored::new();
+    m.count = count;
+    m.starts[..3].copy_from_slice(&[1730606400, 1730628000, 1730653200]);
+    m.ends[..3].copy_from_slice(&[1730628000, 1730653200, 1730696400]);
+    m.values[..3].copy_from_slice(&[1, status, 1]);
+    m
 }
 
 // The report of a day, behind its name, by the count and the status of the map, the zone and the date.
 fn ask(name: &[u8], count: usize, status: u8, zone: u8, year: u16, month: u8, day: u8) {
     io::write_all(1, name);
-    print_report(report_of(november(count, status), zone, year, month, day));
+    let m = november(count, status);
+    print_report(report::day_report(&m, zone, year, month, day));
 }
 
 fn main() {

@@ -3,149 +3,98 @@
 // The file `stdout` is what rangemap 1.8.0 answers, with document 01's numbers:
 //     rust/compare --replay set > crates/test_set/stdout
 // A line has a set by its ranges, what it is asked with, and the answers, each behind a letter: its number first, then all its fields.
-// A set is passed by value, and lent once for all the questions of a line: that is proved soonest.
 #![tactic(auto)]
 
-use key::RangeKind;
+use key::{GREATEST, LEAST, RangeKind};
 use operations::Operation;
-use outcomes::{Count, Order, PLACES, Range, Stretch, Told, Total};
+use outcomes::{Count, Order, PLACES, Range, Stored, Stretch, Told, Total};
 use test_print::{Ends, key_at, print, print_field, print_key, print_list, print_range, range_at};
 
-#[derive(Clone, Copy)]
+#[derive(Drop)]
 struct Set {
-    count: usize,
-    starts: [i64; PLACES],
-    ends: [i64; PLACES],
-    values: [u8; PLACES],
+    kind: RangeKind,
+    stored: Stored,
 }
 
 // ---- sets by number
 
 // The four cells, side by side.
-fn cell_at(kind: RangeKind, i: u32) -> Ends {
-    match kind {
-        RangeKind::HalfOpen => Ends {
-            start: key_at(i),
-            end: cell_end(i),
-        },
-        RangeKind::Inclusive => Ends {
-            start: inclusive_cell_start(i),
-            end: inclusive_cell_end(i),
-        },
-    }
-}
-
-fn cell_end(i: u32) -> i64 {
-    match i {
-        0 => 0,
-        1 => 1,
-        2 => 9223372036854775806,
-        _ => 9223372036854775807,
-    }
-}
+const HALF_OPEN: [Ends; 4] = [
+    Ends {
+        start: LEAST,
+        end: 0,
+    },
+    Ends { start: 0, end: 1 },
+    Ends {
+        start: 1,
+        end: GREATEST - 1,
+    },
+    Ends {
+        start: GREATEST - 1,
+        end: GREATEST,
+    },
+];
 
 // The last inclusive cell has the greatest key only, so the one before has one key more.
-fn inclusive_cell_start(i: u32) -> i64 {
-    if i < 3 {
-        return key_at(i);
-    }
-    key_at(4)
-}
+const INCLUSIVE: [Ends; 4] = [
+    Ends {
+        start: LEAST,
+        end: -1,
+    },
+    Ends { start: 0, end: 0 },
+    Ends {
+        start: 1,
+        end: GREATEST - 1,
+    },
+    Ends {
+        start: GREATEST,
+        end: GREATEST,
+    },
+];
 
-fn inclusive_cell_end(i: u32) -> i64 {
-    match i {
-        0 => -1,
-        1 => 0,
-        2 => 9223372036854775806,
-        _ => 9223372036854775807,
-    }
-}
-
-fn new() -> Set {
-    Set {
-        count: 0,
-        starts: [0; PLACES],
-        ends: [0; PLACES],
-        values: [0; PLACES],
+fn cells(kind: RangeKind) -> [Ends; 4] {
+    match kind {
+        RangeKind::HalfOpen => HALF_OPEN,
+        RangeKind::Inclusive => INCLUSIVE,
     }
 }
 
-// What an edit answers, and the set that it leaves.
-#[derive(Clone, Copy)]
-struct Edited {
-    answer: u8,
-    set: Set,
+fn insert(m: &mut Set, r: Ends) -> u8 {
+    set_abi::insert(m.kind, &mut m.stored, r.start, r.end)
 }
 
-fn edit(kind: RangeKind, m: Set, r: Ends, inserts: bool) -> Edited {
-    let mut count = m.count;
-    let mut starts = m.starts;
-    let mut ends = m.ends;
-    let mut values = m.values;
-    let answer = if inserts {
-        set_abi::insert(
-            kind,
-            &mut count,
-            &mut starts,
-            &mut ends,
-            &mut values,
-            r.start,
-            r.end,
-        )
-    } else {
-        set_abi::remove(
-            kind,
-            &mut count,
-            &mut starts,
-            &mut ends,
-            &mut values,
-            r.start,
-            r.end,
-        )
+fn remove(m: &mut Set, r: Ends) -> u8 {
+    set_abi::remove(m.kind, &mut m.stored, r.start, r.end)
+}
+
+// Sets 0 to 15 are those over the cells, a binary digit for each cell. All others are not well formed: they have a value in the last place.
+fn set_at(kind: RangeKind, i: u32) -> Set {
+    let mut m = Set {
+        kind,
+        stored: Stored::new(),
     };
-    Edited {
-        answer: answer,
-        set: Set {
-            count: count,
-            starts: starts,
-            ends: ends,
-            values: values,
+    for (digit, cell) in cells(kind).iter().enumerate() {
+        if (i >> digit) % 2 == 1 {
+            insert(&mut m, *cell);
+        }
+    }
+    if i >= 16 {
+        m.stored.values[PLACES - 1] = 1;
+    }
+    m
+}
+
+// A set is lent for each question, and is copied where it is edited and kept beside.
+fn copied(m: &Set) -> Set {
+    Set {
+        kind: m.kind,
+        stored: Stored {
+            count: m.stored.count,
+            starts: m.stored.starts,
+            ends: m.stored.ends,
+            values: m.stored.values,
         },
     }
-}
-
-// The set with a cell more, if the digit is 1.
-fn with_cell(kind: RangeKind, m: Set, digit: u32, i: u32) -> Set {
-    if digit == 0 {
-        return m;
-    }
-    edit(kind, m, cell_at(kind, i), true).set
-}
-
-// A value in the last place, which no set holds.
-fn damaged(m: Set) -> Set {
-    let mut values = m.values;
-    values[511] = 1;
-    let starts = m.starts;
-    let ends = m.ends;
-    Set {
-        count: m.count,
-        starts: starts,
-        ends: ends,
-        values: values,
-    }
-}
-
-// Sets 0 to 15 are those over the cells, a digit for each cell. All others are not well formed.
-fn set_at(kind: RangeKind, i: u32) -> Set {
-    let one = with_cell(kind, new(), i % 2, 0);
-    let two = with_cell(kind, one, i / 2 % 2, 1);
-    let three = with_cell(kind, two, i / 4 % 2, 2);
-    let all = with_cell(kind, three, i / 8 % 2, 3);
-    if i < 16 {
-        return all;
-    }
-    damaged(all)
 }
 
 // ---- printing
@@ -188,317 +137,138 @@ fn print_stretch(what: u8, r: Stretch) {
 // The order plus one.
 fn print_order(what: u8, r: Order) {
     print_answer(what, r.answer);
-    if r.order == -1 {
-        print_field(0);
-    } else if r.order == 1 {
-        print_field(2);
-    } else {
-        print_field(1);
-    }
-}
-
-// The fields of a local are lent at one lifetime: the borrow checker does not cover two at once.
-fn range_of<'a>(
-    kind: RangeKind,
-    count: &'a usize,
-    starts: &'a [i64; PLACES],
-    ends: &'a [i64; PLACES],
-    values: &'a [u8; PLACES],
-    place: usize,
-) -> Range {
-    set_abi::range_at(kind, count, starts, ends, values, place)
-}
-
-fn range_of_set(kind: RangeKind, m: Set, place: usize) -> Range {
-    range_of(kind, &m.count, &m.starts, &m.ends, &m.values, place)
-}
-
-// The range at a place, if there is one.
-fn print_place(kind: RangeKind, m: Set, place: usize) {
-    let r = range_of_set(kind, m, place);
-    if r.answer == 0 {
-        print(b' ');
-        print_range(kind, r.start, r.end);
-    }
+    print_field(match r.order {
+        -1 => 0,
+        1 => 2,
+        _ => 1,
+    });
 }
 
 // A set by its ranges, of which there are four at most.
-fn print_set(kind: RangeKind, m: Set) {
+fn print_set(m: &Set) {
     print(b'{');
-    print_place(kind, m, 0);
-    print_place(kind, m, 1);
-    print_place(kind, m, 2);
-    print_place(kind, m, 3);
+    for place in 0..4 {
+        let r = set_abi::range_at(m.kind, &m.stored, place);
+        if r.answer == 0 {
+            print(b' ');
+            print_range(m.kind, r.start, r.end);
+        }
+    }
     print(b'}');
 }
 
-fn print_edited(what: u8, kind: RangeKind, r: Edited) {
-    print_answer(what, r.answer);
+// What an edit answers, and the set that it leaves.
+fn print_edited(what: u8, answer: u8, m: &Set) {
+    print_answer(what, answer);
     print(b' ');
-    print_set(kind, r.set);
+    print_set(m);
 }
 
 // ---- one set
 
 // Is empty, len, first, last, the second range and the total.
-fn ask_whole<'a>(
-    kind: RangeKind,
-    count: &'a usize,
-    starts: &'a [i64; PLACES],
-    ends: &'a [i64; PLACES],
-    values: &'a [u8; PLACES],
-) {
-    print_told(b'e', set_abi::is_empty(kind, count, starts, ends, values));
-    print_count(b'n', set_abi::len(kind, count, starts, ends, values));
-    print_found(
-        b'f',
-        kind,
-        set_abi::first(kind, count, starts, ends, values),
-    );
-    print_found(b'l', kind, set_abi::last(kind, count, starts, ends, values));
-    print_found(
-        b's',
-        kind,
-        set_abi::range_at(kind, count, starts, ends, values, 1),
-    );
-    print_total(b't', set_abi::total(kind, count, starts, ends, values));
+fn print_whole(m: &Set) {
+    print_set(m);
+    print_told(b'e', set_abi::is_empty(m.kind, &m.stored));
+    print_count(b'n', set_abi::len(m.kind, &m.stored));
+    print_found(b'f', m.kind, set_abi::first(m.kind, &m.stored));
+    print_found(b'l', m.kind, set_abi::last(m.kind, &m.stored));
+    print_found(b's', m.kind, set_abi::range_at(m.kind, &m.stored, 1));
+    print_total(b't', set_abi::total(m.kind, &m.stored));
     print(b'\n');
-}
-
-fn print_whole(kind: RangeKind, m: Set) {
-    print_set(kind, m);
-    ask_whole(kind, &m.count, &m.starts, &m.ends, &m.values);
 }
 
 // Get and contains.
-fn ask_at<'a>(
-    kind: RangeKind,
-    count: &'a usize,
-    starts: &'a [i64; PLACES],
-    ends: &'a [i64; PLACES],
-    values: &'a [u8; PLACES],
-    key: i64,
-) {
-    print_found(
-        b'g',
-        kind,
-        set_abi::get(kind, count, starts, ends, values, key),
-    );
-    print_told(
-        b'c',
-        set_abi::contains(kind, count, starts, ends, values, key),
-    );
-    print(b'\n');
-}
-
-fn print_at(kind: RangeKind, m: Set, key: i64) {
-    print_set(kind, m);
+fn print_at(m: &Set, key: i64) {
+    print_set(m);
     print(b' ');
     print_key(key);
-    ask_at(kind, &m.count, &m.starts, &m.ends, &m.values, key);
-}
-
-// Overlapping, overlaps, and the gaps into three places, which hold 0 before.
-fn ask_over<'a>(
-    kind: RangeKind,
-    count: &'a usize,
-    starts: &'a [i64; PLACES],
-    ends: &'a [i64; PLACES],
-    values: &'a [u8; PLACES],
-    start: i64,
-    end: i64,
-) {
-    print_stretch(
-        b'o',
-        set_abi::overlapping(kind, count, starts, ends, values, start, end),
-    );
-    print_told(
-        b'v',
-        set_abi::overlaps(kind, count, starts, ends, values, start, end),
-    );
-    let mut gap_starts = [0i64; 3];
-    let mut gap_ends = [0i64; 3];
-    print_count(
-        b'w',
-        set_abi::gaps(
-            kind,
-            count,
-            starts,
-            ends,
-            values,
-            start,
-            end,
-            &mut gap_starts,
-            &mut gap_ends,
-        ),
-    );
-    print_list(kind, &gap_starts, &gap_ends);
+    print_found(b'g', m.kind, set_abi::get(m.kind, &m.stored, key));
+    print_told(b'c', set_abi::contains(m.kind, &m.stored, key));
     print(b'\n');
 }
 
 // Insert and remove.
-fn print_edits(kind: RangeKind, m: Set, r: Ends) {
-    print_set(kind, m);
+fn print_edits(m: &Set, r: Ends) {
+    print_set(m);
     print(b' ');
-    print_range(kind, r.start, r.end);
-    print_edited(b'i', kind, edit(kind, m, r, true));
-    print_edited(b'r', kind, edit(kind, m, r, false));
+    print_range(m.kind, r.start, r.end);
+    let mut longer = copied(m);
+    print_edited(b'i', insert(&mut longer, r), &longer);
+    let mut shorter = copied(m);
+    print_edited(b'r', remove(&mut shorter, r), &shorter);
 }
 
-fn print_over(kind: RangeKind, m: Set, r: Ends) {
-    print_edits(kind, m, r);
-    ask_over(
-        kind, &m.count, &m.starts, &m.ends, &m.values, r.start, r.end,
+// The edits, overlapping, overlaps, and the gaps into three places, which hold 0 before.
+fn print_over(m: &Set, r: Ends) {
+    print_edits(m, r);
+    print_stretch(
+        b'o',
+        set_abi::overlapping(m.kind, &m.stored, r.start, r.end),
     );
+    print_told(b'v', set_abi::overlaps(m.kind, &m.stored, r.start, r.end));
+    let mut starts = [0; 3];
+    let mut ends = [0; 3];
+    let gaps = set_abi::gaps(m.kind, &m.stored, r.start, r.end, &mut starts, &mut ends);
+    print_count(b'w', gaps);
+    print_list(m.kind, &starts, &ends);
+    print(b'\n');
 }
 
 // ---- two sets
 
-// The intersection into three places, which hold 0 before.
-fn ask_intersection<'a, 'b>(
-    kind: RangeKind,
-    count: &'a usize,
-    starts: &'a [i64; PLACES],
-    ends: &'a [i64; PLACES],
-    values: &'a [u8; PLACES],
-    count2: &'b usize,
-    starts2: &'b [i64; PLACES],
-    ends2: &'b [i64; PLACES],
-    values2: &'b [u8; PLACES],
-) {
-    let mut out_starts = [0i64; 3];
-    let mut out_ends = [0i64; 3];
-    print_count(
-        b'a',
-        set_abi::combine(
-            kind,
-            Operation::Intersection,
-            count,
-            starts,
-            ends,
-            values,
-            count2,
-            starts2,
-            ends2,
-            values2,
-            &mut out_starts,
-            &mut out_ends,
-        ),
+// What an operation writes into three places, which hold 0 before.
+fn print_combined(what: u8, operation: Operation, a: &Set, b: &Set) {
+    let mut starts = [0; 3];
+    let mut ends = [0; 3];
+    let found = set_abi::combine(
+        a.kind,
+        operation,
+        &a.stored,
+        &b.stored,
+        &mut starts,
+        &mut ends,
     );
-    print_list(kind, &out_starts, &out_ends);
-}
-
-// The union in the same way.
-fn ask_union<'a, 'b>(
-    kind: RangeKind,
-    count: &'a usize,
-    starts: &'a [i64; PLACES],
-    ends: &'a [i64; PLACES],
-    values: &'a [u8; PLACES],
-    count2: &'b usize,
-    starts2: &'b [i64; PLACES],
-    ends2: &'b [i64; PLACES],
-    values2: &'b [u8; PLACES],
-) {
-    let mut out_starts = [0i64; 3];
-    let mut out_ends = [0i64; 3];
-    print_count(
-        b'u',
-        set_abi::combine(
-            kind,
-            Operation::Union,
-            count,
-            starts,
-            ends,
-            values,
-            count2,
-            starts2,
-            ends2,
-            values2,
-            &mut out_starts,
-            &mut out_ends,
-        ),
-    );
-    print_list(kind, &out_starts, &out_ends);
+    print_count(what, found);
+    print_list(a.kind, &starts, &ends);
 }
 
 // Equality, order, intersection and union.
-fn ask_pair<'a, 'b>(
-    kind: RangeKind,
-    count: &'a usize,
-    starts: &'a [i64; PLACES],
-    ends: &'a [i64; PLACES],
-    values: &'a [u8; PLACES],
-    count2: &'b usize,
-    starts2: &'b [i64; PLACES],
-    ends2: &'b [i64; PLACES],
-    values2: &'b [u8; PLACES],
-) {
-    print_told(
-        b'q',
-        set_abi::eq(
-            kind, count, starts, ends, values, count2, starts2, ends2, values2,
-        ),
-    );
-    print_order(
-        b'm',
-        set_abi::cmp(
-            kind, count, starts, ends, values, count2, starts2, ends2, values2,
-        ),
-    );
-    ask_intersection(
-        kind, count, starts, ends, values, count2, starts2, ends2, values2,
-    );
-    ask_union(
-        kind, count, starts, ends, values, count2, starts2, ends2, values2,
-    );
-    print(b'\n');
-}
-
-fn print_sets(kind: RangeKind, a: Set, b: Set) {
-    print_set(kind, a);
+fn print_pair(a: &Set, b: &Set) {
+    print_set(a);
     print(b' ');
-    print_set(kind, b);
-}
-
-fn print_pair(kind: RangeKind, a: Set, b: Set) {
-    print_sets(kind, a, b);
-    ask_pair(
-        kind, &a.count, &a.starts, &a.ends, &a.values, &b.count, &b.starts, &b.ends, &b.values,
-    );
+    print_set(b);
+    print_told(b'q', set_abi::eq(a.kind, &a.stored, &b.stored));
+    print_order(b'm', set_abi::cmp(a.kind, &a.stored, &b.stored));
+    print_combined(b'a', Operation::Intersection, a, b);
+    print_combined(b'u', Operation::Union, a, b);
+    print(b'\n');
 }
 
 // ---- all of them
 
-fn print_wholes(kind: RangeKind) {
-    for i in 0..17u32 {
-        print_whole(kind, set_at(kind, i));
-    }
-}
-
-fn print_keys(kind: RangeKind) {
-    for i in 0..85u32 {
-        print_at(kind, set_at(kind, i / 5), key_at(i % 5));
-    }
-}
-
-fn print_ranges(kind: RangeKind) {
-    for i in 0..425u32 {
-        print_over(kind, set_at(kind, i / 25), range_at(i % 25));
-    }
-}
-
-fn print_pairs(kind: RangeKind) {
-    for i in 0..289u32 {
-        print_pair(kind, set_at(kind, i / 17), set_at(kind, i % 17));
-    }
-}
-
 fn print_kind(kind: RangeKind) {
-    print_wholes(kind);
-    print_keys(kind);
-    print_ranges(kind);
-    print_pairs(kind);
+    for i in 0..17 {
+        print_whole(&set_at(kind, i));
+    }
+    for i in 0..17 {
+        let m = set_at(kind, i);
+        for key in 0..5 {
+            print_at(&m, key_at(key));
+        }
+    }
+    for i in 0..17 {
+        let m = set_at(kind, i);
+        for range in 0..25 {
+            print_over(&m, range_at(range));
+        }
+    }
+    for i in 0..17 {
+        let m = set_at(kind, i);
+        for j in 0..17 {
+            print_pair(&m, &set_at(kind, j));
+        }
+    }
 }
 
 fn main() {

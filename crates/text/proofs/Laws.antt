@@ -1,12 +1,12 @@
 -- Laws of text put into lent bytes, for whoever puts one text behind another.
-use Prim.Native.Nat.{ℕ, ◌+◌, ◌-◌, ◌≤◌, ◌<◌, max}
+use Prim.Native.Nat.{ℕ, ◌+◌, ◌-◌, ◌≤◌, max}
 use native.Mathlib.Omega.{arith}
-use native.Mathlib.Numerals.{add-one}
 use native.Mathlib.Nat.{add-zero}
 use mathlib.Core.Path.{◌≡◌, refl, sym, ap, ◌∙◌}
-use mathlib.Core.List.{List, [], ◌∷◌, ◌++◌}
-use lib.ListN.{length, get_or, set, take, drop, replicate, length-append, length-replicate, replicate-append-replicate}
-use lib.Seq.{sets, sets-eq, length-sets, take-suc, take_at}
+use mathlib.Core.List.{List, [], ◌∷◌, ◌++◌, append_assoc}
+use lib.ListN.{length, set, take, drop, replicate, length-append, length-replicate}
+use borrow.Rule.Slice.PartMut.{put_mid}
+use lib.Seq.{sets, sets-eq, length-sets, take_at, drop-drop}
 use Rattle.byte_form.proofs.Stores.{sets_append}
 use Rattle.text.specs.Text.{space, Adds, right_of, left_of}
 
@@ -66,22 +66,11 @@ pub adds_left : (w : ℕ) (t : List ℕ) {out out₁ out₂ : List ℕ} {at n r�
 unfolding left_of
 adds_left w t e a b = adds_then a (adds_as (ap (λ (n : ℕ). replicate n space) e) b)
 
--- LOOPS
-
--- one byte more of a text
-pub text_more : (t : List ℕ) (i v : ℕ) {out out₁ : List ℕ} {at : ℕ} → i < length t → v ≡ get_or t i 0
-    → Adds (take i t) out at out₁ (at + i) → Adds (take (i + 1) t) out at (set out₁ (at + i) v) (at + (i + 1))
-text_more t i v {out} {out₁} {at} h e a =
-    let s : take i t ++ (v ∷ []) ≡ take (i + 1) t = rw (add-one i, e, take-suc t i 0 h) in
-    let p : at + i + 1 ≡ at + (i + 1) = omega arith in
-    rw p at (adds_as s (adds_byte v a))
-
--- one space more
-pub space_more : (i : ℕ) {out out₁ : List ℕ} {at : ℕ}
-    → Adds (replicate i space) out at out₁ (at + i) → Adds (replicate (i + 1) space) out at (set out₁ (at + i) space) (at + (i + 1))
-space_more i {out} {out₁} {at} a =
-    let p : at + i + 1 ≡ at + (i + 1) = omega arith in
-    rw p at (adds_as (replicate-append-replicate i 1 space) (adds_byte space a))
+-- A PART OF THE LENT BYTES, n of them from `at` on, that holds a text of n bytes now
+pub adds_mid : (t : List ℕ) {out ys : List ℕ} {at n : ℕ} → ys ≡ t → length t ≡ n → at + n ≤ length out → Adds t out at (put_mid at (at + n - at) out ys) (at + n)
+adds_mid t {out} {ys} {at} {n} e l h =
+    let k : at + (at + n - at) ≡ at + length t = omega arith in
+    record { upto = omega arith; puts = rw (e, drop-drop (at + n - at) at out, k) (sym (sets-eq t out at (omega arith) ∙ append_assoc (take at out) t (drop (at + length t) out))) }
 
 -- ONE OUTCOME: the place behind the text, and the lent bytes
 pub adds_one : {t out out₁ out₂ : List ℕ} {at r₁ r₂ : ℕ} → Adds t out at out₁ r₁ → Adds t out at out₂ r₂ → (r₁ ≡ r₂) × (out₁ ≡ out₂)

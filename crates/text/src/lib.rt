@@ -9,12 +9,9 @@ pub fn put(out: &mut [u8], at: usize, text: &[u8]) -> usize
     requires { at + length text.now ≤ length out.old }
     ensures { Adds text.now out.old at out.new result }
 {
-    let mut i = 0;
-    while i < text.len() {
-        out[at + i] = text[i];
-        i += 1;
-    }
-    at + i
+    let to = at + text.len();
+    out[at..to].copy_from_slice(text);
+    to
 }
 
 // A text of one byte.
@@ -31,19 +28,9 @@ pub fn put_spaces(out: &mut [u8], at: usize, n: usize) -> usize
     requires { at + n ≤ length out.old }
     ensures { Adds (replicate n space) out.old at out.new result }
 {
-    let mut i = 0;
-    while i < n {
-        out[at + i] = b' ';
-        i += 1;
-    }
-    at + n
-}
-
-// How many columns a text leaves of a width: none where it is longer.
-fn left_of_width(width: usize, n: usize) -> usize
-    ensures { result ≡ width - n }
-{
-    if n < width { width - n } else { 0 }
+    let to = at + n;
+    out[at..to].fill(b' ');
+    to
 }
 
 // A text at the right of its columns. One that is wider than they are stands whole.
@@ -51,7 +38,7 @@ pub fn put_right(out: &mut [u8], at: usize, width: usize, text: &[u8]) -> usize
     requires { at + max width (length text.now) ≤ length out.old }
     ensures { Adds (right_of width text.now) out.old at out.new result }
 {
-    let n = left_of_width(width, text.len());
+    let n = width.saturating_sub(text.len());
     let to = put_spaces(out, at, n);
     put(out, to, text)
 }
@@ -61,7 +48,7 @@ pub fn put_left(out: &mut [u8], at: usize, width: usize, text: &[u8]) -> usize
     requires { at + max width (length text.now) ≤ length out.old }
     ensures { Adds (left_of width text.now) out.old at out.new result }
 {
-    let n = left_of_width(width, text.len());
+    let n = width.saturating_sub(text.len());
     let to = put(out, at, text);
     put_spaces(out, to, n)
 }

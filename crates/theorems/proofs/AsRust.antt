@@ -12,23 +12,23 @@ use lib.Dec.{eqb}
 use lib.ListN.{take}
 use lib.IntN.{ℤ}
 use borrow.Author.Tests.{eqb-true}
+use Rattle.std.specs.Prelude.{Err}
 use Rattle.answers.specs.Answers.{done}
+use Rattle.answers.specs.Refusals.{number}
 use Rattle.span.specs.Span.{Span}
 use Rattle.key.specs.Range.{Kind, half_open, inclusive}
 use Rattle.key.proofs.Lawful.{Lawful, half_open_lawful, inclusive_too}
-use Rattle.outcomes.specs.Stored.{places, Stored, ranges}
-use Rattle.outcomes.specs.Outcomes.{not_written, Edited, Written, Listed, leaving, edit, edits, Entry, Extended, bulk_insert, bulk_insert_sound, entries, extended}
+use Rattle.outcomes.specs.Stored.{places, ranges}
+use Rattle.outcomes.specs.declared.Stored.{Stored}
+use Rattle.outcomes.specs.Outcomes.{not_written, Edited, Written, Listed, leaving, edit, edits, Extended, bulk_insert, bulk_insert_sound, entries, extended}
+use Rattle.key.specs.declared.Entry.{Entry}
 use Rattle.outcomes.specs.Outcomes.{is_empty, count_of, range_at, first_of, last_of, lookup, contains, overlaps, overlapping, gaps, equal, order, insert, remove}
 use Rattle.outcomes.specs.Outcomes.{edit_sound}
 use Rattle.outcomes.specs.Numbers.{asked_in_c, counted_in_c, found_in_c, part_in_c, compared_in_c}
 use Rattle.outcomes.specs.Sets.{if_set, if_sets, pairs, union, intersection}
 use Rattle.outcomes.specs.declared.Applied.{Applied}
-use Rattle.outcomes.specs.declared.Asked.{Asked}
-use Rattle.outcomes.specs.declared.Compared.TheVariants as Compared
+use Rattle.outcomes.specs.Answered.{Asked, Counted, Found, Located}
 use Rattle.outcomes.specs.declared.Count.{Count}
-use Rattle.outcomes.specs.declared.Counted.{Counted}
-use Rattle.outcomes.specs.declared.Found.{Found}
-use Rattle.outcomes.specs.declared.Part.{Part}
 use Rattle.rust_algorithm.specs.Answers.{Functions, rust_edited, rust_run}
 use Rattle.rust_algorithm.specs.Equal.{LentMap, ListGiven, EqualToTheRust, entry_spans}
 use Rattle.one_map.specs.Events.{Proper}
@@ -74,7 +74,7 @@ record StructAnswers : Type 0 where
   get : ℤ → Found
   contains : ℤ → Asked
   overlaps : ℤ → ℤ → Asked
-  overlapping : ℤ → ℤ → Part
+  overlapping : ℤ → ℤ → Located
   gaps : ℤ → ℤ → List ℤ → List ℤ → Written
 
 -- THE LAW, for any struct: its answers, as C has them, are the Rust's on the ranges of m
@@ -97,8 +97,8 @@ record MapsAsRust (kind : Kind) (rust : Functions) (m o : Stored) : Type 0 where
 
 -- and of two sets
 record SetsAsRust (kind : Kind) (rust : Functions) (m o : Stored) : Type 0 where
-  eq : EqAsRust kind rust m o (λ r. r ≡ asked_in_c (if_sets m o (equal kind m o) Asked.Refused))
-  cmp : CmpAsRust kind rust m o (λ r. r ≡ compared_in_c (if_sets m o (order kind m o) Compared.Refused))
+  eq : EqAsRust kind rust m o (λ r. r ≡ asked_in_c (if_sets m o (equal kind m o) Err))
+  cmp : CmpAsRust kind rust m o (λ r. r ≡ compared_in_c (if_sets m o (order kind m o) Err))
   union : UnionAsRust kind rust m o (λ os os' oe oe' r. Listed r os' oe' (union kind m o os oe))
   intersection : IntersectionAsRust kind rust m o (λ os os' oe oe' r. Listed r os' oe' (intersection kind m o os oe))
 
@@ -181,30 +181,30 @@ module _ {kind : Kind} {rust : Functions} (same : EqualToTheRust kind rust) {m :
 -- a set's answers
 abbrev set_answers : Kind → Stored → StructAnswers
 set_answers kind m = record {
-  len = if_set m (count_of kind m) Counted.Refused;
-  is_empty_lem = if_set m (is_empty kind m) Asked.Refused;
-  range_at = λ i. if_set m (range_at kind m i) Found.Refused;
-  first = if_set m (first_of kind m) Found.Refused;
-  last = if_set m (last_of kind m) Found.Refused;
-  get = λ k. if_set m (lookup kind m k) Found.Refused;
-  contains = λ k. if_set m (contains kind m k) Asked.Refused;
-  overlaps = λ s e. if_set m (overlaps kind m s e) Asked.Refused;
-  overlapping = λ s e. if_set m (overlapping kind m s e) Part.Refused;
-  gaps = λ s e os oe. if_set m (gaps kind m s e os oe) (λ n. not_written n os oe);
+  len = if_set m (count_of kind m) Err;
+  is_empty_lem = if_set m (is_empty kind m) Err;
+  range_at = λ i. if_set m (range_at kind m i) Err;
+  first = if_set m (first_of kind m) Err;
+  last = if_set m (last_of kind m) Err;
+  get = λ k. if_set m (lookup kind m k) Err;
+  contains = λ k. if_set m (contains kind m k) Err;
+  overlaps = λ s e. if_set m (overlaps kind m s e) Err;
+  overlapping = λ s e. if_set m (overlapping kind m s e) Err;
+  gaps = λ s e os oe. if_set m (gaps kind m s e os oe) (λ why. not_written why os oe);
 }
 
 -- A SET'S FUNCTIONS ARE THE MAP'S where all values are 0
 module _ {kind : Kind} {rust : Functions} (same : EqualToTheRust kind rust) {m : Stored} (g : GoodSet kind m) where
   -- insert
-  set_insert_as_rust : (s e : ℤ) → if_set m (insert kind m s e 0) (λ n. leaving n m) ≡ rust_edited kind rust m s e (some 0)
+  set_insert_as_rust : (s e : ℤ) → if_set m (insert kind m s e 0) (λ why. leaving (number why) m) ≡ rust_edited kind rust m s e (some 0)
   set_insert_as_rust s e = set_as_map kind (set_insert_event s e) m g.1 ∙ edit_as_rust same g.0 s e (some 0)
 
   -- remove
-  set_remove_as_rust : (s e : ℤ) → if_set m (remove kind m s e) (λ n. leaving n m) ≡ rust_edited kind rust m s e none
+  set_remove_as_rust : (s e : ℤ) → if_set m (remove kind m s e) (λ why. leaving (number why) m) ≡ rust_edited kind rust m s e none
   set_remove_as_rust s e = set_as_map kind (set_remove_event s e) m g.1 ∙ edit_as_rust same g.0 s e none
 
   -- bulk insert
-  set_extend_as_rust : (xs : List Entry) {m' : Stored} {r : Applied} → extended r m' ≡ if_set m (bulk_insert kind m xs) (λ n. extended (record { answer = n; applied = 0 }) m)
+  set_extend_as_rust : (xs : List Entry) {m' : Stored} {r : Applied} → extended r m' ≡ if_set m (bulk_insert kind m xs) (λ why. extended (record { answer = number why; applied = 0 }) m)
       → ExtendAsRust kind rust m xs r m'
   set_extend_as_rust xs q = extend_as_rust same g.0 xs (q ∙ as_bulk kind m xs g.1)
 

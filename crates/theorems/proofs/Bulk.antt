@@ -10,10 +10,12 @@ use borrow.Author.Tests.{eq-eqb}
 use lib.ListN.{take}
 use lib.IntN.{ℤ}
 use Rattle.answers.specs.Answers.{done}
+use Rattle.answers.specs.Refusals.{number}
 use Rattle.key.specs.Range.{Kind, half_open, inclusive}
 use Rattle.key.proofs.Lawful.{Lawful, half_open_lawful, inclusive_too}
-use Rattle.outcomes.specs.Stored.{Stored}
-use Rattle.outcomes.specs.Outcomes.{Entry, entry_change, Edited, leaving, Extended, extended, entries, edit, edits, insert, bulk_insert}
+use Rattle.outcomes.specs.declared.Stored.{Stored}
+use Rattle.outcomes.specs.Outcomes.{entry_change, Edited, leaving, Extended, extended, entries, edit, edits, insert, bulk_insert}
+use Rattle.key.specs.declared.Entry.{Entry}
 use Rattle.outcomes.specs.declared.Applied.{Applied}
 use Rattle.outcomes.specs.Sets.{plain, if_set, pairs}
 use Rattle.outcomes.proofs.Edits.{none_refused}
@@ -128,7 +130,7 @@ pairs_zero (suc n) (s ∷ ss) (e ∷ es) = (refl, pairs_zero n ss es)
 
 -- the insert of a range into a set, answered with 0
 set_inserted : {kind : Kind} → Lawful kind → (x : Entry) (m : Stored) → IsZero x → GoodSet kind m → (inserting kind m x).answer ≡ 0
-    → (leaving done (inserting kind m x).left ≡ if_set m (insert kind m x.start x.end 0) (λ n. leaving n m)) × GoodSet kind (inserting kind m x).left
+    → (leaving done (inserting kind m x).left ≡ if_set m (insert kind m x.start x.end 0) (λ why. leaving (number why) m)) × GoodSet kind (inserting kind m x).left
 set_inserted {kind} law x m v (p, z) done-is =
     let event = set_insert_event x.start x.end in
     let is : inserting kind m x ≡ happens (of_map kind event) m = ap (λ (k : ℕ). edit kind m x.start x.end (some k)) v in

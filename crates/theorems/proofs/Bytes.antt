@@ -8,13 +8,14 @@ use lib.Dec.{ltb}
 use borrow.Author.Tests.{le-ltb}
 use lib.ListN.{length, take, drop}
 use lib.Seq.{take_at}
-use Rattle.answers.specs.Answers.{done, too_short, not_formed}
+use Rattle.std.specs.Prelude.{Ok, Err}
+use Rattle.answers.specs.Answers.{done}
+use Rattle.answers.specs.declared.Refusal.TheVariants.{TooShort, NotFormed}
 use Rattle.key.specs.Range.{half_open}
-use Rattle.outcomes.specs.Stored.{Stored}
+use Rattle.outcomes.specs.declared.Stored.{Stored}
 use Rattle.outcomes.specs.Outcomes.{leaving, formed}
 use Rattle.outcomes.specs.Numbers.{counted_in_c}
 use Rattle.outcomes.specs.declared.Count.{Count}
-use Rattle.outcomes.specs.declared.Counted.TheVariants as Counted
 use Rattle.outcomes.proofs.Unique.{edit_one}
 use Rattle.byte_form.specs.Layout.{rm01}
 use Rattle.byte_form.specs.Form.{Output, output, form_of, into_output, write, read}
@@ -46,10 +47,10 @@ written m out z = go (formed half_open m) (ltb (length out) (length bs)) refl z
     bs = form_of rm01 m
 
     done_or_short : Bool → Output
-    done_or_short t = cond t (output (Counted.Refused too_short) out) (output (Counted.Count (length bs)) (bs ++ drop (length bs) out))
+    done_or_short t = cond t (output (Err TooShort) out) (output (Ok (length bs)) (bs ++ drop (length bs) out))
 
-    go : (f t : Bool) → formed half_open m ≡ f → (counted_in_c (cond f (done_or_short t) (output (Counted.Refused not_formed) out)).answer).answer ≡ 0
-        → (formed half_open m ≡ true) × (counted (cond f (done_or_short t) (output (Counted.Refused not_formed) out)) ≡ bs)
+    go : (f t : Bool) → formed half_open m ≡ f → (counted_in_c (cond f (done_or_short t) (output (Err NotFormed) out)).answer).answer ≡ 0
+        → (formed half_open m ≡ true) × (counted (cond f (done_or_short t) (output (Err NotFormed) out)) ≡ bs)
     go true true e z = absurd (omega arith)
     go true false e z = (e, take_at bs (drop (length bs) out) (length bs) refl)
     go false t e z = absurd (omega arith)
@@ -77,7 +78,7 @@ after_read_back cs m n n' out out' r t left = written_back m n n' out out' r t (
 
 -- what an output long enough holds after the form of a well-formed map was written
 fits : (m : Stored) (out : List ℕ) → formed half_open m ≡ true → length (form_of rm01 m) ≤ length out
-    → write rm01 m out ≡ output (Counted.Count (length (form_of rm01 m))) (form_of rm01 m ++ drop (length (form_of rm01 m)) out)
+    → write rm01 m out ≡ output (Ok (length (form_of rm01 m))) (form_of rm01 m ++ drop (length (form_of rm01 m)) out)
 unfolding write into_output
 fits m out well room = rw (well, le-ltb (length out) (length (form_of rm01 m)) room)
 
@@ -87,8 +88,8 @@ pub read_then_write : (n n' : RangeMap) (bs out out' : List ℕ) (t : ℕ) (r : 
     → (r.answer ≡ done) × (r.count ≡ length bs) × (out' ≡ bs ++ drop (length bs) out)
 read_then_write n n' bs out out' t r readIt z wrote room =
     let form : Read rm01 (held n') bs = read_write rm01_lawful (held n) bs (sym readIt ∙ ap (λ (k : ℕ). leaving k (held n')) z) in
-    let is : write rm01 (held n') out ≡ output (Counted.Count (length bs)) (bs ++ drop (length bs) out) =
-    subst (λ (x : List ℕ). write rm01 (held n') out ≡ output (Counted.Count (length x)) (x ++ drop (length x) out)) form.bytes
+    let is : write rm01 (held n') out ≡ output (Ok (length bs)) (bs ++ drop (length bs) out) =
+    subst (λ (x : List ℕ). write rm01 (held n') out ≡ output (Ok (length x)) (x ++ drop (length x) out)) form.bytes
     (fits (held n') out (sound_formed form.sound form.all_places) (subst (λ (x : List ℕ). length x ≤ length out) (sym form.bytes) room)) in
-    let told : r ≡ counted_in_c (Counted.Count (length bs)) = wrote.number ∙ ap (λ (w : Output). counted_in_c w.answer) is in
+    let told : r ≡ counted_in_c (Ok (length bs)) = wrote.number ∙ ap (λ (w : Output). counted_in_c w.answer) is in
     (ap (λ (x : Count). x.answer) told, ap (λ (x : Count). x.count) told, wrote.out_is ∙ ap (λ (w : Output). w.out) is)

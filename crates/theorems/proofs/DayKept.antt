@@ -9,18 +9,19 @@ use lib.IntN.{ℤ}
 use mir.Syntax.{w64}
 use mir.Val.{of_z}
 use mir.Val.{SFits}
+use Rattle.std.specs.Prelude.{Ok}
 use Rattle.answers.specs.Answers.{done}
 use Rattle.span.specs.Span.{at}
 use Rattle.key.specs.Rank.{rank, key_at, keys}
 use Rattle.key.specs.Range.{half_open}
 use Rattle.key.proofs.Laws.{rank_below, key_fits, rank_key}
-use Rattle.outcomes.specs.Stored.{Stored, ranges}
+use Rattle.outcomes.specs.Stored.{ranges}
+use Rattle.outcomes.specs.declared.Stored.{Stored}
 use Rattle.outcomes.specs.Outcomes.{Edited}
 use Rattle.duty.specs.Duty.{tally_sound}
 use Rattle.duty.proofs.Sums.{same_totals, same_strange}
-use Rattle.log_day.specs.Days.{day_of}
+use Rattle.log_day.specs.Days.{bounds, day_of}
 use Rattle.log_day.specs.Promises.{LogDayPromise}
-use Rattle.log_day.specs.declared.Day.{Day}
 use Rattle.log_day.specs.declared.LogDay.{LogDay}
 use Rattle.report.specs.Report.{day_report, reported_in_c}
 use Rattle.report.specs.declared.DayReport.{DayReport}
@@ -48,7 +49,7 @@ module _ (z y mo d : ℕ) (day : LogDay) (told : LogDayPromise z y mo d day) (is
   abbrev e : ℤ
   e = day.end
 
-  span : day_of z y mo d ≡ Day.Span s e
+  span : day_of z y mo d ≡ Ok (bounds s e)
   span = log_day_is z y mo d day told is-day
 
   -- two well-formed maps that hold the same at every key of the day have the same report

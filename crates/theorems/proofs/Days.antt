@@ -5,51 +5,53 @@ use mathlib.Core.Path.{◌≡◌, refl, sym, ap, subst, ◌∙◌}
 use mathlib.Core.Bool.{Bool, true, false, cond}
 use lib.Dec.{lt→ltb}
 use lib.IntN.{ℤ, pos}
-use Rattle.answers.specs.Answers.{done, not_formed, bad_status}
+use Rattle.std.specs.Prelude.{Result, Ok, Err}
+use Rattle.answers.specs.Answers.{done}
+use Rattle.answers.specs.declared.Refusal.{Refusal}
+use Rattle.answers.specs.Refusals.{number}
+use Rattle.answers.specs.declared.Refusal.TheVariants.{NotFormed, BadStatus}
 use Rattle.key.specs.Rank.{rank}
 use Rattle.key.specs.Range.{half_open}
 use Rattle.key.proofs.Laws.{rank_pos}
-use Rattle.outcomes.specs.Stored.{Stored, ranges}
+use Rattle.outcomes.specs.Stored.{ranges}
+use Rattle.outcomes.specs.declared.Stored.{Stored}
 use Rattle.outcomes.specs.Outcomes.{formed}
 use Rattle.duty.specs.Duty.{strange, totals_of, tally_sound}
 use Rattle.duty.specs.declared.Totals.{Totals}
-use Rattle.duty.specs.declared.Tallied.TheVariants as Tallied
 use Rattle.calendar.specs.Calendar.{date, next_date}
-use Rattle.log_day.specs.Days.{day_of, day_in_c}
+use Rattle.log_day.specs.Days.{bounds, day_of, day_in_c}
 use Rattle.log_day.specs.Promises.{LogDayPromise}
-use Rattle.log_day.specs.declared.Day.{Day}
+use Rattle.key.specs.declared.Bounds.{Bounds}
 use Rattle.log_day.specs.declared.LogDay.{LogDay}
 use Rattle.log_day.proofs.Spans.{Length, refused_is, meet}
 use Rattle.log_day.proofs.Spans as Spans
-use Rattle.report.specs.Report.{with_keys, day_report_sound, day_report, reported_in_c}
+use Rattle.report.specs.Report.{Reported, day_totals, with_keys, day_report_sound, day_report, reported_in_c}
 use Rattle.report.specs.declared.DayReport.{DayReport}
-use Rattle.report.specs.declared.Reported.{Reported}
+use Rattle.report.specs.declared.DayTotals.{DayTotals}
 use Rattle.report.proofs.Laws.{told, report_sum}
 use Rattle.map.specs.declared.RangeMap.{RangeMap}
 use Rattle.map.specs.Map.{held}
 use Rattle.map_report.specs.Promises.{RangeMapDayReport, RangeMapDayReportUnchecked}
 
--- a report with its seconds
+-- a report with its day and seconds
 record Totalled (x : Reported) : Type 0 where
-  start : ℤ
-  end : ℤ
-  totals : Totals
-  is : x ≡ Reported.Totals start end totals
+  totals : DayTotals
+  is : x ≡ Ok totals
 
 -- a report whose number is 0 is one
 module _ (m : Stored) (z y mo d : ℕ) where
-  of_tally : (s e : ℤ) (t : Bool) (u : Totals) → (reported_in_c (with_keys s e (cond t (Tallied.Refused bad_status) (Tallied.Seconds u)))).answer ≡ 0
-      → Totalled (with_keys s e (cond t (Tallied.Refused bad_status) (Tallied.Seconds u)))
+  of_tally : (s e : ℤ) (t : Bool) (u : Totals) → (reported_in_c (with_keys s e (cond t (Err BadStatus) (Ok u)))).answer ≡ 0
+      → Totalled (with_keys s e (cond t (Err BadStatus) (Ok u)))
   of_tally s e true u h = absurd (omega arith)
-  of_tally s e false u h = record { start = s; end = e; totals = u; is = refl }
+  of_tally s e false u h = record { totals = day_totals s e u; is = refl }
 
-  of_day : (x : Day) → day_of z y mo d ≡ x → (reported_in_c (day_report_sound m x)).answer ≡ 0 → Totalled (day_report_sound m x)
+  of_day : (x : Result Bounds Refusal) → day_of z y mo d ≡ x → (reported_in_c (day_report_sound m x)).answer ≡ 0 → Totalled (day_report_sound m x)
   unfolding tally_sound
-  of_day (Day.Span s e) q h = of_tally s e (strange (rank s) (rank e) (ranges half_open m)) (totals_of (rank s) (rank e) (ranges half_open m)) h
-  of_day (Day.Refused n) q h = absurd (omega (arith, refused_is z y mo d q))
+  of_day (Ok b) q h = of_tally b.start b.end (strange (rank b.start) (rank b.end) (ranges half_open m)) (totals_of (rank b.start) (rank b.end) (ranges half_open m)) h
+  of_day (Err why) q h = absurd (omega (arith, ap number (refused_is z y mo d q), h))
 
-  of_map_lem : (t : Bool) → (reported_in_c (cond t (day_report_sound m (day_of z y mo d)) (Reported.Refused not_formed))).answer ≡ 0
-      → Totalled (cond t (day_report_sound m (day_of z y mo d)) (Reported.Refused not_formed))
+  of_map_lem : (t : Bool) → (reported_in_c (cond t (day_report_sound m (day_of z y mo d)) (Err NotFormed))).answer ≡ 0
+      → Totalled (cond t (day_report_sound m (day_of z y mo d)) (Err NotFormed))
   of_map_lem true h = of_day (day_of z y mo d) refl h
   of_map_lem false h = absurd (omega arith)
 
@@ -67,18 +69,18 @@ pub record DayLength (z y mo d : ℕ) (start end : ℤ) : Type 0 where
   pub below : to < 2 ^ 40
   pub length_is : Length z (date y mo d) (to - from)
 
-day_length : (z y mo d : ℕ) {s e : ℤ} → day_of z y mo d ≡ Day.Span s e → DayLength z y mo d s e
+day_length : (z y mo d : ℕ) {s e : ℤ} → day_of z y mo d ≡ Ok (bounds s e) → DayLength z y mo d s e
 day_length z y mo d q =
     let k = Spans.held z y mo d q in
     record { from = k.from; to = k.to; start_is = k.start_is; end_is = k.end_is; ordered = k.ordered; below = k.below; length_is = k.length_is }
 
 -- what `log_day` tells with answer 0 is the date's day
-pub log_day_is : (z y mo d : ℕ) (day : LogDay) → LogDayPromise z y mo d day → day.answer ≡ done → day_of z y mo d ≡ Day.Span day.start day.end
+pub log_day_is : (z y mo d : ℕ) (day : LogDay) → LogDayPromise z y mo d day → day.answer ≡ done → day_of z y mo d ≡ Ok (bounds day.start day.end)
 log_day_is z y mo d day p h = go (day_of z y mo d) refl p
   where
-    go : (x : Day) → day_of z y mo d ≡ x → day ≡ day_in_c x → day_of z y mo d ≡ Day.Span day.start day.end
-    go (Day.Span s e) q p = q ∙ sym (ap (λ (t : LogDay). Day.Span t.start t.end) p)
-    go (Day.Refused n) q p = absurd (omega (arith, refused_is z y mo d q, ap (λ (t : LogDay). t.answer) p))
+    go : (x : Result Bounds Refusal) → day_of z y mo d ≡ x → day ≡ day_in_c x → day_of z y mo d ≡ Ok (bounds day.start day.end)
+    go (Ok b) q p = q ∙ sym (ap (λ (t : LogDay). Ok (bounds t.start t.end)) p)
+    go (Err why) q p = absurd (omega (arith, ap number (refused_is z y mo d q), h, ap (λ (t : LogDay). t.answer) p))
 
 -- so it is that long
 pub log_day_length : (z y mo d : ℕ) (day : LogDay) → LogDayPromise z y mo d day → day.answer ≡ done → DayLength z y mo d day.start day.end
@@ -105,30 +107,29 @@ module _ (m : RangeMap) (z y mo d : ℕ) (r : DayReport) (q : RangeMapDayReport 
   seconds : Totalled (day_report (held m) z y mo d)
   seconds = totalled (held m) z y mo d (ap (λ (x : DayReport). x.answer) (sym q) ∙ h)
 
-  as_told : r ≡ reported_in_c (Reported.Totals seconds.start seconds.end seconds.totals)
+  as_told : r ≡ reported_in_c (Ok seconds.totals)
   as_told = q ∙ ap reported_in_c seconds.is
 
   -- the day of the report is the date's
-  day_is : day_of z y mo d ≡ Day.Span r.start r.end
+  day_is : day_of z y mo d ≡ Ok (bounds r.start r.end)
   day_is =
       (told (held m) z y mo d seconds.is).day
-      ∙ sym (ap (λ (x : DayReport). Day.Span x.start x.end) as_told)
+      ∙ sym (ap (λ (x : DayReport). Ok (bounds x.start x.end)) as_told)
 
   -- THE SUM of an accepted day, and its length
   pub day_adds_up : AddsUp z y mo d r
   day_adds_up =
       let t = seconds.totals in
-      let is : r ≡ reported_in_c (Reported.Totals seconds.start seconds.end t) = as_told in
       let k : DayLength z y mo d r.start r.end = day_length z y mo d day_is in
       let a : rank r.start ≡ 2 ^ 63 + k.from = ap rank k.start_is ∙ rank_pos k.from (lt→ltb k.from (2 ^ 63) (omega arith)) in
       let b : rank r.end ≡ 2 ^ 63 + k.to = ap rank k.end_is ∙ rank_pos k.to (lt→ltb k.to (2 ^ 63) (omega arith)) in
-      let here : Sums r = subst Sums (sym is) (report_sum (held m) z y mo d seconds.start seconds.end t seconds.is) in
+      let here : Sums r = subst Sums (sym as_told) (report_sum (held m) z y mo d t.day.start t.day.end t.totals seconds.is) in
       record { day = k; sum = omega (arith, here, a, b) }
 
   -- the report's day is what `log_day` answers
   pub day_is_log_day : (t : LogDay) → LogDayPromise z y mo d t → (t.answer ≡ done) × (t.start ≡ r.start) × (t.end ≡ r.end)
   day_is_log_day t p =
-      let is : t ≡ day_in_c (Day.Span r.start r.end) = p ∙ ap day_in_c day_is in
+      let is : t ≡ day_in_c (Ok (bounds r.start r.end)) = p ∙ ap day_in_c day_is in
       (ap (λ (x : LogDay). x.answer) is, ap (λ (x : LogDay). x.start) is, ap (λ (x : LogDay). x.end) is)
 
 -- DAYS MEET: the report of the next date starts where this one ends, whatever maps they are of

@@ -8,15 +8,15 @@ use mathlib.Core.Option.{Option, some, none}
 use lib.IntN.{ℤ}
 use mir.Syntax.{w64}
 use mir.Val.{SFits}
+use Rattle.std.specs.Prelude.{Err}
 use Rattle.span.specs.Span.{Real, last}
 use Rattle.key.specs.Rank.{rank}
 use Rattle.key.specs.Range.{Kind, half_open, inclusive}
 use Rattle.key.proofs.Lawful.{Lawful, half_open_lawful, inclusive_too}
-use Rattle.outcomes.specs.Stored.{Stored}
+use Rattle.outcomes.specs.declared.Stored.{Stored}
 use Rattle.outcomes.specs.Outcomes.{entries, lookup, clear, Change, span_edits}
 use Rattle.outcomes.specs.Numbers.{found_in_c}
 use Rattle.outcomes.specs.Sets.{plain}
-use Rattle.outcomes.specs.declared.Found.TheVariants as Found
 use Rattle.outcomes.specs.declared.Range.{Range}
 use Rattle.outcomes.proofs.Sets.{if_set_lem}
 use Rattle.one_map.specs.Events.{Proper, value_at, Effect, left_at}
@@ -267,7 +267,7 @@ pub range_set_last_value : (cs : List SetCall) (n : RangeSet) (k : ℤ) (r : Ran
     → Says r (last_given half_open set_call_effect cs k none)
 range_set_last_value cs n k r left look =
     let set = (range_set_histories.good cs n left).1 in
-    range_set_histories.say cs n k r left (look ∙ ap found_in_c (if_set_lem (Set.held n) Found.Refused set))
+    range_set_histories.say cs n k r left (look ∙ ap found_in_c (if_set_lem (Set.held n) Err set))
 
 -- two histories that agree at every key leave the same struct
 pub range_set_same_struct : (cs ds : List SetCall) (n o : RangeSet) → RangeSetAfter cs n → RangeSetAfter ds o
@@ -305,7 +305,7 @@ pub range_inclusive_set_last_value : (cs : List SetCall) (n : RangeInclusiveSet)
     → Says r (last_given inclusive set_call_effect cs k none)
 range_inclusive_set_last_value cs n k r left look =
     let set = (range_inclusive_set_histories.good cs n left).1 in
-    range_inclusive_set_histories.say cs n k r left (look ∙ ap found_in_c (if_set_lem (InclusiveSet.held n) Found.Refused set))
+    range_inclusive_set_histories.say cs n k r left (look ∙ ap found_in_c (if_set_lem (InclusiveSet.held n) Err set))
 
 -- two histories that agree at every key leave the same struct
 pub range_inclusive_set_same_struct : (cs ds : List SetCall) (n o : RangeInclusiveSet) → RangeInclusiveSetAfter cs n → RangeInclusiveSetAfter ds o
@@ -321,16 +321,16 @@ range_inclusive_set_refused set_clear_call m m' q n = absurd n
 
 -- THE STRUCT that stores a map: a half-open map
 abbrev pub range_map_of : Stored → RangeMap
-range_map_of x = record { count = x.count; starts = x.starts; ends = x.ends; values = x.values }
+range_map_of x = record { stored = x }
 
 -- an inclusive map
 abbrev pub range_inclusive_map_of : Stored → RangeInclusiveMap
-range_inclusive_map_of x = record { count = x.count; starts = x.starts; ends = x.ends; values = x.values }
+range_inclusive_map_of x = record { stored = x }
 
 -- a set of half-open ranges
 abbrev pub range_set_of : Stored → RangeSet
-range_set_of x = record { count = x.count; starts = x.starts; ends = x.ends; values = x.values }
+range_set_of x = record { stored = x }
 
 -- a set of inclusive ranges
 abbrev pub range_inclusive_set_of : Stored → RangeInclusiveSet
-range_inclusive_set_of x = record { count = x.count; starts = x.starts; ends = x.ends; values = x.values }
+range_inclusive_set_of x = record { stored = x }

@@ -11,7 +11,8 @@ use Rattle.span.proofs.Tests.{in_no}
 use Rattle.span.proofs.Laws.{only, nothing, history_means}
 use Rattle.key.specs.Rank.{keys}
 use Rattle.key.specs.Range.{Kind, half_open, inclusive}
-use Rattle.outcomes.specs.Stored.{Stored, ranges}
+use Rattle.outcomes.specs.Stored.{ranges}
+use Rattle.outcomes.specs.declared.Stored.{Stored}
 use Rattle.outcomes.specs.Outcomes.{span_edits}
 use Rattle.rust_algorithm.specs.InclusiveMap.{StepFns}
 use Rattle.rust_algorithm.specs.Answers.{Functions, half_open_rust, inclusive_rust}

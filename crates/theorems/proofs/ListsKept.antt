@@ -4,10 +4,10 @@ use mathlib.Core.Bool.{◌&&◌}
 use mathlib.Core.List.{List}
 use lib.Dec.{ltb}
 use lib.IntN.{ℤ}
-use Rattle.answers.specs.Answers.{empty_range, not_formed, bad_query}
+use Rattle.answers.specs.declared.Refusal.TheVariants.{EmptyRange, NotFormed, BadQuery}
 use Rattle.key.specs.Rank.{rank}
 use Rattle.key.specs.Range.{Kind, half_open, inclusive, span_of, empty}
-use Rattle.outcomes.specs.Stored.{Stored}
+use Rattle.outcomes.specs.declared.Stored.{Stored}
 use Rattle.outcomes.specs.Outcomes.{not_written, gaps_sound, formed, into_lists}
 use Rattle.outcomes.specs.declared.Count.{Count}
 use Rattle.one_map.proofs.Refusals.{Kept, unwritten_kept, writing_kept, kept_either, gaps_kept, intersection_kept, union_kept, write_kept}
@@ -33,20 +33,20 @@ use Rattle.theorems.proofs.Refused.{ListsKept, lists_kept, OutputKept, output_ke
 -- the unchecked door of gaps
 gaps_sound_kept : (kind : Kind) (m : Stored) (s e : ℤ) (os oe : List ℤ) → Kept (gaps_sound kind m s e os oe) os oe
 unfolding gaps_sound
-gaps_sound_kept kind m s e os oe = kept_either (empty (span_of kind s e 0)) (unwritten_kept empty_range os oe) (writing_kept kind _ os oe)
+gaps_sound_kept kind m s e os oe = kept_either (empty (span_of kind s e 0)) (unwritten_kept EmptyRange os oe) (writing_kept kind _ os oe)
 
 -- a query, of well-formed maps and of any
 query_sound_kept : (a b : Stored) (s e : ℤ) (bytes : List ℕ) (os oe : List ℤ) → Kept (query_ranges_sound a b s e bytes os oe) os oe
 unfolding query_ranges_sound
-query_sound_kept a b s e bytes os oe = kept_either (ltb (rank s) (rank e)) (of_read (query_of bytes)) (unwritten_kept empty_range os oe)
+query_sound_kept a b s e bytes os oe = kept_either (ltb (rank s) (rank e)) (of_read (query_of bytes)) (unwritten_kept EmptyRange os oe)
   where
-    of_read : (x : Read) → Kept (by_query x (λ q. into_lists half_open (result_of a b s e q) os oe) (not_written bad_query os oe)) os oe
+    of_read : (x : Read) → Kept (by_query x (λ q. into_lists half_open (result_of a b s e q) os oe) (not_written BadQuery os oe)) os oe
     of_read (got q rest) = writing_kept half_open (result_of a b s e q) os oe
-    of_read bad = unwritten_kept bad_query os oe
+    of_read bad = unwritten_kept BadQuery os oe
 
 query_kept : (a b : Stored) (s e : ℤ) (bytes : List ℕ) (os oe : List ℤ) → Kept (query_ranges a b s e bytes os oe) os oe
 unfolding query_ranges
-query_kept a b s e bytes os oe = kept_either (formed half_open a && formed half_open b) (query_sound_kept a b s e bytes os oe) (unwritten_kept not_formed os oe)
+query_kept a b s e bytes os oe = kept_either (formed half_open a && formed half_open b) (query_sound_kept a b s e bytes os oe) (unwritten_kept NotFormed os oe)
 
 module _ (os os' oe oe' : List ℤ) (r : Count) where
   -- gaps of a half-open map

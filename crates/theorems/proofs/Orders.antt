@@ -6,23 +6,24 @@ use mathlib.Core.List.{List, [], ◌∷◌}
 use lib.Dec.{ltb}
 use lib.ListN.{length}
 use lib.IntN.{ℤ}
+use Rattle.std.specs.Prelude.{Result, Ok, Err}
 use Rattle.answers.specs.Answers.{empty_range, too_short, bad_query, bad_day, bad_status}
+use Rattle.answers.specs.declared.Refusal.{Refusal}
+use Rattle.answers.specs.Refusals.{number}
+use Rattle.answers.specs.declared.Refusal.TheVariants.{BadQuery, BadStatus}
 use Rattle.key.specs.Rank.{rank}
 use Rattle.key.specs.Range.{half_open}
+use Rattle.key.specs.declared.Bounds.{Bounds}
 use Rattle.outcomes.specs.Stored.{ranges}
 use Rattle.outcomes.specs.Outcomes.{not_written, formed, into_lists, yes_no}
-use Rattle.outcomes.specs.declared.Asked.TheVariants as Asked
 use Rattle.outcomes.specs.declared.Count.{Count}
 use Rattle.outcomes.specs.declared.Told.{Told}
-use Rattle.one_map.proofs.Refusals.{Refusal, refuse, first_number, unformed, both_pass, lets_pass, told_number, told_done, list_number, writing_order}
+use Rattle.one_map.proofs.Refusals.{Reason, refuse, first_number, unformed, both_pass, lets_pass, told_number, told_done, list_number, writing_order}
 use Rattle.duty.specs.Duty.{strange, totals_of, tally_sound}
-use Rattle.duty.specs.declared.Tallied.TheVariants as Tallied
 use Rattle.log_day.specs.Days.{day_of}
-use Rattle.log_day.specs.declared.Day.{Day}
 use Rattle.log_day.proofs.Spans.{refused_is}
-use Rattle.report.specs.Report.{with_keys, day_report_sound, day_report, reported_in_c}
+use Rattle.report.specs.Report.{Reported, with_keys, day_report_sound, day_report, reported_in_c}
 use Rattle.report.specs.declared.DayReport.{DayReport}
-use Rattle.report.specs.declared.Reported.{Reported}
 use Rattle.map.specs.declared.RangeMap.{RangeMap}
 use Rattle.map.specs.Map.{held}
 use Rattle.query_text.specs.Reader.{Read, got, bad, query_of}
@@ -31,24 +32,24 @@ use Rattle.map_report.specs.Promises.{RangeMapDayReport}
 use Rattle.map_query.specs.Promises.{RangeMapQuery, RangeMapQueryAt}
 
 -- what a day's keys give, and else another
-abbrev pub by_day : {A : Type 0} → Day → (ℤ → ℤ → A) → A → A
-by_day (Day.Span s e) f other = f s e
-by_day (Day.Refused n) f other = other
+abbrev pub by_day : {A : Type 0} → Result Bounds Refusal → (ℤ → ℤ → A) → A → A
+by_day (Ok day) f other = f day.start day.end
+by_day (Err why) f other = other
 
 -- the number of a report
 abbrev report_number : Reported → ℕ
 report_number x = (reported_in_c x).answer
 
 -- 1: the window is empty or reversed
-abbrev pub no_window : ℤ → ℤ → Refusal
+abbrev pub no_window : ℤ → ℤ → Reason
 no_window s e = refuse (not (ltb (rank s) (rank e))) empty_range
 
 -- 7: the bytes are no query
-abbrev pub no_query : List ℕ → Refusal
+abbrev pub no_query : List ℕ → Reason
 no_query bytes = refuse (by_query (query_of bytes) (λ q. false) true) bad_query
 
 -- 3: the result of the query has more ranges than one of the lent lists has places
-abbrev pub result_over : RangeMap → RangeMap → ℤ → ℤ → List ℕ → List ℤ → List ℤ → Refusal
+abbrev pub result_over : RangeMap → RangeMap → ℤ → ℤ → List ℕ → List ℤ → List ℤ → Reason
 result_over a b s e bytes os oe =
     refuse (by_query (query_of bytes) (λ q. ltb (min (length os) (length oe)) (length (result_of (held a) (held b) s e q))) false) too_short
 
@@ -62,7 +63,7 @@ module _ (a b : RangeMap) (s e : ℤ) (bytes : List ℕ) where
       ∙ both_pass list_number (formed half_open (held a)) (formed half_open (held b)) refl
       (lets_pass list_number (ltb (rank s) (rank e)) refl (of_read (query_of bytes)))
     where
-      of_read : (x : Read) → list_number (by_query x (λ q. into_lists half_open (result_of (held a) (held b) s e q) os oe) (not_written bad_query os oe))
+      of_read : (x : Read) → list_number (by_query x (λ q. into_lists half_open (result_of (held a) (held b) s e q) os oe) (not_written BadQuery os oe))
           ≡ cond (by_query x (λ q. false) true) bad_query
           (cond (by_query x (λ q. ltb (min (length os) (length oe)) (length (result_of (held a) (held b) s e q))) false) too_short 0)
       of_read (got q rest) = writing_order half_open (result_of (held a) (held b) s e q) os oe
@@ -77,17 +78,17 @@ module _ (a b : RangeMap) (s e : ℤ) (bytes : List ℕ) where
       ∙ both_pass told_number (formed half_open (held a)) (formed half_open (held b)) refl
       (lets_pass told_number (ltb (rank s) (rank e)) refl (of_read (query_of bytes)))
     where
-      of_read : (x : Read) → told_number (by_query x (λ q. yes_no (true_at (held a) (held b) s e q k)) (Asked.Refused bad_query))
+      of_read : (x : Read) → told_number (by_query x (λ q. yes_no (true_at (held a) (held b) s e q k)) (Err BadQuery))
           ≡ cond (by_query x (λ q. false) true) bad_query 0
       of_read (got q rest) = told_done (true_at (held a) (held b) s e q k)
       of_read bad = refl
 
 -- 8: the zone or the date is bad
-abbrev pub no_day : ℕ → ℕ → ℕ → ℕ → Refusal
+abbrev pub no_day : ℕ → ℕ → ℕ → ℕ → Reason
 no_day z y mo d = refuse (by_day (day_of z y mo d) (λ s e. false) true) bad_day
 
 -- 10: a status outside 1 to 4 is in the day
-abbrev pub strange_in : RangeMap → ℕ → ℕ → ℕ → ℕ → Refusal
+abbrev pub strange_in : RangeMap → ℕ → ℕ → ℕ → ℕ → Reason
 strange_in m z y mo d = refuse (by_day (day_of z y mo d) (λ s e. strange (rank s) (rank e) (ranges half_open (held m))) false) bad_status
 
 -- A DAY'S REPORT: 4, 8, 10
@@ -97,13 +98,13 @@ unfolding day_report tally_sound
 report_order m z y mo d r q =
     ap (λ (x : DayReport). x.answer) q ∙ lets_pass report_number (formed half_open (held m)) refl (of_day (day_of z y mo d) refl)
   where
-    of_day : (x : Day) → day_of z y mo d ≡ x → report_number (day_report_sound (held m) x)
+    of_day : (x : Result Bounds Refusal) → day_of z y mo d ≡ x → report_number (day_report_sound (held m) x)
         ≡ cond (by_day x (λ s e. false) true) bad_day (cond (by_day x (λ s e. strange (rank s) (rank e) (ranges half_open (held m))) false) bad_status 0)
-    of_day (Day.Span s e) h = of_strange (strange (rank s) (rank e) (ranges half_open (held m)))
+    of_day (Ok b) h = of_strange (strange (rank b.start) (rank b.end) (ranges half_open (held m)))
       where
         of_strange : (t : Bool)
-            → report_number (with_keys s e (cond t (Tallied.Refused bad_status) (Tallied.Seconds (totals_of (rank s) (rank e) (ranges half_open (held m))))))
+            → report_number (with_keys b.start b.end (cond t (Err BadStatus) (Ok (totals_of (rank b.start) (rank b.end) (ranges half_open (held m))))))
             ≡ cond t bad_status 0
         of_strange true = refl
         of_strange false = refl
-    of_day (Day.Refused n) h = refused_is z y mo d h
+    of_day (Err why) h = ap number (refused_is z y mo d h)

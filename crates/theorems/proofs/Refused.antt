@@ -1,32 +1,28 @@
 -- ON ANY NUMBER BUT 0 every other field is 0 and all lent memory is as it was; and places past the count are as they were. One law for each shape of promise:
 -- every promise of that shape is its hypothesis.
 use Prim.Native.Nat.{ℕ, ◌≤◌}
-use mathlib.Core.Path.{◌≡◌, sym, ap, subst, ◌∙◌}
+use mathlib.Core.Path.{◌≡◌, ap, subst}
 use mathlib.Core.Bool.{false}
 use mathlib.Core.List.{List}
 use lib.ListN.{get_or}
 use lib.IntN.{ℤ, pos}
+use Rattle.std.specs.Prelude.{Result, Ok, Err}
 use Rattle.answers.specs.Answers.{done}
+use Rattle.answers.specs.declared.Refusal.{Refusal}
 use Rattle.outcomes.specs.Numbers.{asked_in_c, counted_in_c, found_in_c, part_in_c, compared_in_c, totalled_in_c}
 use Rattle.outcomes.specs.Outcomes.{Written, Listed}
-use Rattle.outcomes.specs.declared.Asked.{Asked}
+use Rattle.outcomes.specs.Answered.{Asked, Counted, Found, Located, Compared, Totalled}
 use Rattle.outcomes.specs.declared.Told.{Told}
-use Rattle.outcomes.specs.declared.Counted.{Counted}
 use Rattle.outcomes.specs.declared.Count.{Count}
-use Rattle.outcomes.specs.declared.Found.{Found}
 use Rattle.outcomes.specs.declared.Range.{Range}
-use Rattle.outcomes.specs.declared.Part.{Part}
 use Rattle.outcomes.specs.declared.Stretch.{Stretch}
-use Rattle.outcomes.specs.declared.Compared.{Compared}
 use Rattle.outcomes.specs.declared.Order.{Order}
-use Rattle.outcomes.specs.declared.Totalled.{Totalled}
 use Rattle.outcomes.specs.declared.Total.{Total}
 use Rattle.byte_form.specs.Form.{Output, Wrote}
 use Rattle.log_day.specs.Days.{day_in_c}
-use Rattle.log_day.specs.declared.Day.{Day}
+use Rattle.key.specs.declared.Bounds.{Bounds}
 use Rattle.log_day.specs.declared.LogDay.{LogDay}
-use Rattle.report.specs.Report.{reported_in_c}
-use Rattle.report.specs.declared.Reported.{Reported}
+use Rattle.report.specs.Report.{Reported, reported_in_c}
 use Rattle.report.specs.declared.DayReport.{DayReport}
 use Rattle.one_map.proofs.Refusals.{Kept, BytesKept, told_zero, count_zero, range_zero, stretch_zero, order_zero, total_zero}
 
@@ -47,7 +43,7 @@ pub range_refused : (a : Found) (r : Range) → r ≡ found_in_c a → Refuses r
 range_refused a r q n = rw q (range_zero a (subst (λ (x : Range). Refuses x.answer) q n))
 
 -- a part of the places
-pub stretch_refused : (a : Part) (r : Stretch) → r ≡ part_in_c a → Refuses r.answer → (r.place ≡ 0) × (r.count ≡ 0)
+pub stretch_refused : (a : Located) (r : Stretch) → r ≡ part_in_c a → Refuses r.answer → (r.place ≡ 0) × (r.count ≡ 0)
 stretch_refused a r q n = rw q (stretch_zero a (subst (λ (x : Stretch). Refuses x.answer) q n))
 
 -- an order
@@ -59,14 +55,14 @@ pub total_refused : (a : Totalled) (r : Total) → r ≡ totalled_in_c a → Ref
 total_refused a r q n = rw q (total_zero a (subst (λ (x : Total). Refuses x.answer) q n))
 
 -- a day
-pub day_refused : (a : Day) (r : LogDay) → r ≡ day_in_c a → Refuses r.answer → (r.start ≡ pos 0) × (r.end ≡ pos 0)
-day_refused (Day.Span s e) r q n = absurd (n (ap (λ (x : LogDay). x.answer) q))
-day_refused (Day.Refused k) r q n = (ap (λ (x : LogDay). x.start) q, ap (λ (x : LogDay). x.end) q)
+pub day_refused : (a : Result Bounds Refusal) (r : LogDay) → r ≡ day_in_c a → Refuses r.answer → (r.start ≡ pos 0) × (r.end ≡ pos 0)
+day_refused (Ok day) r q n = absurd (n (ap (λ (x : LogDay). x.answer) q))
+day_refused (Err why) r q n = (ap (λ (x : LogDay). x.start) q, ap (λ (x : LogDay). x.end) q)
 
 -- a report: all of it is 0 but its number
-pub report_refused : (a : Reported) (r : DayReport) → r ≡ reported_in_c a → Refuses r.answer → r ≡ reported_in_c (Reported.Refused r.answer)
-report_refused (Reported.Totals s e t) r q n = absurd (n (ap (λ (x : DayReport). x.answer) q))
-report_refused (Reported.Refused k) r q n = q ∙ ap (λ (j : ℕ). reported_in_c (Reported.Refused j)) (sym (ap (λ (x : DayReport). x.answer) q))
+pub report_refused : (a : Reported) (r : DayReport) → r ≡ reported_in_c a → Refuses r.answer → (why : Refusal) × (r ≡ reported_in_c (Err why))
+report_refused (Ok x) r q n = absurd (n (ap (λ (y : DayReport). y.answer) q))
+report_refused (Err why) r q n = (why, q)
 
 -- TWO LENT LISTS, of gaps, intersection, union and a query: refused, both are as they were and the count is 0; and places past the count always are
 pub record ListsKept (r : Count) (starts starts' ends ends' : List ℤ) : Type 0 where

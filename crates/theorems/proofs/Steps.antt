@@ -1,22 +1,25 @@
 -- ONE CALL: what each shape of promise, of a map or of a set of either kind, says of the stored map that is left.
 use Prim.Native.Nat.{ℕ, ◌<◌}
 use mathlib.Core.Path.{◌≡◌, refl, sym, ap, subst, ◌∙◌}
-use mathlib.Core.Bool.{Bool, true, false, cond}
+use mathlib.Core.Bool.{true}
 use mathlib.Core.Logic.{◌⊎◌, inl, inr}
 use mathlib.Core.List.{List, [], ◌∷◌, map}
 use mathlib.Core.Option.{Option, some, none}
-use lib.Dec.{eqb, ltb}
+use lib.Dec.{eqb}
 use borrow.Author.Tests.{eqb-true}
-use lib.ListN.{length, take}
+use lib.ListN.{take}
 use lib.IntN.{ℤ}
-use Rattle.answers.specs.Answers.{done, empty_range, too_many}
-use Rattle.span.specs.Span.{Span, Ordered, given, Real}
+use Rattle.answers.specs.Answers.{done}
+use Rattle.answers.specs.Refusals.{number}
+use Rattle.span.specs.Span.{Ordered, Real}
 use Rattle.span.proofs.Tests.{cases}
 use Rattle.key.specs.Rank.{rank}
-use Rattle.key.specs.Range.{Kind, half_open, span_of, empty}
+use Rattle.key.specs.Range.{Kind, half_open}
 use Rattle.key.proofs.Lawful.{Lawful, half_open_lawful}
-use Rattle.outcomes.specs.Stored.{places, Stored, ranges, storing}
-use Rattle.outcomes.specs.Outcomes.{Entry, Edited, leaving, Extended, extended, edit_sound, edit, insert, remove, bulk_insert, clear, Change, edits}
+use Rattle.outcomes.specs.Stored.{places}
+use Rattle.outcomes.specs.declared.Stored.{Stored}
+use Rattle.outcomes.specs.Outcomes.{Edited, leaving, Extended, extended, edit_sound, edit, insert, remove, bulk_insert, clear, Change, edits}
+use Rattle.key.specs.declared.Entry.{Entry}
 use Rattle.outcomes.specs.Outcomes.{entry_change, span_edits}
 use Rattle.outcomes.specs.declared.Applied.{Applied}
 use Rattle.outcomes.specs.Sets.{plain, if_set, pairs}
@@ -30,7 +33,7 @@ use Rattle.one_map.specs.SetEvents.{SetEvent, set_insert_event, set_remove_event
 use Rattle.one_map.proofs.Known.{proper_tidy}
 use Rattle.one_map.proofs.OneMap.{unchecked_same, edit_proper, read_proper}
 use Rattle.one_map.proofs.Histories.{event_proper, event_holds, bulk_leaves, ranges_entries, read_done}
-use Rattle.one_map.proofs.Refusals.{edit_unchanged}
+use Rattle.one_map.proofs.Refusals.{sound_unchanged, edit_unchanged}
 use Rattle.one_map.proofs.SetRefusals.{set_insert_unchanged, set_remove_unchanged}
 use Rattle.one_map.proofs.SetHistories.{set_as_map, set_stays}
 use Rattle.theorems.specs.Calls.{if_done, gave}
@@ -125,7 +128,7 @@ pub record SetStep (kind : Kind) (did : Effect) (m m' : Stored) : Type 0 where
 
 -- bulk insert of a set is that of the map
 pub as_bulk : (kind : Kind) (m : Stored) (xs : List Entry) → plain m ≡ true
-    → if_set m (bulk_insert kind m xs) (λ n. extended (record { answer = n; applied = 0 }) m) ≡ bulk_insert kind m xs
+    → if_set m (bulk_insert kind m xs) (λ why. extended (record { answer = number why; applied = 0 }) m) ≡ bulk_insert kind m xs
 as_bulk kind m xs z = rw z
 
 module _ {kind : Kind} (law : Lawful kind) {m m' : Stored} (p : Proper kind m) (z : plain m ≡ true) where
@@ -134,14 +137,14 @@ module _ {kind : Kind} (law : Lawful kind) {m m' : Stored} (p : Proper kind m) (
   set_left x q = ap plain (q ∙ ap (λ (o : Edited). o.left) (set_as_map kind x m z)) ∙ set_stays law x p z
 
   -- insert
-  pub set_insert_step : (s e : ℤ) {r : ℕ} → leaving r m' ≡ if_set m (insert kind m s e 0) (λ n. leaving n m) → SetStep kind (if_done r (gave s e (some 0))) m m'
+  pub set_insert_step : (s e : ℤ) {r : ℕ} → leaving r m' ≡ if_set m (insert kind m s e 0) (λ why. leaving (number why) m) → SetStep kind (if_done r (gave s e (some 0))) m m'
   set_insert_step s e q = record {
     as_map = insert_step law p s e 0 (q ∙ set_as_map kind (set_insert_event s e) m z);
     set_again = set_left (set_insert_event s e) (ap (λ (o : Edited). o.left) q);
   }
 
   -- remove
-  pub set_remove_step : (s e : ℤ) {r : ℕ} → leaving r m' ≡ if_set m (remove kind m s e) (λ n. leaving n m) → SetStep kind (if_done r (gave s e none)) m m'
+  pub set_remove_step : (s e : ℤ) {r : ℕ} → leaving r m' ≡ if_set m (remove kind m s e) (λ why. leaving (number why) m) → SetStep kind (if_done r (gave s e none)) m m'
   set_remove_step s e q = record {
     as_map = remove_step law p s e (q ∙ set_as_map kind (set_remove_event s e) m z);
     set_again = set_left (set_remove_event s e) (ap (λ (o : Edited). o.left) q);
@@ -149,7 +152,7 @@ module _ {kind : Kind} (law : Lawful kind) {m m' : Stored} (p : Proper kind m) (
 
   -- bulk insert
   pub set_extend_step : (ss es : List ℤ) {t : Applied}
-      → extended t m' ≡ if_set m (bulk_insert kind m (pairs ss es)) (λ n. extended (record { answer = n; applied = 0 }) m)
+      → extended t m' ≡ if_set m (bulk_insert kind m (pairs ss es)) (λ why. extended (record { answer = number why; applied = 0 }) m)
       → SetStep kind (changed (map entry_change (take t.applied (pairs ss es)))) m m'
   set_extend_step ss es q = record {
     as_map = extend_step law p (pairs ss es) (q ∙ as_bulk kind m (pairs ss es) z);
@@ -165,30 +168,16 @@ pub refused_same : {r : ℕ} {m m' : Stored} {o : Edited} → ((o.answer ≡ 0 �
 refused_same kept q n = ap (λ (o : Edited). o.left) q ∙ kept (λ z. n (ap (λ (o : Edited). o.answer) q ∙ z))
 
 module _ (kind : Kind) (m : Stored) (s e : ℤ) where
-  -- the unchecked door of insert and remove
-  sound_unchanged : (new : Option ℕ) → ((edit_sound kind places m s e new).answer ≡ 0 → ⊥) → (edit_sound kind places m s e new).left ≡ m
-  unfolding edit_sound
-  sound_unchanged new n = go (empty (span_of kind s e 0)) (ltb places (length xs)) n
-    where
-      xs : List Span
-      xs = given (rank s) (kind.past e) new (ranges kind m)
-
-      go : (t u : Bool) → ((cond t (leaving empty_range m) (cond u (leaving too_many m) (leaving done (storing kind places xs)))).answer ≡ 0 → ⊥)
-          → (cond t (leaving empty_range m) (cond u (leaving too_many m) (leaving done (storing kind places xs)))).left ≡ m
-      go true u n = refl
-      go false true n = refl
-      go false false n = absurd (n refl)
-
   -- insert and remove of a map, refused at either door
   pub either_refused : (new : Option ℕ) {r : ℕ} {m' : Stored} → (leaving r m' ≡ edit kind m s e new) ⊎ (leaving r m' ≡ edit_sound kind places m s e new)
       → (r ≡ done → ⊥) → m' ≡ m
   either_refused new (inl q) n = refused_same (edit_unchanged kind m s e new) q n
-  either_refused new (inr q) n = refused_same (sound_unchanged new) q n
+  either_refused new (inr q) n = refused_same (sound_unchanged kind m s e new) q n
 
   -- insert of a set
-  pub set_insert_refused : {r : ℕ} {m' : Stored} → leaving r m' ≡ if_set m (insert kind m s e 0) (λ n. leaving n m) → (r ≡ done → ⊥) → m' ≡ m
+  pub set_insert_refused : {r : ℕ} {m' : Stored} → leaving r m' ≡ if_set m (insert kind m s e 0) (λ why. leaving (number why) m) → (r ≡ done → ⊥) → m' ≡ m
   set_insert_refused q n = refused_same (set_insert_unchanged kind m s e) q n
 
   -- remove of a set
-  pub set_remove_refused : {r : ℕ} {m' : Stored} → leaving r m' ≡ if_set m (remove kind m s e) (λ n. leaving n m) → (r ≡ done → ⊥) → m' ≡ m
+  pub set_remove_refused : {r : ℕ} {m' : Stored} → leaving r m' ≡ if_set m (remove kind m s e) (λ why. leaving (number why) m) → (r ≡ done → ⊥) → m' ≡ m
   set_remove_refused q n = refused_same (set_remove_unchanged kind m s e) q n

@@ -4,7 +4,7 @@
 use Prim.Native.Nat.{ℕ, zero, suc, ◌+◌}
 use native.Mathlib.Omega.{arith}
 use mathlib.Core.Path.{◌≡◌, refl, sym, ap, ◌∙◌}
-use mathlib.Core.Bool.{Bool, true, ◌&&◌}
+use mathlib.Core.Bool.{Bool, true, false, ◌&&◌}
 use mathlib.Core.List.{List, [], ◌∷◌}
 use mathlib.Core.Option.{some, none}
 use borrow.Author.Tests.{ltb-true}
@@ -13,7 +13,9 @@ use lib.IntN.{ℤ, pos}
 use mir.Syntax.{w64}
 use mir.Val.{SFits}
 use mir.Facts.{sfits_lit}
+use Rattle.std.specs.Prelude.{Ok}
 use Rattle.answers.specs.Answers.{done}
+use Rattle.answers.specs.Refusals.{number}
 use Rattle.span.specs.Span.{inside, at, keep, before, after, joins, tidy, push, joined, given, history}
 use Rattle.span.specs.Labels.{relabelled}
 use Rattle.span.specs.Operations.{puts, cuts, uncovered, laid_over, within, common_parts, common, chosen}
@@ -21,12 +23,12 @@ use Rattle.span.proofs.Tests.{both}
 use Rattle.key.specs.Rank.{above_least, bit_rank, key_at}
 use Rattle.key.specs.Range.{Kind, half_open, inclusive}
 use Rattle.key.proofs.Lawful.{Lawful, half_open_lawful, inclusive_too}
-use Rattle.outcomes.specs.Stored.{places, Stored, Sound, spans, ranges, filled, storing, zeros, noughts, unused, well_formed}
+use Rattle.outcomes.specs.Stored.{places, Sound, spans, ranges, filled, storing, zeros, noughts, unused, well_formed}
+use Rattle.outcomes.specs.declared.Stored.{Stored}
 use Rattle.outcomes.specs.Numbers.{asked_in_c, counted_in_c}
-use Rattle.outcomes.specs.Outcomes.{Entry, entries, Written, into_lists, Edited, leaving, edit_sound, edit, insert, remove, clear}
+use Rattle.outcomes.specs.Outcomes.{entries, Written, into_lists, Edited, leaving, edit_sound, edit, insert, remove, clear}
+use Rattle.key.specs.declared.Entry.{Entry}
 use Rattle.outcomes.specs.Sets.{plain, if_set}
-use Rattle.outcomes.specs.declared.Asked.TheVariants as Asked
-use Rattle.outcomes.specs.declared.Counted.TheVariants as Counted
 use Rattle.outcomes.specs.declared.Count.{Count}
 use Rattle.outcomes.specs.declared.Told.{Told}
 use Rattle.byte_form.specs.Layout.{rm01}
@@ -91,10 +93,10 @@ one_sound law = (event_proper law (insert_event (pos 0) (pos 8) 0) (clear_proper
 
 -- insert and remove of a set
 abbrev set_insert : Kind → Stored → ℤ → ℤ → Edited
-set_insert kind m s e = if_set m (insert kind m s e 0) (λ n. leaving n m)
+set_insert kind m s e = if_set m (insert kind m s e 0) (λ why. leaving (number why) m)
 
 abbrev set_remove : Kind → Stored → ℤ → ℤ → Edited
-set_remove kind m s e = if_set m (remove kind m s e) (λ n. leaving n m)
+set_remove kind m s e = if_set m (remove kind m s e) (λ why. leaving (number why) m)
 
 -- AN EDIT, tried on a map: 0..8 is taken, and leaves another map; 8..0 is refused with 1
 record Tried {A : Type 0} (args : ℤ → ℤ → A) (does : Stored → A → Edited) (m : Stored) : Type 0 where
@@ -308,11 +310,11 @@ a1_input : QueryInput (clear half_open) (clear half_open) (pos 0) (pos 8) a1
 unfolding all_small
 a1_input = (new_memory half_open_lawful, new_memory half_open_lawful, sfits_lit tt, sfits_lit tt, small_bytes a1 refl)
 
-a1_ranges : query_ranges (clear half_open) (clear half_open) (pos 0) (pos 8) a1 [] [] ≡ record { answer = Counted.Count 0; starts = []; ends = [] }
+a1_ranges : query_ranges (clear half_open) (clear half_open) (pos 0) (pos 8) a1 [] [] ≡ record { answer = Ok 0; starts = []; ends = [] }
 unfolding of_queries
 a1_ranges = refl
 
-a1_at : query_at (clear half_open) (clear half_open) (pos 0) (pos 8) a1 (pos 0) ≡ Asked.No
+a1_at : query_at (clear half_open) (clear half_open) (pos 0) (pos 8) a1 (pos 0) ≡ Ok false
 unfolding of_queries
 a1_at = refl
 

@@ -2,7 +2,8 @@
 use Rattle.std.specs.Prelude.{ℕ, ◌<◌, List, ℤ}
 use Rattle.std.specs.Int.{w64}
 use Rattle.std.proofs.Common.{SFits}
-use Rattle.outcomes.specs.Stored.{Stored, AllFit}
+use Rattle.outcomes.specs.Stored.{AllFit}
+use Rattle.outcomes.specs.declared.Stored.{Stored}
 use Rattle.byte_form.specs.Bytes.{Bytes}
 use Rattle.one_map.specs.Events.{InMemory}
 

@@ -1,17 +1,18 @@
 -- WHAT IS EQUAL TO THE RUST: what a struct answers, by the promise of a function, is what rangemap's own algorithms answer on the ranges that it holds; and
 -- what calls leave is what these hold that made the same changes. m and o are the maps that two structs hold.
-use Rattle.std.specs.Prelude.{ℕ, ◌<◌, ◌≡◌, List, [], take, drop, ℤ}
+use Rattle.std.specs.Prelude.{ℕ, ◌<◌, ◌≡◌, List, [], take, drop, ℤ, Ok}
 use Rattle.std.proofs.Math.Option.{Option, some}
 use Rattle.answers.specs.Answers.{done}
 use Rattle.span.specs.Span.{Span}
 use Rattle.key.specs.Rank.{rank}
 use Rattle.key.specs.Range.{Kind}
-use Rattle.outcomes.specs.Stored.{places, Stored, ranges, storing}
-use Rattle.outcomes.specs.Outcomes.{Change, Entry, Listed, leaving, into_lists, yes_no, compared_by, span_edits}
+use Rattle.outcomes.specs.Stored.{places, ranges, storing}
+use Rattle.outcomes.specs.declared.Stored.{Stored}
+use Rattle.outcomes.specs.Outcomes.{Change, Listed, leaving, into_lists, yes_no, compared_by, span_edits}
+use Rattle.key.specs.declared.Entry.{Entry}
 use Rattle.outcomes.specs.Numbers.{asked_in_c, counted_in_c, found_in_c, compared_in_c}
 use Rattle.outcomes.specs.declared.Applied.{Applied}
 use Rattle.outcomes.specs.declared.Count.{Count}
-use Rattle.outcomes.specs.declared.Counted.TheVariants as Counted
 use Rattle.outcomes.specs.declared.Order.{Order}
 use Rattle.outcomes.specs.declared.Range.{Range}
 use Rattle.outcomes.specs.declared.Stretch.{Stretch}
@@ -37,7 +38,7 @@ ExtendAsRust kind rust m xs r m' = rust.extend (entry_spans kind (take r.applied
 module _ (kind : Kind) (rust : Functions) (m : Stored) where
   -- len
   abbrev pub LenAsRust : (Count → Type 0) → Type 0
-  LenAsRust Promise = (r : Count) → Promise r → r ≡ counted_in_c (Counted.Count (map_len (ranges kind m)))
+  LenAsRust Promise = (r : Count) → Promise r → r ≡ counted_in_c (Ok (map_len (ranges kind m)))
 
   -- is empty
   abbrev pub IsEmptyAsRust : (Told → Type 0) → Type 0

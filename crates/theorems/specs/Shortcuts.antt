@@ -1,7 +1,7 @@
 -- NO SHORTCUT: what is said of the functions that edit a struct, for any struct and any edit.
 use Rattle.std.specs.Prelude.{ℕ, ◌<◌, ◌≡◌, ℤ}
-use Rattle.outcomes.specs.Stored.{Stored}
-use Rattle.outcomes.specs.Outcomes.{Entry}
+use Rattle.outcomes.specs.declared.Stored.{Stored}
+use Rattle.key.specs.declared.Entry.{Entry}
 use Rattle.theorems.specs.Inputs.{RangeInput}
 
 -- an edit of a struct S by arguments A: the struct that it leaves, and its answer

@@ -58,7 +58,3 @@ lesser_rank {r} a b e =
 -- and as it writes it
 pub put_end : (kind : RangeKind) (l : List ℤ) {l₁ : List ℤ} (n b : ℕ) → l₁ ≡ set l n (to_z w64 b) → l₁ ≡ set l n ((kind_of kind).ending (wide kind + bit_rank b))
 put_end kind l n b e = rw (← end_bits kind b) e
-
--- of a local and a key that was read
-pub greater_bits : {r : ℤ} (m : ℕ) (b : ℤ) → r ≡ greater (to_z w64 m) (to_z w64 (of_z w64 b)) → rank r ≡ max (bit_rank m) (rank b)
-greater_bits {r} m b e = ap rank e ∙ rank_greater (to_z w64 m) (to_z w64 (of_z w64 b)) ∙ rw (rank_back m, rank_back (of_z w64 b))

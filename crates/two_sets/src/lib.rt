@@ -6,12 +6,11 @@ ghost use Rattle.std.specs.Prelude.{◌≡◌, true, ◌&&◌, cond, ◌+◌, �
 ghost use Rattle.key.specs.Rank.{rank};
 ghost use Rattle.key.specs.Range.{kind_of};
 ghost use Rattle.key.specs.InnerDecides.{Decides};
-ghost use Rattle.outcomes.specs.Stored.{stored};
 ghost use Rattle.outcomes.specs.Sets.{formed_set, SoundSet};
 ghost use Rattle.two_sets.specs.InnerKind.{wide};
 
-use key::{RangeKind, Value, full};
-use outcomes::PLACES;
+use key::{RangeKind, full};
+use outcomes::Stored;
 use store::plain::is_set;
 
 // Where a walk is: the first `at` places are written, it is at places `i` and `j` of the two sets, and the range from `start` to `end` is open.
@@ -25,26 +24,13 @@ pub struct Position {
 }
 
 // Whether two lent sets are as they must be: the first is checked, then the second.
-pub fn are_sets(
-    kind: RangeKind,
-    count_a: usize,
-    starts_a: &[i64; PLACES],
-    ends_a: &[i64; PLACES],
-    values_a: &[Value; PLACES],
-    count_b: usize,
-    starts_b: &[i64; PLACES],
-    ends_b: &[i64; PLACES],
-    values_b: &[Value; PLACES],
-) -> bool
-    ensures value { result ≡ (formed_set (kind_of kind) (stored count_a starts_a.now ends_a.now values_a.now)
-        && formed_set (kind_of kind) (stored count_b starts_b.now ends_b.now values_b.now)) }
-    ensures sound_set { result ≡ true → SoundSet (kind_of kind) (stored count_a starts_a.now ends_a.now values_a.now)
-        × SoundSet (kind_of kind) (stored count_b starts_b.now ends_b.now values_b.now) }
+pub fn are_sets(kind: RangeKind, a: &Stored, b: &Stored) -> bool
+    ensures value { result ≡ (formed_set (kind_of kind) a.now
+        && formed_set (kind_of kind) b.now) }
+    ensures sound_set { result ≡ true → SoundSet (kind_of kind) a.now
+        × SoundSet (kind_of kind) b.now }
 {
-    if !is_set(kind, count_a, starts_a, ends_a, values_a) {
-        return false;
-    }
-    is_set(kind, count_b, starts_b, ends_b, values_b)
+    is_set(kind, a) && is_set(kind, b)
 }
 
 // Whether a range from `start` to `end` has a key, as an equation: the walks compute with it.
@@ -68,18 +54,12 @@ pub fn width(kind: RangeKind) -> u64
 pub fn pick(yes: bool, a: i64, b: i64) -> i64
     ensures { rank result ≡ cond yes (rank a) (rank b) }
 {
-    if yes {
-        return a;
-    }
-    b
+    if yes { a } else { b }
 }
 
 // Whether there is room for as many ranges as two sets have together. Then none need be counted.
 pub fn roomy(count_a: usize, count_b: usize, room: usize) -> bool
     ensures { Decides result (count_a + count_b ≤ room) }
 {
-    if room < count_a {
-        return false;
-    }
-    count_b <= room - count_a
+    count_a <= room && count_b <= room - count_a
 }

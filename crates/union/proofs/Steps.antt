@@ -17,47 +17,36 @@ use Rattle.span.proofs.Union.{plain_united}
 use Rattle.span.proofs.Walks.{Spaced, spaced_ordered, spaced_plain, united_left, united_right, united_none, united_from, length_united}
 use Rattle.span.proofs.Walks.{absorb_step, absorb_some, absorb_apart, grown}
 use Rattle.key.specs.Rank.{rank, key_at}
-use Rattle.key.proofs.Answers.{never}
 use Rattle.key.specs.Range.{kind_of}
 use Rattle.key.specs.declared.RangeKind.{RangeKind}
+use Rattle.outcomes.specs.declared.Stored.{Stored}
 use Rattle.two_sets.specs.InnerKind.{wide}
-use Rattle.range_list.specs.InnerColumns.{column_rows, rest}
-use Rattle.two_sets.specs.InnerSides.{Side}
+use Rattle.two_sets.specs.InnerSides.{Side, rows, rows_from}
 use Rattle.two_sets.proofs.Columns.{length_rows, spaced_rest, rest_more, rest_none, rest_all}
 use Rattle.two_sets.specs.InnerLists.{Counting, Going}
 use Rattle.two_sets.proofs.Writing.{counting_step, going_step}
 use Rattle.union.specs.InnerFound.{either, open_from, Opened, Takes, TakesNext}
 use Rattle.union.specs.declared.walk.Taken.{Taken}
 
--- THE NEXT RANGE: of one set where the other is at its end, and else of the one that starts first
-alone : {ss es ts : List ℤ} {n m k l : ℕ} (r : Taken) → k < n → m ≤ l
-    → rank r.start ≡ rank (get_or ss k (pos 0)) → rank r.end ≡ rank (get_or es k (pos 0)) → Takes ss es n k ts m l r
-alone r there h s e = record { there = there; start = s; end = e; first = λ i. absurd (omega arith) }
-
-module _ {ss es ts us : List ℤ} {n m k l : ℕ} (r : Taken) (there : k < n) where
-  pub next_left : m ≤ l → r.left ≡ true → rank r.start ≡ rank (get_or ss k (pos 0)) → rank r.end ≡ rank (get_or es k (pos 0)) → TakesNext ss es n k ts us m l r
-  next_left h f s e = record { lefts = λ _. alone r there h s e; rights = λ g. never (sym g ∙ f); sooner = λ _ i. absurd (omega arith) }
-
-  pub next_right : m ≤ l → r.left ≡ false → rank r.start ≡ rank (get_or ss k (pos 0)) → rank r.end ≡ rank (get_or es k (pos 0)) → TakesNext ts us m l ss es n k r
-  next_right h f s e = record { lefts = λ g. never (sym f ∙ g); rights = λ _. alone r there h s e; sooner = λ g. never (sym f ∙ g) }
-
-  pub next_both : l < m → r.left ≡ ltb (rank (get_or ss k (pos 0))) (rank (get_or ts l (pos 0)))
-      → rank r.start ≡ cond r.left (rank (get_or ss k (pos 0))) (rank (get_or ts l (pos 0)))
-      → rank r.end ≡ cond r.left (rank (get_or es k (pos 0))) (rank (get_or us l (pos 0))) → TakesNext ss es n k ts us m l r
+-- THE NEXT RANGE, where both sets have one: that which starts first
+module _ {m other : Stored} {k l : ℕ} (r : Taken) (there : k < m.count) where
+  pub next_both : l < other.count → r.left ≡ ltb (rank (get_or m.starts k (pos 0))) (rank (get_or other.starts l (pos 0)))
+      → rank r.start ≡ cond r.left (rank (get_or m.starts k (pos 0))) (rank (get_or other.starts l (pos 0)))
+      → rank r.end ≡ cond r.left (rank (get_or m.ends k (pos 0))) (rank (get_or other.ends l (pos 0))) → TakesNext m k other l r
   next_both h f s e = record {
     lefts = λ g. record {
       there = there;
       start = rw g at s;
       end = rw g at e;
-      first = λ _. let p = ltb-true (rank (get_or ss k (pos 0))) (rank (get_or ts l (pos 0))) (sym f ∙ g) in omega arith;
+      first = λ _. let p = ltb-true (rank (get_or m.starts k (pos 0))) (rank (get_or other.starts l (pos 0))) (sym f ∙ g) in omega arith;
     };
     rights = λ g. record {
       there = h;
       start = rw g at s;
       end = rw g at e;
-      first = λ _. ltb-false (rank (get_or ss k (pos 0))) (rank (get_or ts l (pos 0))) (sym f ∙ g);
+      first = λ _. ltb-false (rank (get_or m.starts k (pos 0))) (rank (get_or other.starts l (pos 0))) (sym f ∙ g);
     };
-    sooner = λ g _. ltb-true (rank (get_or ss k (pos 0))) (rank (get_or ts l (pos 0))) (sym f ∙ g);
+    sooner = λ g _. ltb-true (rank (get_or m.starts k (pos 0))) (rank (get_or other.starts l (pos 0))) (sym f ∙ g);
   }
 
 -- the open range from lo to w + h, and a range from s to w + e that starts no sooner, before all others
@@ -83,11 +72,11 @@ record Took (kind : RangeKind) (lo s e : ℕ) (here there more : List Span) : Ty
   here_on : Ordered s more
   there_on : Ordered s there
 
-module _ (kind : RangeKind) {ss es ts us : List ℤ} {n m : ℕ} (a : Side (kind_of kind) ss es n) (b : Side (kind_of kind) ts us m) {k l lo : ℕ} (r : Taken) where
-  took : Takes ss es n k ts m l r → Ordered lo (rest (kind_of kind) ss es n k)
-      → Took kind lo (rank r.start) (rank r.end) (rest (kind_of kind) ss es n k) (rest (kind_of kind) ts us m l) (rest (kind_of kind) ss es n (k + 1))
+module _ (kind : RangeKind) {m other : Stored} (a : Side (kind_of kind) m) (b : Side (kind_of kind) other) {k l lo : ℕ} (r : Taken) where
+  took : Takes m k other l r → Ordered lo (rows_from (kind_of kind) m k)
+      → Took kind lo (rank r.start) (rank r.end) (rows_from (kind_of kind) m k) (rows_from (kind_of kind) other l) (rows_from (kind_of kind) m (k + 1))
   took t o =
-      let more = rest (kind_of kind) ss es n (k + 1) in
+      let more = rows_from (kind_of kind) m (k + 1) in
       let x = rest_more kind a k t.there t.start t.end in
       let p = rw x at o in
       let s = rw x at (spaced_rest (kind_of kind) a k) in
@@ -98,21 +87,21 @@ module _ (kind : RangeKind) {ss es ts us : List ℤ} {n m : ℕ} (a : Side (kind
         rest_on = spaced_rest (kind_of kind) a (k + 1);
         here_on = ordered_from {b = suc (wide kind + rank r.end)} {c = rank r.start} more (omega (arith, s.1))
             (spaced_ordered (suc (wide kind + rank r.end)) more s.3);
-        there_on = elim (dec_lt l m) [
+        there_on = elim (dec_lt l other.count) [
           | yes h ↦
               let y = rest_more kind b l h refl refl in
-              let q = rw y at (spaced_ordered 0 (rest (kind_of kind) ts us m l) (spaced_rest (kind_of kind) b l)) in
+              let q = rw y at (spaced_ordered 0 (rows_from (kind_of kind) other l) (spaced_rest (kind_of kind) b l)) in
               rw y (omega (arith, t.first h, t.start), q.1, q.2)
           | no h ↦ rw (rest_none (kind_of kind) b l (omega arith)) tt
         ];
       }
 
 -- what is still to be written after a step, which took the left range or the right one; and that a range may be open there
-abbrev pub open_next : RangeKind → ℕ → ℕ → List ℤ → List ℤ → ℕ → ℕ → List ℤ → List ℤ → ℕ → ℕ → Bool → List Span
-open_next kind s e sa ea na i sb eb nb j left = open_from kind s e sa ea na (i + bool_byte left) sb eb nb (j + bool_byte (not left))
+abbrev pub open_next : RangeKind → ℕ → ℕ → Stored → ℕ → Stored → ℕ → Bool → List Span
+open_next kind s e a i b j left = open_from kind s e a (i + bool_byte left) b (j + bool_byte (not left))
 
-abbrev pub OpenedNext : RangeKind → ℕ → ℕ → List ℤ → List ℤ → ℕ → ℕ → List ℤ → List ℤ → ℕ → ℕ → Bool → Type 0
-OpenedNext kind s e sa ea na i sb eb nb j left = Opened kind s e sa ea na (i + bool_byte left) sb eb nb (j + bool_byte (not left))
+abbrev pub OpenedNext : RangeKind → ℕ → ℕ → Stored → ℕ → Stored → ℕ → Bool → Type 0
+OpenedNext kind s e a i b j left = Opened kind s e a (i + bool_byte left) b (j + bool_byte (not left))
 
 -- what the open range is then
 still_full : (joins : Bool) (w lo h s e : ℕ) → lo < w + h → s < w + e → cond joins lo s < w + max h e
@@ -127,30 +116,30 @@ turned : (joins : Bool) (xs ys : List Span) → cond joins xs ys ≡ cond (not j
 turned true xs ys = refl
 turned false xs ys = refl
 
-module _ (kind : RangeKind) {sa ea sb eb : List ℤ} {na nb : ℕ} (a : Side (kind_of kind) sa ea na) (b : Side (kind_of kind) sb eb nb) where
+module _ (kind : RangeKind) {m other : Stored} (a : Side (kind_of kind) m) (b : Side (kind_of kind) other) where
   -- at most as many as the sets have together
-  pub most : length (either kind sa ea na sb eb nb) ≤ na + nb
-  most = omega (arith, length_united (column_rows (kind_of kind) sa ea na) (column_rows (kind_of kind) sb eb nb), length_rows (kind_of kind) a, length_rows (kind_of kind) b)
+  pub most : length (either kind m other) ≤ m.count + other.count
+  most = omega (arith, length_united (rows (kind_of kind) m) (rows (kind_of kind) other), length_rows (kind_of kind) a, length_rows (kind_of kind) b)
 
-  module _ {i j lo h : ℕ} (o : Opened kind lo h sa ea na i sb eb nb j) (r : Taken) (t : TakesNext sa ea na i sb eb nb j r) where
+  module _ {i j lo h : ℕ} (o : Opened kind lo h m i other j) (r : Taken) (t : TakesNext m i other j r) where
     by_left : (left : Bool) → r.left ≡ left →
         let s = rank r.start in
         let joins = ltb s (wide kind + h) in
         let lo₁ = cond joins lo s in
         let h₁ = max h (rank r.end) in
-        (open_from kind lo h sa ea na i sb eb nb j
-        ≡ cond joins (open_next kind lo₁ h₁ sa ea na i sb eb nb j left) (span lo (wide kind + h) 0 ∷ open_next kind lo₁ h₁ sa ea na i sb eb nb j left))
-        × OpenedNext kind lo₁ h₁ sa ea na i sb eb nb j left
+        (open_from kind lo h m i other j
+        ≡ cond joins (open_next kind lo₁ h₁ m i other j left) (span lo (wide kind + h) 0 ∷ open_next kind lo₁ h₁ m i other j left))
+        × OpenedNext kind lo₁ h₁ m i other j left
     by_left true f =
         let k = took kind a b r (t.lefts f) o.after_a in
-        let xs = rest (kind_of kind) sa ea na (i + 1) in
-        let ys = rest (kind_of kind) sb eb nb j in
+        let xs = rows_from (kind_of kind) m (i + 1) in
+        let ys = rows_from (kind_of kind) other j in
         let s = rank r.start in
         let e = rank r.end in
         let n : j + 0 ≡ j = omega arith in
         let le = no_later (ltb s (wide kind + h)) lo s k.later in
         rw n (
-          ap (absorb (span lo (wide kind + h) 0)) (ap (λ (m : List Span). united m ys) k.cons ∙ united_left (span s (wide kind + e) 0) xs ys)
+          ap (absorb (span lo (wide kind + h) 0)) (ap (λ (x : List Span). united x ys) k.cons ∙ united_left (span s (wide kind + e) 0) xs ys)
               ∙ lay (wide kind) lo h s e xs ys o.full k.full k.later k.here_on k.there_on
               (spaced_plain 0 xs k.rest_on) (spaced_plain 0 ys (spaced_rest (kind_of kind) b j)),
           record {
@@ -163,8 +152,8 @@ module _ (kind : RangeKind) {sa ea sb eb : List ℤ} {na nb : ℕ} (a : Side (ki
         )
     by_left false f =
         let k = took kind b a r (t.rights f) o.after_b in
-        let xs = rest (kind_of kind) sa ea na i in
-        let ys = rest (kind_of kind) sb eb nb (j + 1) in
+        let xs = rows_from (kind_of kind) m i in
+        let ys = rows_from (kind_of kind) other (j + 1) in
         let s = rank r.start in
         let e = rank r.end in
         let n : i + 0 ≡ i = omega arith in
@@ -187,60 +176,60 @@ module _ (kind : RangeKind) {sa ea sb eb : List ℤ} {na nb : ℕ} (a : Side (ki
     -- A STEP: does the range that was taken join the open one, and what is open then
     pub step_open : {lo₁ h₁ : ℕ} (joins : Bool) → joins ≡ ltb (rank r.start) (wide kind + h)
         → lo₁ ≡ cond joins lo (rank r.start) → h₁ ≡ max h (rank r.end)
-        → (open_from kind lo h sa ea na i sb eb nb j
-        ≡ cond (not joins) (span lo (wide kind + h) 0 ∷ open_next kind lo₁ h₁ sa ea na i sb eb nb j r.left)
-        (open_next kind lo₁ h₁ sa ea na i sb eb nb j r.left))
-        × OpenedNext kind lo₁ h₁ sa ea na i sb eb nb j r.left
+        → (open_from kind lo h m i other j
+        ≡ cond (not joins) (span lo (wide kind + h) 0 ∷ open_next kind lo₁ h₁ m i other j r.left)
+        (open_next kind lo₁ h₁ m i other j r.left))
+        × OpenedNext kind lo₁ h₁ m i other j r.left
     step_open joins p l q = let b = by_left r.left refl in (rw (l, q, p) (b.0 ∙ turned (ltb (rank r.start) (wide kind + h)) _ _), rw (l, q, p) b.1)
 
-  pub open_last : {i j lo h : ℕ} → na + nb ≤ i + j → Opened kind lo h sa ea na i sb eb nb j
-      → open_from kind lo h sa ea na i sb eb nb j ≡ span lo (wide kind + h) 0 ∷ []
+  pub open_last : {i j lo h : ℕ} → m.count + other.count ≤ i + j → Opened kind lo h m i other j
+      → open_from kind lo h m i other j ≡ span lo (wide kind + h) 0 ∷ []
   open_last {i} {j} {lo} {h} e o =
       rw (rest_none (kind_of kind) a i (omega (arith, o.in_b)), rest_none (kind_of kind) b j (omega (arith, o.in_a)), united_none [])
       (absorb_apart (span lo (wide kind + h) 0) [] o.full tt)
 
   -- THE FIRST range that is taken is the open one
-  module _ (r : Taken) (t : TakesNext sa ea na 0 sb eb nb 0 r) where
+  module _ (r : Taken) (t : TakesNext m 0 other 0 r) where
     first_by : (left : Bool) → r.left ≡ left
-        → (either kind sa ea na sb eb nb ≡ open_from kind (rank r.start) (rank r.end) sa ea na (bool_byte left) sb eb nb (bool_byte (not left)))
-        × Opened kind (rank r.start) (rank r.end) sa ea na (bool_byte left) sb eb nb (bool_byte (not left))
+        → (either kind m other ≡ open_from kind (rank r.start) (rank r.end) m (bool_byte left) other (bool_byte (not left)))
+        × Opened kind (rank r.start) (rank r.end) m (bool_byte left) other (bool_byte (not left))
     first_by true f =
-        let k = took kind a b {lo = 0} r (t.lefts f) (spaced_ordered 0 (rest (kind_of kind) sa ea na 0) (spaced_rest (kind_of kind) a 0)) in (
+        let k = took kind a b {lo = 0} r (t.lefts f) (spaced_ordered 0 (rows_from (kind_of kind) m 0) (spaced_rest (kind_of kind) a 0)) in (
           rw (← rest_all (kind_of kind) a, ← rest_all (kind_of kind) b)
-              (ap (λ (m : List Span). united m (rest (kind_of kind) sb eb nb 0)) k.cons ∙ united_left _ _ _),
+              (ap (λ (x : List Span). united x (rows_from (kind_of kind) other 0)) k.cons ∙ united_left _ _ _),
           record { in_a = omega (arith, (t.lefts f).there); in_b = omega arith; full = k.full; after_a = k.here_on; after_b = k.there_on },
         )
     first_by false f =
-        let k = took kind b a {lo = 0} r (t.rights f) (spaced_ordered 0 (rest (kind_of kind) sb eb nb 0) (spaced_rest (kind_of kind) b 0)) in (
+        let k = took kind b a {lo = 0} r (t.rights f) (spaced_ordered 0 (rows_from (kind_of kind) other 0) (spaced_rest (kind_of kind) b 0)) in (
           rw (← rest_all (kind_of kind) a, ← rest_all (kind_of kind) b)
-              (ap (united (rest (kind_of kind) sa ea na 0)) k.cons
+              (ap (united (rows_from (kind_of kind) m 0)) k.cons
               ∙ united_right _ _ _ (spaced_rest (kind_of kind) a 0) (rw k.cons at (spaced_rest (kind_of kind) b 0))),
           record { in_a = omega arith; in_b = omega (arith, (t.rights f).there); full = k.full; after_a = k.there_on; after_b = k.here_on },
         )
 
-    pub first_open : (either kind sa ea na sb eb nb
-        ≡ open_from kind (rank r.start) (rank r.end) sa ea na (bool_byte r.left) sb eb nb (bool_byte (not r.left)))
-        × Opened kind (rank r.start) (rank r.end) sa ea na (bool_byte r.left) sb eb nb (bool_byte (not r.left))
+    pub first_open : (either kind m other
+        ≡ open_from kind (rank r.start) (rank r.end) m (bool_byte r.left) other (bool_byte (not r.left)))
+        × Opened kind (rank r.start) (rank r.end) m (bool_byte r.left) other (bool_byte (not r.left))
     first_open = first_by r.left refl
 
   -- there is none
-  pub either_none : na + nb ≡ 0 → either kind sa ea na sb eb nb ≡ []
+  pub either_none : m.count + other.count ≡ 0 → either kind m other ≡ []
   either_none e =
       rw (← rest_all (kind_of kind) a, ← rest_all (kind_of kind) b, rest_none (kind_of kind) a 0 (omega arith), rest_none (kind_of kind) b 0 (omega arith))
       (united_none [])
 
   -- COUNTING and WRITING, after a step
-  module _ {i j lo h : ℕ} (o : Opened kind lo h sa ea na i sb eb nb j) (r : Taken) (t : TakesNext sa ea na i sb eb nb j r) (joins : Bool) {lo₁ h₁ : ℕ}
+  module _ {i j lo h : ℕ} (o : Opened kind lo h m i other j) (r : Taken) (t : TakesNext m i other j r) (joins : Bool) {lo₁ h₁ : ℕ}
       (p : joins ≡ ltb (rank r.start) (wide kind + h)) (l : lo₁ ≡ cond joins lo (rank r.start)) (q : h₁ ≡ max h (rank r.end)) where
-    pub still_open : OpenedNext kind lo₁ h₁ sa ea na i sb eb nb j r.left
+    pub still_open : OpenedNext kind lo₁ h₁ m i other j r.left
     still_open = (step_open o r t joins p l q).1
 
-    pub counting_on : {goal : List Span} {n : ℕ} → Counting goal n (open_from kind lo h sa ea na i sb eb nb j)
-        → Counting goal (n + bool_byte (not joins)) (open_next kind lo₁ h₁ sa ea na i sb eb nb j r.left)
+    pub counting_on : {goal : List Span} {n : ℕ} → Counting goal n (open_from kind lo h m i other j)
+        → Counting goal (n + bool_byte (not joins)) (open_next kind lo₁ h₁ m i other j r.left)
     counting_on g = counting_step (not joins) (span lo (wide kind + h) 0) g (step_open o r t joins p l q).0
 
     pub going_on : {os oe os₁ oe₁ os₂ oe₂ : List ℤ} {goal : List Span} {n at : ℕ}
-        → Going (kind_of kind) n os oe goal at (open_from kind lo h sa ea na i sb eb nb j) os₁ oe₁
+        → Going (kind_of kind) n os oe goal at (open_from kind lo h m i other j) os₁ oe₁
         → os₂ ≡ set os₁ at (key_at lo) → oe₂ ≡ set oe₁ at ((kind_of kind).ending (wide kind + h))
-        → Going (kind_of kind) n os oe goal (at + bool_byte (not joins)) (open_next kind lo₁ h₁ sa ea na i sb eb nb j r.left) os₂ oe₂
+        → Going (kind_of kind) n os oe goal (at + bool_byte (not joins)) (open_next kind lo₁ h₁ m i other j r.left) os₂ oe₂
     going_on g s e = going_step (kind_of kind) g (not joins) (span lo (wide kind + h) 0) (step_open o r t joins p l q).0 (absorb_some _ _) s e

@@ -1,29 +1,18 @@
 use mathlib.Core.Path.{◌∙◌}
-use Rattle.byte_form.proofs.Forms.{told_same}
+use Rattle.command.proofs.Digits.{told_equal}
 use Rattle.command.proofs.six.Goals as goal
+use Rattle.command.proofs.six.Goals.{else-eq-2-via-then-eq-2+else-eq-3, else-eq-2-via-else-eq-2}
 
-pub returns-then-same : goal.returns-then-same
-returns-then-same c = rw (told_same _ _ _ c.same.ensures ∙ c.if-same.true) c.query_in.ensures
+pub returns-then-eq : goal.returns-then-eq
+returns-then-eq c = rw (told_equal c.args.word.now c.as_slice.ensures c.eq.ensures ∙ c.if-eq.true) c.query_in.ensures
 
-pub returns-then-not-same : goal.returns-then-not-same
-returns-then-not-same c =
-    rw (
-      told_same _ _ _ c.same.ensures ∙ c.if-same.false,
-      told_same _ _ _ c.same-2.ensures ∙ c.if-not-same.true,
-    )
+pub returns-then-eq-3 : goal.returns-then-eq-3
+returns-then-eq-3 c = rw (told_equal c.args.word.now c.as_slice.ensures c.eq.ensures ∙ c.if-eq.false, told_equal c.args.word.now c.as_slice-else-eq.ensures c.eq-else-eq.ensures ∙ c.if-eq-2.true, told_equal c.args.e.now c.as_slice-then-eq-2.ensures c.eq-then-eq-2.ensures ∙ c.if-eq-3.true) c.dated_by.ensures
 
-pub returns-then-not-same-2 : goal.returns-then-not-same-2
-returns-then-not-same-2 c = rw (
-  told_same _ _ _ c.same.ensures ∙ c.if-same.false,
-  told_same _ _ _ c.same-2.ensures ∙ c.if-not-same.false,
-  told_same _ _ _ c.same-3.ensures ∙ c.if-not-same-2.true,
-)
-
-pub returns : goal.returns
-returns c =
-    rw (
-      told_same _ _ _ c.same.ensures ∙ c.if-same.false,
-      told_same _ _ _ c.same-2.ensures ∙ c.if-not-same.false,
-      told_same _ _ _ c.same-3.ensures ∙ c.if-not-same-2.false,
-    )
-    c.dated_by.ensures
+pub returns-else-eq-2 : goal.returns-else-eq-2
+returns-else-eq-2 c =
+    elim c.else-eq-2.branch [
+      | else-eq-2-via-then-eq-2+else-eq-3 w ↦
+          rw (told_equal c.args.word.now c.as_slice.ensures c.eq.ensures ∙ c.if-eq.false, told_equal c.args.word.now c.as_slice-else-eq.ensures c.eq-else-eq.ensures ∙ w.if-eq-2.true, told_equal c.args.e.now w.as_slice-then-eq-2.ensures w.eq-then-eq-2.ensures ∙ w.if-eq-3.false)
+      | else-eq-2-via-else-eq-2 w ↦ rw (told_equal c.args.word.now c.as_slice.ensures c.eq.ensures ∙ c.if-eq.false, told_equal c.args.word.now c.as_slice-else-eq.ensures c.eq-else-eq.ensures ∙ w.if-eq-2.false)
+    ]

@@ -1,58 +1,26 @@
 use native.Mathlib.Omega.{arith}
-use Rattle.key.proofs.Laws.{rank_back}
-use Rattle.outcomes.specs.Stored.{Stored, stored}
-use Rattle.compare.proofs.Walk.{all_left, passed, decided, first_left, second_left, neither_left}
+use mathlib.Core.Path.{ap, sym, ◌∙◌}
+use Rattle.std.specs.Prelude.{Ok}
+use Rattle.compare.proofs.Walk.{Columns, all_left, passed, decided, by_counts}
 use Rattle.compare.proofs.compare.Goals as goal
 
 pub loop-k-init : goal.loop-k-init
-loop-k-init c = (omega arith, omega arith, all_left _ _)
+loop-k-init c = all_left _ _
 
-pub returns-then-count2-k : goal.returns-then-count2-k
-returns-then-count2-k c =
-    let a = c.args in
-    let one : Stored = stored a.count a.starts.now a.ends.now a.values.now in
-    let two : Stored = stored a.count2 a.starts2.now a.ends2.now a.values2.now in
-    let l = c.loop-k in
-    let s = c in
-    first_left one two s.requires.count_in_bounds s.requires.count2_in_bounds l.k l.invariant.2 (omega arith) (omega arith)
+pub returns-then-is_ne : goal.returns-then-is_ne
+returns-then-is_ne c =
+    let a : Columns c.args.m.now = (omega arith, omega arith, omega arith) in
+    let b : Columns c.args.other.now = (omega arith, omega arith, omega arith) in
+    decided _ _ a b c.loop-k.k c.loop-k.invariant (omega arith) (omega arith) _ c.compare_place-order.ensures (sym c.is_ne.ensures ∙ c.if-is_ne.true)
 
 pub loop-k-preserved : goal.loop-k-preserved
 loop-k-preserved c =
-    let a = c.args in
-    let one : Stored = stored a.count a.starts.now a.ends.now a.values.now in
-    let two : Stored = stored a.count2 a.starts2.now a.ends2.now a.values2.now in
-    let p = c.compare_place-c in
-    let l = c.loop-k in
-    let s = c in (
-      omega arith,
-      omega arith,
-      passed one two s.requires.count_in_bounds s.requires.count2_in_bounds l.k l.invariant.2 (omega arith) (omega arith) (simp rank_back at p.ensures) c.in-Equal.is,
-    )
-
-pub returns-then-k-count2 : goal.returns-then-k-count2
-returns-then-k-count2 c =
-    let a = c.args in
-    let one : Stored = stored a.count a.starts.now a.ends.now a.values.now in
-    let two : Stored = stored a.count2 a.starts2.now a.ends2.now a.values2.now in
-    let l = c.loop-k in
-    let s = c in
-    second_left one two s.requires.count_in_bounds s.requires.count2_in_bounds l.k l.invariant.2 (omega arith) (omega arith)
+    let a : Columns c.args.m.now = (omega arith, omega arith, omega arith) in
+    let b : Columns c.args.other.now = (omega arith, omega arith, omega arith) in
+    passed _ _ a b c.loop-k.k c.loop-k.invariant (omega arith) (omega arith) _ c.compare_place-order.ensures (sym c.is_ne.ensures ∙ c.if-is_ne.false)
 
 pub returns : goal.returns
 returns c =
-    let a = c.args in
-    let one : Stored = stored a.count a.starts.now a.ends.now a.values.now in
-    let two : Stored = stored a.count2 a.starts2.now a.ends2.now a.values2.now in
-    let l = c.loop-k in
-    let s = c in
-    neither_left one two s.requires.count_in_bounds s.requires.count2_in_bounds l.k l.invariant.2 (omega arith) (omega arith)
-
-pub returns-in_default : goal.returns-in_default
-returns-in_default c =
-    let a = c.args in
-    let one : Stored = stored a.count a.starts.now a.ends.now a.values.now in
-    let two : Stored = stored a.count2 a.starts2.now a.ends2.now a.values2.now in
-    let p = c.compare_place-c in
-    let l = c.loop-k in
-    let s = c in
-    decided one two s.requires.count_in_bounds s.requires.count2_in_bounds l.k l.invariant.2 (omega arith) (omega arith) (simp rank_back at p.ensures) c.in_default.not-Equal
+    let a : Columns c.args.m.now = (omega arith, omega arith, omega arith) in
+    let b : Columns c.args.other.now = (omega arith, omega arith, omega arith) in
+    ap Ok c.cmp.ensures ∙ by_counts _ _ a b c.loop-k.k c.loop-k.invariant (omega arith)

@@ -3,11 +3,11 @@ use mathlib.Core.Path.{sym}
 use Rattle.decimal.proofs.Steps.{plain_empty, plain_one, plain_longer}
 use Rattle.decimal.proofs.is_plain.Goals as goal
 
-pub returns-then-text-eq0 : goal.returns-then-text-eq0
-returns-then-text-eq0 c = sym (plain_empty c.args.text.now c.if-text-eq0.true)
+pub returns-in-empty : goal.returns-in-empty
+returns-in-empty c = sym (plain_empty _ (omega arith))
 
-pub returns-then-text-eq1 : goal.returns-then-text-eq1
-returns-then-text-eq1 c = sym (plain_one c.args.text.now c.if-text-eq1.true)
+pub returns-in-len1 : goal.returns-in-len1
+returns-in-len1 c = sym (plain_one _ (omega arith))
 
-pub returns : goal.returns
-returns c = sym (plain_longer c.args.text.now (omega arith))
+pub returns-in-len1-up : goal.returns-in-len1-up
+returns-in-len1-up c = sym (plain_longer _ (omega arith))

@@ -1,41 +1,34 @@
-use Prim.Native.Nat.{◌+◌}
 use native.Mathlib.Omega.{arith}
 use mathlib.Core.Path.{sym, ap, ◌∙◌}
+use Prim.Native.Nat.{ℕ, ◌+◌}
 use lib.ListN.{drop}
-use Rattle.decimal.specs.declared.Numeral.{Numeral}
+use Rattle.std.specs.Prelude.{Option, Some}
 use Rattle.decimal.specs.Reading.{read_on}
 use Rattle.decimal.proofs.Reading.{on_not}
 use Rattle.decimal.proofs.Steps.{number_plain, number_not, read_more, read_all}
 use Rattle.decimal.proofs.read_u64.Goals as goal
 
 pub returns-then-not-is_plain : goal.returns-then-not-is_plain
-returns-then-not-is_plain c =
-    let p = c.is_plain in
-    sym (number_not c.args.text.now (sym p.ensures ∙ c.if-not-is_plain.true))
+returns-then-not-is_plain c = sym (number_not c.args.text.now (sym c.is_plain.ensures ∙ c.if-not-is_plain.true))
 
-pub loop-i-init : goal.loop-i-init
-loop-i-init c =
-    let p = c.is_plain in
-    (omega arith, number_plain c.args.text.now (sym p.ensures ∙ c.if-not-is_plain.false))
+pub loop-byte-init : goal.loop-byte-init
+loop-byte-init c = number_plain c.args.text.now (sym c.is_plain.ensures ∙ c.if-not-is_plain.false)
 
-pub returns-in_default : goal.returns-in_default
-returns-in_default c =
-    let r = c.next in
-    let l = c.loop-i in
+pub returns-in_err-n : goal.returns-in_err-n
+returns-in_err-n c =
+    let l = c.loop-byte in
     let t = c.args.text.now in
-    let e = ap (λ (a : Numeral). read_on a (drop (l.i + 1) t)) (sym r.ensures ∙ c.in_default.is) in
-    sym (l.invariant.1 ∙ read_more t (Numeral.Is l.n) l.i (omega arith) ∙ e ∙ on_not (drop (l.i + 1) t))
+    let e = sym c.next.ensures ∙ c.in_err-n.was in
+    rw (l.invariant, read_more t (Some l.n) l.byte-index (omega arith), e, on_not (drop (l.byte-index + 1) t)) c.from_residual.ensures
 
-pub loop-i-preserved : goal.loop-i-preserved
-loop-i-preserved c =
-    let r = c.next in
-    let l = c.loop-i in
+pub loop-byte-preserved : goal.loop-byte-preserved
+loop-byte-preserved c =
+    let l = c.loop-byte in
     let t = c.args.text.now in
-    let e = ap (λ (a : Numeral). read_on a (drop (l.i + 1) t)) (sym r.ensures ∙ c.in-Is.is) in
-    (omega arith, l.invariant.1 ∙ read_more t (Numeral.Is l.n) l.i (omega arith) ∙ e)
+    let e = sym c.next.ensures ∙ c.in_ok-n.was in
+    l.invariant ∙ read_more t (Some l.n) l.byte-index (omega arith) ∙ ap (λ (a : Option ℕ). read_on a (drop (l.byte-index + 1) t)) e
 
 pub returns : goal.returns
 returns c =
-    let l = c.loop-i in
-    let t = c.args.text.now in
-    sym (l.invariant.1 ∙ read_all t (Numeral.Is l.n) l.i (omega arith))
+    let l = c.loop-byte in
+    sym (l.invariant ∙ read_all c.args.text.now (Some l.n) l.byte-index (omega arith))

@@ -1,4 +1,4 @@
-use Prim.Native.Nat.{◌+◌, ◌-◌}
+use Prim.Native.Nat.{◌+◌}
 use mathlib.Core.List.{[]}
 use lib.ListN.{get_or}
 use Rattle.duty.specs.InnerCounting.{part, seconds_in}
@@ -7,9 +7,6 @@ use Rattle.duty.proofs.clipped.Given as goal
 
 abbrev pub invariant-loop-k : goal.invariant-loop-k
 invariant-loop-k l =
-    Going l.starts l.ends l.values l.window l.from l.to
-    (λ d. get_or l.initial.t d 0 + seconds_in l.window d (part l.starts l.ends l.values l.from l.to))
+    Going l.m l.window l.from l.to
+    (λ d. get_or l.initial.t d 0 + seconds_in l.window d (part l.m l.from l.to))
     l.t [] l.k
-
-abbrev pub decreases-loop-k : goal.decreases-loop-k
-decreases-loop-k l = l.to - l.k

@@ -1,9 +1,7 @@
-use Prim.Native.Nat.{◌-◌, ◌≤◌}
-use Rattle.duty.proofs.Looked.{Seen}
+use Prim.Native.Nat.{◌+◌}
+use Rattle.key.specs.InnerDecides.{Decides}
+use Rattle.duty.specs.InnerCounting.{Statuses}
 use Rattle.duty.proofs.statuses.Given as goal
 
-abbrev pub invariant-loop-k : goal.invariant-loop-k
-invariant-loop-k l = (l.from ≤ l.k) × (l.k ≤ l.to) × Seen l.values l.from l.k l.seen
-
-abbrev pub decreases-loop-k : goal.decreases-loop-k
-decreases-loop-k l = l.to - l.k
+abbrev pub invariant-loop-value : goal.invariant-loop-value
+invariant-loop-value l = Decides l.all (Statuses l.values l.from (l.from + l.value-index))

@@ -1,5 +1,6 @@
 use native.Mathlib.Omega.{arith}
 use mathlib.Core.Path.{ap, ◌∙◌}
+use Rattle.std.specs.Prelude.{Some}
 use borrow.Author.Rules.{sfits_of}
 use mir.Facts.{to_z-of_z}
 use Rattle.key.specs.Range.{half_open}
@@ -7,7 +8,7 @@ use Rattle.key.proofs.Lawful.{half_open_lawful}
 use Rattle.outcomes.proofs.Formed.{sound_held}
 use Rattle.store.specs.InnerSearch.{FirstPast}
 use Rattle.store.proofs.Seeking.{starts_searched}
-use Rattle.duty.specs.declared.Walked.TheVariants as Walked
+use Rattle.std.specs.Prelude.{Some}
 use Rattle.duty.proofs.Walking.{met, apart, table_room, table_is, strange_is}
 use Rattle.duty.proofs.walk.Goals as goal
 
@@ -20,7 +21,7 @@ first_past-to-requires c =
 pub statuses-requires : goal.statuses-requires
 statuses-requires c =
     let a = c.args in
-    let next : FirstPast half_open a.count a.starts.now a.from a.window.end c.first_past-to.result =
+    let next : FirstPast half_open a.m.now.count a.m.now.starts a.from a.window.end c.first_past-to.result =
     rw (to_z-of_z (sfits_of c.struct_told-1.given.1.0.1)) at c.first_past-to.ensures in
     let p = c.requires in
     (omega (arith, next.from), omega (arith, next.within, sound_held half_open _ p.0, p.0.values_as))
@@ -28,15 +29,15 @@ statuses-requires c =
 pub returns-then-not-statuses : goal.returns-then-not-statuses
 returns-then-not-statuses c =
     let a = c.args in
-    let next : FirstPast half_open a.count a.starts.now a.from a.window.end c.first_past-to.result =
+    let next : FirstPast half_open a.m.now.count a.m.now.starts a.from a.window.end c.first_past-to.result =
     rw (to_z-of_z (sfits_of c.struct_told-1.given.1.0.1)) at c.first_past-to.ensures in
     let p = c.requires in
     strange_is p.0 p.1 next p.2 p.3 (c.statuses.ensures.wrong c.if-not-statuses.true)
 
-pub table_of-t-requires : goal.table_of-t-requires
-table_of-t-requires c =
+pub table_of-requires : goal.table_of-requires
+table_of-requires c =
     let a = c.args in
-    let next : FirstPast half_open a.count a.starts.now a.from a.window.end c.first_past-to.result =
+    let next : FirstPast half_open a.m.now.count a.m.now.starts a.from a.window.end c.first_past-to.result =
     rw (to_z-of_z (sfits_of c.struct_told-1.given.1.0.1)) at c.first_past-to.ensures in
     let p = c.requires in
     let s = c.statuses.ensures.right c.if-not-statuses.false in
@@ -45,8 +46,8 @@ table_of-t-requires c =
 pub returns : goal.returns
 returns c =
     let a = c.args in
-    let next : FirstPast half_open a.count a.starts.now a.from a.window.end c.first_past-to.result =
+    let next : FirstPast half_open a.m.now.count a.m.now.starts a.from a.window.end c.first_past-to.result =
     rw (to_z-of_z (sfits_of c.struct_told-1.given.1.0.1)) at c.first_past-to.ensures in
     let p = c.requires in
     let s = c.statuses.ensures.right c.if-not-statuses.false in
-    ap Walked.Counted c.gathered.ensures ∙ table_is p.0 p.1 next p.2 p.3 c.table_of-t.result s c.table_of-t.ensures
+    ap Some c.gathered.ensures ∙ table_is p.0 p.1 next p.2 p.3 c.table_of.result s c.table_of.ensures

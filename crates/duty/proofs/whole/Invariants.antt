@@ -8,8 +8,8 @@ use Rattle.duty.proofs.whole.Given as goal
 
 abbrev pub invariant-loop-k : goal.invariant-loop-k
 invariant-loop-k l =
-    Going l.starts l.ends l.values l.window l.from l.to
-    (λ d. get_or l.initial.t d 0 + seconds_in l.window d (part l.starts l.ends l.values l.from l.to))
+    Going l.m l.window l.from l.to
+    (λ d. get_or l.initial.t d 0 + seconds_in l.window d (part l.m l.from l.to))
     l.t l.u l.k
     × (length l.u ≡ table_length)
 

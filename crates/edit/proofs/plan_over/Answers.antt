@@ -8,6 +8,12 @@ use mir.Val.{SFits}
 use mir.Facts.{to_z-of_z}
 use borrow.Author.Rules.{rules}
 use borrow.Author.Tests.{ltb-true, ltb-false}
+use mathlib.Core.Path.{◌≡◌, refl}
+use mathlib.Core.Bool.{Bool, true, false}
+use mathlib.Core.List.{List}
+use Rattle.std.specs.Bool.{then_some}
+use Rattle.key.specs.declared.Entry.{Entry}
+use Rattle.edit.specs.InnerPlan.{in_front, kept}
 use Rattle.key.specs.Rank.{rank}
 use Rattle.key.specs.InnerDecides.{Decides}
 use Rattle.key.proofs.Laws.{lt_z_rank}
@@ -19,35 +25,22 @@ less : {a b : ℤ} → SFits w64 a → SFits w64 b → Decides (lt_z a b) (rank 
 less {a} {b} f g =
     rw (lt_z_rank a b f g) (record { right = ltb-true (rank a) (rank b); wrong = λ e w. omega (arith, ltb-false (rank a) (rank b) e) })
 
-pub offset_bounds-starts-from : goal.offset_bounds-starts-from
-offset_bounds-starts-from c = omega (arith, c.requires)
-
-pub bounds-starts-from : goal.bounds-starts-from
-bounds-starts-from c = omega (arith, c.requires)
-
-pub bounds-values-from : goal.bounds-values-from
-bounds-values-from c = omega (arith, c.requires)
+-- what is kept, if a test says so
+kept_then : (b : Bool) (x : Entry) (xs : List Entry) → in_front (then_some b x) xs ≡ kept b x xs
+kept_then true x xs = refl
+kept_then false x xs = refl
 
 pub overflow_sub-last : goal.overflow_sub-last
 overflow_sub-last c = omega (arith, c.requires)
 
-pub offset_bounds-ends-to : goal.offset_bounds-ends-to
-offset_bounds-ends-to c = omega (arith, c.requires)
-
-pub bounds-ends-to : goal.bounds-ends-to
-bounds-ends-to c = omega (arith, c.requires)
-
 pub overflow_sub-last_value : goal.overflow_sub-last_value
 overflow_sub-last_value c = omega (arith, c.requires)
-
-pub bounds-values-to : goal.bounds-values-to
-bounds-values-to c = omega (arith, c.requires)
 
 pub returns : goal.returns
 returns c =
     let g = c.args in
-    let f-first : SFits w64 (get_or c.args.starts.now c.args.met.from (pos 0)) = search rules in
-    let f-last : SFits w64 (get_or c.args.ends.now (c.args.met.to - 1) (pos 0)) = search rules in
+    let f-first : SFits w64 (get_or c.args.m.now.starts c.args.met.from (pos 0)) = search rules in
+    let f-last : SFits w64 (get_or c.args.m.now.ends (c.args.met.to - 1) (pos 0)) = search rules in
     let f-start : SFits w64 c.args.change.start = search rules in
     let f-end : SFits w64 c.args.change.end = search rules in
     let f-below : SFits w64 c.args.met.below = search rules in
@@ -63,5 +56,5 @@ returns c =
       end = c.join_or_keep-right.result.key;
       left = l;
       right = r;
-      brings = simp (to_z-of_z f-first, to_z-of_z f-last, to_z-of_z f-below, to_z-of_z f-above, to_z-of_z f-low, to_z-of_z f-high) at c.bring.ensures;
+      brings = simp (c.then_some.ensures, c.then_some-2.ensures, c.placed.ensures, kept_then, to_z-of_z f-first, to_z-of_z f-last, to_z-of_z f-below, to_z-of_z f-above, to_z-of_z f-low, to_z-of_z f-high) at c.bring.ensures;
     }

@@ -9,7 +9,7 @@ use Rattle.key.specs.Rank.{rank}
 use Rattle.key.specs.Range.{Kind, kind_of}
 use Rattle.key.proofs.Laws.{rank_back}
 use Rattle.key.proofs.Lawful.{lawful, inclusive_too}
-use Rattle.outcomes.specs.Stored.{Stored, stored}
+use Rattle.outcomes.specs.declared.Stored.{Stored}
 use Rattle.outcomes.proofs.Formed.{good}
 use Rattle.store.proofs.Seeking.{searched, reached_after}
 use Rattle.edit.proofs.Places.{touching}
@@ -24,7 +24,7 @@ first_past-to-requires c = (c.reaching-from.ensures.within, (good c.requires.0).
 pub returns : goal.returns
 returns c =
     let g = c.args in
-    let m : Stored = stored g.count g.starts.now g.ends.now g.values.now in
+    let m : Stored = g.m.now in
     let kind : Kind = kind_of g.kind in
     let law = lawful g.kind in
     let fs : SFits w64 c.args.change.start = search rules in
@@ -36,10 +36,10 @@ returns c =
     let more = reached_after inclusive_too (searched c.requires.0 law).1 from in
     rw (to_z-of_z least.fits, to_z-of_z greatest.fits) (record {
       touching = touching kind law m c.requires.0 (rank g.change.start) (kind.past g.change.end) _ _ (omega arith) to.from to.within
-          (λ k h. least.short (get_or g.ends.now k (pos 0)) (omega (arith, simp rank_back at (from.below k h))))
-          (λ k h b. least.reaches (get_or g.ends.now k (pos 0)) (omega (arith, simp rank_back at (more k h b))))
-          (λ k h b. greatest.begins (get_or g.starts.now k (pos 0)) (omega (arith, simp rank_back at (to.before k b h))))
-          (λ h. greatest.off (get_or g.starts.now c.first_past-to.result (pos 0)) (omega (arith, simp rank_back at (to.at h))));
+          (λ k h. least.short (get_or g.m.now.ends k (pos 0)) (omega (arith, simp rank_back at (from.below k h))))
+          (λ k h b. least.reaches (get_or g.m.now.ends k (pos 0)) (omega (arith, simp rank_back at (more k h b))))
+          (λ k h b. greatest.begins (get_or g.m.now.starts k (pos 0)) (omega (arith, simp rank_back at (to.before k b h))))
+          (λ h. greatest.off (get_or g.m.now.starts c.first_past-to.result (pos 0)) (omega (arith, simp rank_back at (to.at h))));
       below_fits = least.fits;
       above_fits = greatest.fits;
       cuts_below = least.cuts;

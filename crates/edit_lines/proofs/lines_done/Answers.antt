@@ -1,33 +1,26 @@
-use Rattle.edit_lines.proofs.Lines.{line_ends, line_again, no_line}
 use native.Mathlib.Omega.{arith}
 use mathlib.Core.Path.{refl, sym, ◌∙◌}
+use Rattle.std.proofs.lemmas.Result.{err_from_is_err_and}
+use Rattle.edit_lines.proofs.Lines.{line_ends, line_again, no_line}
 use Rattle.edit_lines.proofs.lines_done.Goals as goal
 
-pub loop-from-init : goal.loop-from-init
-loop-from-init c = (omega arith, omega arith, refl)
+pub loop-line-init : goal.loop-line-init
+loop-line-init c = (omega arith, refl)
 
-pub find-end-requires : goal.find-end-requires
-find-end-requires c = (omega arith, omega arith)
+pub loop-line-preserved : goal.loop-line-preserved
+loop-line-preserved c =
+    let l = c.loop-line in
+    let cut = rw c.in-Some.is at c.first_line.ensures in
+    let done = rw c.in_ok-line_done.was at c.line_done.ensures in
+    (omega (arith, l.invariant.0, cut.1), l.invariant.1 ∙ line_again l.rest.now _ _ l.n _ cut.0 done)
 
-pub loop-from-preserved : goal.loop-from-preserved
-loop-from-preserved c =
-    let l = c.loop-from in
-    let a = c.args in
-    let end = c.find-end.ensures.0 in
-    let done = rw c.in-Done.is at c.line_done-done.ensures in (
-      omega arith,
-      omega arith,
-      l.invariant.2 ∙ line_again a.text.now l.from l.n _ _ end (omega arith) _ c.behind-from.ensures done,
-    )
+pub returns-in_err-line_done : goal.returns-in_err-line_done
+returns-in_err-line_done c =
+    let l = c.loop-line in
+    let cut = rw c.in-Some.is at c.first_line.ensures in
+    let ended = rw c.in_err-line_done.was at c.line_done.ensures in
+    let p = err_from_is_err_and c.from_residual.result c.from_residual.ensures.1 in
+    rw (p.1, p.2) (line_ends l.rest.now _ _ l.n _ cut.0 _ ended ∙ sym l.invariant.1)
 
 pub returns : goal.returns
-returns c =
-    let l = c.loop-from in
-    sym (l.invariant.2 ∙ no_line c.args.text.now l.from l.n _ (omega arith))
-
-pub returns-in_default : goal.returns-in_default
-returns-in_default c =
-    let l = c.loop-from in
-    let a = c.args in
-    let end = c.find-end.ensures.0 in
-    line_ends a.text.now l.from l.n _ _ end (omega arith) c.in_default.not-Done c.line_done-done.ensures ∙ sym l.invariant.2
+returns c = let l = c.loop-line in sym (l.invariant.1 ∙ no_line l.rest.now l.n _ c.in_default.ensures)

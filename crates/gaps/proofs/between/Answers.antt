@@ -1,11 +1,10 @@
-use native.Mathlib.Omega.{arith}
+use mir.Facts.{to_z-of_z}
 use Rattle.key.specs.Rank.{rank}
-use Rattle.key.proofs.Laws.{tests}
-use Rattle.gaps.proofs.Walk.{gap_yes, gap_no}
+use Rattle.key.proofs.Laws.{lt_z_rank}
+use Rattle.gaps.proofs.Walk.{gap_test}
 use Rattle.gaps.proofs.between.Goals as goal
 
-pub returns-then-cursor-start : goal.returns-then-cursor-start
-returns-then-cursor-start c = let s = c.args in rw (gap_yes (rank s.cursor) (rank s.start) (omega (arith, tests)))
-
 pub returns : goal.returns
-returns c = let s = c.args in rw (gap_no (rank s.cursor) (rank s.start) (omega (arith, tests)))
+returns c =
+    let r = c.ranges in
+    rw (c.from.ensures, to_z-of_z r.cursor, to_z-of_z r.start, lt_z_rank _ _ r.cursor r.start) (gap_test (rank c.args.cursor) (rank c.args.start))

@@ -1,4 +1,3 @@
-use Prim.Native.Nat.{◌-◌}
 use Rattle.key.specs.Rank.{rank}
 use Rattle.key.specs.Range.{kind_of}
 use Rattle.gaps.proofs.Steps.{Going}
@@ -6,8 +5,5 @@ use Rattle.gaps.proofs.write.Given as goal
 
 abbrev pub invariant-loop-k : goal.invariant-loop-k
 invariant-loop-k l =
-    Going (kind_of l.kind) l.starts l.ends l.fn.out_starts l.fn.out_ends l.count l.from (rank l.fn.outer.start) ((kind_of l.kind).past l.fn.outer.end)
+    Going (kind_of l.kind) l.m l.fn.out_starts l.fn.out_ends l.from (rank l.fn.outer.start) ((kind_of l.kind).past l.fn.outer.end)
     l.k (rank l.cursor) l.at l.out_starts l.out_ends
-
-abbrev pub decreases-loop-k : goal.decreases-loop-k
-decreases-loop-k l = l.count - l.k

@@ -5,25 +5,15 @@ use Rattle.graph_text.specs.GraphText.{graph_text}
 use Rattle.graph_text.proofs.Quarters.{day_quarters}
 use Rattle.graph_text.proofs.graph_text.Goals as goal
 
-pub put_hours_line-first-requires : goal.put_hours_line-first-requires
-put_hours_line-first-requires c =
-    let e = rw (to_z-of_z c.ranges.start, to_z-of_z c.ranges.end) at c.quarters_of-n.ensures in
-    (omega (arith, e, (day_quarters c.requires).few), omega arith)
-
 pub put_rows-sum-requires : goal.put_rows-sum-requires
 put_rows-sum-requires c =
-    let e = rw (to_z-of_z c.ranges.start, to_z-of_z c.ranges.end) at c.quarters_of-n.ensures in
+    let e = rw (to_z-of_z c.ranges.start, to_z-of_z c.ranges.end) at c.quarters_of-quarters.ensures in
     rw (to_z-of_z c.ranges.start, e) (day_quarters c.requires, omega arith)
-
-pub put_sum_line-requires : goal.put_sum_line-requires
-put_sum_line-requires c =
-    let e = rw (to_z-of_z c.ranges.start, to_z-of_z c.ranges.end) at c.quarters_of-n.ensures in
-    (omega (arith, e, (day_quarters c.requires).few), omega arith)
 
 pub returns : goal.returns
 unfolding graph_text
 returns c =
-    let e = rw (to_z-of_z c.ranges.start, to_z-of_z c.ranges.end) at c.quarters_of-n.ensures in
+    let e = rw (to_z-of_z c.ranges.start, to_z-of_z c.ranges.end) at c.quarters_of-quarters.ensures in
     let a = rw e at c.put_hours_line-first.ensures in
     let b = rw (to_z-of_z c.ranges.start, e) at c.put_rows-sum.ensures in
     then_within (then_within a b) (rw e at c.put_sum_line.ensures)

@@ -5,29 +5,17 @@ use Rattle.key.proofs.Laws.{rank_back}
 use Rattle.graph_text.proofs.Quarters.{quarter_totals, marked_is}
 use Rattle.graph_text.proofs.is_marked.Goals as goal
 
-pub quarter_start-requires : goal.quarter_start-requires
-quarter_start-requires c = simp rank_back (omega arith, omega (arith, c.requires.0.upto))
-
-pub quarter_start-requires-2 : goal.quarter_start-requires-2
-quarter_start-requires-2 c = simp rank_back (omega arith, c.requires.0.upto)
-
-pub between-t-requires : goal.between-t-requires
-between-t-requires c =
-    let p = simp rank_back at c.quarter_start.ensures in
-    let q = simp rank_back at c.quarter_start-2.ensures in
-    simp rank_back (c.requires.0.sound, omega (arith, p, q), omega (arith, p, q))
-
-pub returns-in-Seconds : goal.returns-in-Seconds
-returns-in-Seconds c =
+pub returns-in-Ok : goal.returns-in-Ok
+returns-in-Ok c =
     let p = rank_back _ ∙ simp rank_back at c.quarter_start.ensures in
     let q = rank_back _ ∙ simp rank_back at c.quarter_start-2.ensures in
-    let e = sym c.in-Seconds.is ∙ c.between-t.ensures ∙ quarter_totals _ _ c.requires.0 p q in
+    let e = sym c.in-Ok.is ∙ c.between.ensures ∙ quarter_totals _ _ c.requires.0 p q in
     marked_is _ _ _ _ e c.seconds_of.ensures
 
-pub returns-in-Refused : goal.returns-in-Refused
-returns-in-Refused c =
+pub returns-in-Err : goal.returns-in-Err
+returns-in-Err c =
     let p = rank_back _ ∙ simp rank_back at c.quarter_start.ensures in
     let q = rank_back _ ∙ simp rank_back at c.quarter_start-2.ensures in
-    let e = sym c.in-Refused.is ∙ c.between-t.ensures ∙ quarter_totals _ _ c.requires.0 p q in
+    let e = sym c.in-Err.is ∙ c.between.ensures ∙ quarter_totals _ _ c.requires.0 p q in
     let z : ◌≡◌ {A = ℕ} 0 1 = cc in
     absurd (omega arith)

@@ -2,9 +2,6 @@ use native.Mathlib.Omega.{arith}
 use Rattle.graph_text.proofs.Hours.{hour_short, hour_spaces}
 use Rattle.graph_text.proofs.put_hour.Goals as goal
 
-pub clock_hour-requires : goal.clock_hour-requires
-clock_hour-requires c = (c.requires.0, c.requires.1)
-
 pub overflow_sub-at : goal.overflow_sub-at
 overflow_sub-at c = omega (arith, hour_short _ c.clock_hour.ensures.1, c.put_u64-to.ensures.upto)
 

@@ -11,7 +11,7 @@ pub overflow_add-n : goal.overflow_add-n
 overflow_add-n c =
     let (a, b) = c.requires in
     let f =
-    counting_step c.step-s.result.found _ c.loop-i.invariant.2 (step_found c.args.kind a b c.loop-i-test.true c.if-j-count_b.true c.step-s.ensures) in
+    counting_step c.step-s.result.found _ c.loop-i.invariant.2 (step_found c.args.kind a b c.loop-i-test.true c.if-j-b.true c.step-s.ensures) in
     let m = most c.args.kind a b in
     omega (arith, f.sum, m, a.held, b.held)
 
@@ -21,12 +21,12 @@ loop-i-preserved c =
     let one = one_goes c.step-s.result.left in (
       omega (arith, one),
       omega (arith, one),
-      counting_step c.step-s.result.found _ c.loop-i.invariant.2 (step_found c.args.kind a b c.loop-i-test.true c.if-j-count_b.true c.step-s.ensures),
+      counting_step c.step-s.result.found _ c.loop-i.invariant.2 (step_found c.args.kind a b c.loop-i-test.true c.if-j-b.true c.step-s.ensures),
     )
 
-pub returns-else-j-count_b : goal.returns-else-j-count_b
-returns-else-j-count_b c =
-    let l = c.loop-i in counting_done l.invariant.2 (found_no c.args.kind c.requires.0 c.requires.1 l.i l.j c.if-j-count_b.false)
+pub returns-else-j-b : goal.returns-else-j-b
+returns-else-j-b c =
+    let l = c.loop-i in counting_done l.invariant.2 (found_no c.args.kind c.requires.0 c.requires.1 l.i l.j c.if-j-b.false)
 
 pub returns-after-loop-i : goal.returns-after-loop-i
 returns-after-loop-i c =

@@ -15,7 +15,7 @@ write_from-requires c =
     let l = c.loop-i in
     let p = c.requires in
     let one = one_goes c.step-s.result.left in
-    let opened = first_found c.args.kind p.0 p.1 c.loop-i-test.true c.if-j-count_b.true c.step-s.ensures c.if-s.true l.invariant.4 in
+    let opened = first_found c.args.kind p.0 p.1 c.loop-i-test.true c.if-j-b.true c.step-s.ensures c.if-s.true l.invariant.4 in
     record {
       side_a = p.0;
       side_b = p.1;
@@ -28,7 +28,7 @@ pub returns-then-s : goal.returns-then-s
 returns-then-s c =
     let l = c.loop-i in
     let p = c.requires in
-    let opened = first_found c.args.kind p.0 p.1 c.loop-i-test.true c.if-j-count_b.true c.step-s.ensures c.if-s.true l.invariant.4 in
+    let opened = first_found c.args.kind p.0 p.1 c.loop-i-test.true c.if-j-b.true c.step-s.ensures c.if-s.true l.invariant.4 in
     first_written (kind_of c.args.kind) l.invariant.2 l.invariant.3 opened (simp rank_back at c.write_from.ensures)
 
 pub loop-i-preserved : goal.loop-i-preserved
@@ -40,15 +40,15 @@ loop-i-preserved c =
       omega (arith, one),
       l.invariant.2,
       l.invariant.3,
-      none_found c.args.kind p.0 p.1 c.loop-i-test.true c.if-j-count_b.true c.step-s.ensures c.if-s.false l.invariant.4,
+      none_found c.args.kind p.0 p.1 c.loop-i-test.true c.if-j-b.true c.step-s.ensures c.if-s.false l.invariant.4,
     )
 
-pub returns-else-j-count_b : goal.returns-else-j-count_b
-returns-else-j-count_b c =
+pub returns-else-j-b : goal.returns-else-j-b
+returns-else-j-b c =
     let l = c.loop-i in
     let p = c.requires in
     none_written (kind_of c.args.kind) l.invariant.2 l.invariant.3 l.invariant.4
-    (found_no c.args.kind p.0 p.1 l.i l.j c.if-j-count_b.false)
+    (found_no c.args.kind p.0 p.1 l.i l.j c.if-j-b.false)
 
 pub returns-after-loop-i : goal.returns-after-loop-i
 returns-after-loop-i c =

@@ -5,8 +5,8 @@ use Rattle.intersection.proofs.write.Given as goal
 
 abbrev pub invariant-loop-i : goal.invariant-loop-i
 invariant-loop-i l =
-    (l.i ≤ l.count_a) × (l.j ≤ l.count_b) × (l.out_starts ≡ l.initial.out_starts) × (l.out_ends ≡ l.initial.out_ends)
-    × (shared l.kind l.starts_a l.ends_a l.count_a l.starts_b l.ends_b l.count_b ≡ shared_from l.kind l.starts_a l.ends_a l.count_a l.i l.starts_b l.ends_b l.count_b l.j)
+    (l.i ≤ l.a.count) × (l.j ≤ l.b.count) × (l.out_starts ≡ l.initial.out_starts) × (l.out_ends ≡ l.initial.out_ends)
+    × (shared l.kind l.a l.b ≡ shared_from l.kind l.a l.i l.b l.j)
 
 abbrev pub decreases-loop-i : goal.decreases-loop-i
-decreases-loop-i l = (l.count_a - l.i) + (l.count_b - l.j)
+decreases-loop-i l = (l.a.count - l.i) + (l.b.count - l.j)

@@ -1,17 +1,10 @@
 use native.Mathlib.Omega.{arith}
 use borrow.Author.Rules.{rules}
 use Rattle.key.proofs.Laws.{tests}
-use Rattle.key.proofs.Answers.{holds, fails}
 use Rattle.key.proofs.full.Goals as goal
 
-pub returns-then-start-end : goal.returns-then-start-end
-returns-then-start-end c = rw c.in-HalfOpen.is (holds (omega (arith, tests)))
+pub returns-in-HalfOpen : goal.returns-in-HalfOpen
+returns-in-HalfOpen c = rw c.in-HalfOpen.is (record { right = λ h. omega (arith, tests); wrong = λ h w. omega (arith, tests) })
 
-pub returns-then-start-end-2 : goal.returns-then-start-end-2
-returns-then-start-end-2 c = rw c.in-Inclusive.is (holds (omega (arith, tests)))
-
-pub returns-else-start-end : goal.returns-else-start-end
-returns-else-start-end c = rw c.in-HalfOpen.is (fails (λ w. omega (arith, tests)))
-
-pub returns-else-start-end-2 : goal.returns-else-start-end-2
-returns-else-start-end-2 c = rw c.in-Inclusive.is (fails (λ w. omega (arith, tests)))
+pub returns-in-Inclusive : goal.returns-in-Inclusive
+returns-in-Inclusive c = rw c.in-Inclusive.is (record { right = λ h. omega (arith, tests); wrong = λ h w. omega (arith, tests) })

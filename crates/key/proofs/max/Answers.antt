@@ -1,18 +1,11 @@
+use borrow.Author.Rules.{rules}
 use mir.Facts.{to_z-of_z}
-use native.Mathlib.Omega.{arith}
-use borrow.Author.Tests.{lt-ltb, le-ltb}
-use Rattle.key.specs.Rank.{rank, greater}
-use Rattle.key.proofs.Laws.{tests}
+use mir.Syntax.{w64}
+use mir.Val.{SFits}
+use Rattle.key.proofs.Laws.{max_greater}
 use Rattle.key.proofs.max.Goals as goal
 
-pub returns-then-a-b : goal.returns-then-a-b
-unfolding greater
-returns-then-a-b c =
-    let s = c in
-    rw (to_z-of_z s.ranges.b, lt-ltb (rank s.args.a) (rank s.args.b) (omega (arith, tests)))
-
 pub returns : goal.returns
-unfolding greater
 returns c =
-    let s = c in
-    rw (to_z-of_z s.ranges.a, le-ltb (rank s.args.a) (rank s.args.b) (omega (arith, tests)))
+    let fits : SFits w64 c.max.result = search rules in
+    rw (to_z-of_z fits) (rw (to_z-of_z c.ranges.a, to_z-of_z c.ranges.b, max_greater _ _ c.ranges.a c.ranges.b) at c.max.ensures.value)

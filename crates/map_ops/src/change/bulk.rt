@@ -4,84 +4,55 @@ ghost use Rattle.key.specs.Range.{kind_of};
 ghost use Rattle.outcomes.specs.Stored.{Sound, stored};
 ghost use Rattle.outcomes.specs.Outcomes.{entries, bulk_insert_sound, extended, bulk_insert};
 
-use answers::{DONE, NOT_FORMED};
+use answers::DONE;
 use key::{RangeKind, Value};
-use outcomes::{Applied, Outcome, PLACES};
-use store::check::well_formed;
-
-// The lesser of two lengths.
-fn shorter(a: usize, b: usize) -> usize
-    ensures { result ≡ min a b }
-{
-    if a < b {
-        return a;
-    }
-    b
-}
+use outcomes::{Applied, Stored};
+use store::check::checked;
 
 // The entries of three lent lists, into a map that is well formed.
 fn extend_formed(
     kind: RangeKind,
-    count: &mut usize,
-    starts: &mut [i64; PLACES],
-    ends: &mut [i64; PLACES],
-    values: &mut [Value; PLACES],
+    m: &mut Stored,
     new_starts: &[i64],
     new_ends: &[i64],
     new_values: &[Value],
 ) -> Applied
-    requires { Sound (kind_of kind) (stored count.old starts.old ends.old values.old) }
-    ensures { extended result (stored count.new starts.new ends.new values.new)
-        ≡ bulk_insert_sound (kind_of kind) (stored count.old starts.old ends.old values.old) 0 (entries new_starts.now new_ends.now new_values.now) }
+    requires { Sound (kind_of kind) m.old }
+    ensures { extended result m.new
+        ≡ bulk_insert_sound (kind_of kind) m.old 0 (entries new_starts.now new_ends.now new_values.now) }
 {
-    let n = shorter(shorter(new_starts.len(), new_ends.len()), new_values.len());
-    let mut i = 0;
-    while i < n {
-        let went = edit::insert(
-            kind,
-            count,
-            starts,
-            ends,
-            values,
-            new_starts[i],
-            new_ends[i],
-            new_values[i],
-        );
-        if let Outcome::Refused(answer) = went {
+    let n = new_starts.len().min(new_ends.len()).min(new_values.len());
+    for i in 0..n {
+        let went = edit::insert(kind, m, new_starts[i], new_ends[i], new_values[i]);
+        if let Err(why) = went {
             return Applied {
-                answer: answer,
+                answer: why.number(),
                 applied: i,
             };
         }
-        i += 1;
     }
     Applied {
         answer: DONE,
-        applied: i,
+        applied: n,
     }
 }
 
 // The same, into any map.
 pub fn extend(
     kind: RangeKind,
-    count: &mut usize,
-    starts: &mut [i64; PLACES],
-    ends: &mut [i64; PLACES],
-    values: &mut [Value; PLACES],
+    m: &mut Stored,
     new_starts: &[i64],
     new_ends: &[i64],
     new_values: &[Value],
 ) -> Applied
-    ensures { extended result (stored count.new starts.new ends.new values.new)
-        ≡ bulk_insert (kind_of kind) (stored count.old starts.old ends.old values.old) (entries new_starts.now new_ends.now new_values.now) }
+    ensures { extended result m.new
+        ≡ bulk_insert (kind_of kind) m.old (entries new_starts.now new_ends.now new_values.now) }
 {
-    if !well_formed(kind, *count, starts, ends, values) {
+    if let Err(why) = checked(kind, m) {
         return Applied {
-            answer: NOT_FORMED,
+            answer: why.number(),
             applied: 0,
         };
     }
-    extend_formed(
-        kind, count, starts, ends, values, new_starts, new_ends, new_values,
-    )
+    extend_formed(kind, m, new_starts, new_ends, new_values)
 }

@@ -9,39 +9,28 @@ use Rattle.operations.proofs.Doors.{answered}
 use Rattle.operations.proofs.combine_unchecked.Goals as goal
 
 pub fits-requires : goal.fits-requires
-fits-requires c = let s = c in (side (kind_of s.args.kind) s.requires.0, side (kind_of s.args.kind) s.requires.1)
+fits-requires c = (side (kind_of c.args.kind) c.requires.0, side (kind_of c.args.kind) c.requires.1)
 
 pub returns-then-not-fits : goal.returns-then-not-fits
 returns-then-not-fits c =
-    let s = c in
-    let a = s.args in
-    answered a.operation a.kind s.requires.0 s.requires.1 a.out_starts.now a.out_ends.now
-    (answers_short (kind_of a.kind) _ a.out_starts.now a.out_ends.now c.shorter-room.ensures
+    let a = c.args in
+    answered a.operation a.kind c.requires.0 c.requires.1 a.out_starts.now a.out_ends.now
+    (answers_short (kind_of a.kind) _ a.out_starts.now a.out_ends.now c.min-room.ensures
     (c.fits.ensures.wrong c.if-not-fits.true))
 
-pub write-n-requires : goal.write-n-requires
-write-n-requires c =
-    let room : let a = c.args in
-    length (found_by a.operation a.kind a.starts_a.now a.ends_a.now a.count_a a.starts_b.now a.ends_b.now a.count_b)
-    ≤ c.shorter-room.result =
-    c.fits.ensures.right c.if-not-fits.false in
-    let f = c in
-    let s = f in
-    let a = s.args in (
-      side (kind_of a.kind) s.requires.0,
-      side (kind_of a.kind) s.requires.1,
-      enough (kind_of a.kind) _ a.out_starts.now a.out_ends.now f.shorter-room.ensures room,
+pub write-requires : goal.write-requires
+write-requires c =
+    let a = c.args in
+    let room : length (found_by a.operation a.kind a.a.now a.b.now) ≤ c.min-room.result = c.fits.ensures.right c.if-not-fits.false in (
+      side (kind_of a.kind) c.requires.0,
+      side (kind_of a.kind) c.requires.1,
+      enough (kind_of a.kind) _ a.out_starts.now a.out_ends.now c.min-room.ensures room,
     )
 
 pub returns : goal.returns
 returns c =
-    let room : let a = c.args in
-    length (found_by a.operation a.kind a.starts_a.now a.ends_a.now a.count_a a.starts_b.now a.ends_b.now a.count_b)
-    ≤ c.shorter-room.result =
-    c.fits.ensures.right c.if-not-fits.false in
-    let f = c in
-    let s = f in
-    let a = s.args in
-    answered a.operation a.kind s.requires.0 s.requires.1 a.out_starts.now a.out_ends.now
-    (answers_done (kind_of a.kind) _ a.out_starts.now a.out_ends.now f.shorter-room.ensures room
-    (from_first c.write-n.ensures))
+    let a = c.args in
+    let room : length (found_by a.operation a.kind a.a.now a.b.now) ≤ c.min-room.result = c.fits.ensures.right c.if-not-fits.false in
+    answered a.operation a.kind c.requires.0 c.requires.1 a.out_starts.now a.out_ends.now
+    (answers_done (kind_of a.kind) _ a.out_starts.now a.out_ends.now c.min-room.ensures room
+    (from_first c.write.ensures))

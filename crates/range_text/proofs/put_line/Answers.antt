@@ -9,4 +9,4 @@ pub returns : goal.returns
 unfolding range_line
 returns c =
     let a = rw (to_z-of_z c.ranges.start, to_z-of_z c.ranges.end) at c.put_range-to.ensures in
-    as_within refl (omega arith) (then_within a c.fill.ensures)
+    as_within refl (omega arith) (then_within a (rw c.from.ensures at c.fill.ensures))

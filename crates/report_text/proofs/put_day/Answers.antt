@@ -1,18 +1,8 @@
-use native.Mathlib.Omega.{arith}
 use mir.Facts.{to_z-of_z}
 use borrow.Author.Rules.{sfits_of}
 use Rattle.filling.proofs.Laws.{then_within}
 use Rattle.report_text.specs.ReportText.{day_lines}
 use Rattle.report_text.proofs.put_day.Goals as goal
-
-pub put_key_line-second-requires : goal.put_key_line-second-requires
-put_key_line-second-requires c = (omega arith, omega arith)
-
-pub put_key_line-third-requires : goal.put_key_line-third-requires
-put_key_line-third-requires c = (omega arith, omega arith)
-
-pub put_seconds_line-requires : goal.put_seconds_line-requires
-put_seconds_line-requires c = (omega arith, omega arith)
 
 pub returns : goal.returns
 unfolding day_lines

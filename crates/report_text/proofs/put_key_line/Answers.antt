@@ -5,9 +5,6 @@ use Rattle.report_text.proofs.Columns.{key_within}
 use Rattle.report_text.specs.ReportText.{key_line}
 use Rattle.report_text.proofs.put_key_line.Goals as goal
 
-pub put_name_column-number-requires : goal.put_name_column-number-requires
-put_name_column-number-requires c = (c.requires.0, omega arith)
-
 pub put_byte-requires : goal.put_byte-requires
 put_byte-requires c = let a = key_within (omega arith) c.ranges.key c.put_i64_right-to.ensures in omega arith
 

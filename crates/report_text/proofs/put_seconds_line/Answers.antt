@@ -4,9 +4,6 @@ use Rattle.filling.proofs.Laws.{then_within, as_within}
 use Rattle.report_text.specs.ReportText.{seconds_line}
 use Rattle.report_text.proofs.put_seconds_line.Goals as goal
 
-pub put_name_column-to-requires : goal.put_name_column-to-requires
-put_name_column-to-requires c = (c.requires.0, omega arith)
-
 pub returns : goal.returns
 unfolding seconds_line
 returns c = as_within refl (omega arith) (then_within c.put_name_column-to.ensures c.put_times.ensures)

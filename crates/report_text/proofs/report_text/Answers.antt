@@ -1,11 +1,7 @@
-use native.Mathlib.Omega.{arith}
 use mir.Facts.{to_z-of_z}
 use Rattle.filling.proofs.Laws.{then_within}
 use Rattle.report_text.specs.ReportText.{report_text}
 use Rattle.report_text.proofs.report_text.Goals as goal
-
-pub put_seconds_line-requires : goal.put_seconds_line-requires
-put_seconds_line-requires c = (omega arith, omega arith)
 
 pub returns : goal.returns
 unfolding report_text

@@ -1,34 +1,42 @@
 use native.Mathlib.Omega.{arith}
+use Prim.Native.Nat.{◌<◌}
 use mathlib.Core.Path.{◌≡◌, refl, sym, ◌∙◌}
-use Rattle.key.proofs.Answers.{holds, fails}
+use borrow.Author.Tests.{eqb-true, eqb-false, ltb-true, ltb-false}
+use Rattle.key.proofs.Answers.{fails}
 use Rattle.key.proofs.Laws.{rank_back}
 use Rattle.two_sets.specs.InnerKind.{wide}
 use Rattle.set_total.proofs.Laws.{wide_one, open_fits, empty_fits, length_at, too_many_keys, not_many}
 use Rattle.set_total.proofs.full.Goals as goal
+use Rattle.set_total.proofs.full.Goals.{then-width-eq1, else-width-eq1}
 
-pub returns-then-width-eq0 : goal.returns-then-width-eq0
-returns-then-width-eq0 c = let s = c in fails (λ h. omega (arith, h, open_fits s.args.kind (sym c.width.ensures ∙ c.if-width-eq0.true) s.requires))
+pub apart-requires : goal.apart-requires
+apart-requires c =
+    let some : 0 < c.args.m.now.count =
+    elim c.if-width-eq1.branch [
+      | then-width-eq1 w ↦ ltb-true 0 c.args.m.now.count (sym w.value-is ∙ c.if-m-gt0.true)
+      | else-width-eq1 w ↦ absurd (w.if-width-eq1.false (eqb-true _ _ (sym w.value-is ∙ c.if-m-gt0.true)))
+    ] in
+    simp rank_back (length_at c.args.kind c.requires 0 some refl refl)
 
-pub returns-then-count-eq0 : goal.returns-then-count-eq0
-returns-then-count-eq0 c = let s = c in fails (empty_fits s.args.kind s.requires c.if-count-eq0.true)
+pub returns-then-m-gt0 : goal.returns-then-m-gt0
+returns-then-m-gt0 c =
+    let both : (wide c.args.kind ≡ 1) × (0 < c.args.m.now.count) =
+    elim c.if-width-eq1.branch [
+      | then-width-eq1 w ↦ (sym c.width.ensures ∙ w.if-width-eq1.true, ltb-true 0 c.args.m.now.count (sym w.value-is ∙ c.if-m-gt0.true))
+      | else-width-eq1 w ↦ absurd (w.if-width-eq1.false (eqb-true _ _ (sym w.value-is ∙ c.if-m-gt0.true)))
+    ] in
+    let e = simp rank_back at c.apart.ensures in
+    record {
+      right = λ t. too_many_keys c.args.kind c.requires both.1 refl refl (omega (arith, both.0, eqb-true _ _ t));
+      wrong = λ f. not_many c.args.kind c.requires both.1 refl refl (omega (arith, both.0, eqb-false _ _ f));
+    }
 
-pub apart-below-requires : goal.apart-below-requires
-apart-below-requires c = let s = c in simp rank_back (length_at s.args.kind s.requires 0 (omega arith) refl refl)
-
-pub returns-then-below : goal.returns-then-below
-returns-then-below c =
-    let closed : wide c.args.kind ≡ 1 =
-    omega (arith, wide_one c.args.kind, c.width.ensures) in
-    let s = c in
-    let w = closed in
-    let e = simp rank_back at c.apart-below.ensures in
-    holds (too_many_keys s.args.kind s.requires (omega arith) refl refl (omega (arith, w)))
-
-pub returns : goal.returns
-returns c =
-    let closed : wide c.args.kind ≡ 1 =
-    omega (arith, wide_one c.args.kind, c.width.ensures) in
-    let s = c in
-    let w = closed in
-    let e = simp rank_back at c.apart-below.ensures in
-    fails (not_many s.args.kind s.requires (omega arith) refl refl (omega (arith, w)))
+pub returns-else-m-gt0 : goal.returns-else-m-gt0
+returns-else-m-gt0 c =
+    rw c.if-m-gt0.false
+    (fails
+    (elim c.if-width-eq1.branch [
+      | then-width-eq1 w ↦ empty_fits c.args.kind c.requires (omega (arith, ltb-false 0 c.args.m.now.count (sym w.value-is ∙ c.if-m-gt0.false)))
+      | else-width-eq1 w ↦
+          λ h. omega (arith, h, open_fits c.args.kind (omega (arith, wide_one c.args.kind, c.width.ensures, w.if-width-eq1.false)) c.requires)
+    ]))

@@ -1,13 +1,10 @@
-use Prim.Native.Nat.{◌*◌, ◌-◌, ◌≤◌}
+use Prim.Native.Nat.{◌*◌}
 use Rattle.key.specs.Range.{half_open}
-use Rattle.outcomes.specs.Stored.{stored, ranges}
+use Rattle.outcomes.specs.Stored.{ranges}
 use Rattle.filling.specs.Filling.{series, AddsWithin}
 use Rattle.svg_text.specs.SvgText.{mark_svg}
 use Rattle.svg_text.specs.InnerRoom.{mark_room}
 use Rattle.svg_text.proofs.put_marks.Given as goal
 
 abbrev pub invariant-loop-q : goal.invariant-loop-q
-invariant-loop-q l = (l.q ≤ l.n) × AddsWithin (mark_room * l.q) (series (mark_svg (ranges half_open (stored l.count l.starts l.ends l.values)) l.start l.row) l.q) l.initial.out l.at l.out l.to
-
-abbrev pub decreases-loop-q : goal.decreases-loop-q
-decreases-loop-q l = l.n - l.q
+invariant-loop-q l = AddsWithin (mark_room * l.q) (series (mark_svg (ranges half_open l.m) l.day.start l.row) l.q) l.initial.out l.at l.out l.to

@@ -5,9 +5,6 @@ use Rattle.report_text.proofs.Columns.{right_long, clock_long}
 use Rattle.svg_text.specs.SvgText.{total_svg}
 use Rattle.svg_text.proofs.put_total.Goals as goal
 
-pub put_clock-to-requires : goal.put_clock-to-requires
-put_clock-to-requires c = (omega arith, omega arith)
-
 pub returns : goal.returns
 unfolding total_svg
 returns c =

@@ -4,4 +4,4 @@ use Rattle.text.proofs.put_left.Goals as goal
 pub returns : goal.returns
 returns c =
     let s = c.args in
-    adds_left s.width s.text.now c.left_of_width-n.ensures c.put-to.ensures c.put_spaces.ensures
+    adds_left s.width s.text.now c.saturating_sub-n.ensures c.put-to.ensures c.put_spaces.ensures

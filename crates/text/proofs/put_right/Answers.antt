@@ -5,9 +5,9 @@ use Rattle.text.proofs.Laws.{adds_right}
 use Rattle.text.proofs.put_right.Goals as goal
 
 pub put-requires : goal.put-requires
-put-requires c = omega (arith, length-replicate c.left_of_width-n.result space)
+put-requires c = omega (arith, length-replicate c.saturating_sub-n.result space)
 
 pub returns : goal.returns
 returns c =
     let s = c.args in
-    adds_right s.width s.text.now c.left_of_width-n.ensures c.put_spaces-to.ensures c.put.ensures
+    adds_right s.width s.text.now c.saturating_sub-n.ensures c.put_spaces-to.ensures c.put.ensures

@@ -1,39 +1,27 @@
-use Prim.Native.Nat.{◌+◌, ◌≤◌}
-use native.Mathlib.Omega.{arith}
-use mathlib.Core.Path.{◌≡◌, refl, ◌∙◌}
+use mathlib.Core.Path.{refl, ap, ◌∙◌}
 use mir.Syntax.{w64}
 use mir.Facts.{to_z-of_z}
-use borrow.Author.Rules.{sfits_of}
-use Rattle.outcomes.specs.Outcomes.{Entry}
-use Rattle.byte_form.specs.Layout.{rm01}
+use borrow.Author.Rules.{rules}
+use Rattle.key.specs.declared.Entry.{Entry}
+use Rattle.byte_form.specs.Layout.{rm01, form_size}
 use Rattle.byte_form.specs.Form.{ranges_in}
 use Rattle.byte_io.proofs.Reading.{fill_more}
 use Rattle.byte_io.proofs.read.fill.Goals as goal
 
-pub loop-i-init : goal.loop-i-init
+pub loop-k-init : goal.loop-k-init
 unfolding ranges_in
-loop-i-init c = (omega arith, record { starts = refl; ends = refl; values = refl })
+loop-k-init c = record { starts = refl; ends = refl; values = refl }
 
-pub returns : goal.returns
-returns c =
-    let l = c.loop-i in
-    let n : l.i ≡ c.args.count = omega arith in
-    rw n at l.invariant.1
-
-pub loop-i-preserved : goal.loop-i-preserved
-loop-i-preserved c =
-    let l = c.loop-i in
+pub loop-k-preserved : goal.loop-k-preserved
+loop-k-preserved c =
+    let l = c.loop-k in
     let a = c.args in
-    let at = c.form_size-at.result in
-    let is = c.form_size-at.ensures in
-    let f = l.invariant.1 in
-    let more : l.i + 1 ≤ a.count = omega arith in (
-      more,
-      record {
-        starts = fill_more rm01 (λ (x : Entry). x.start) a.starts.now a.bytes.now l.i at is f.starts
-            (to_z-of_z {w = w64} (sfits_of c.start_at.type_inv) ∙ c.start_at.ensures);
-        ends = fill_more rm01 (λ (x : Entry). x.end) a.ends.now a.bytes.now l.i at is f.ends
-            (to_z-of_z {w = w64} (sfits_of c.end_at.type_inv) ∙ c.end_at.ensures);
-        values = fill_more rm01 (λ (x : Entry). x.value) a.values.now a.bytes.now l.i at is f.values c.value_at.ensures;
-      },
-    )
+    let m = a.m.now in
+    let x = c.range_at-x.ensures in
+    record {
+      starts = fill_more rm01 (λ (x : Entry). x.start) m.starts a.bytes.now l.k (form_size rm01 l.k) refl l.invariant.starts
+          (to_z-of_z {w = w64} (search rules) ∙ ap (λ (x : Entry). x.start) x);
+      ends = fill_more rm01 (λ (x : Entry). x.end) m.ends a.bytes.now l.k (form_size rm01 l.k) refl l.invariant.ends
+          (to_z-of_z {w = w64} (search rules) ∙ ap (λ (x : Entry). x.end) x);
+      values = fill_more rm01 (λ (x : Entry). x.value) m.values a.bytes.now l.k (form_size rm01 l.k) refl l.invariant.values (ap (λ (x : Entry). x.value) x);
+    }

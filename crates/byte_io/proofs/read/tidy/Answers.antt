@@ -1,22 +1,19 @@
 use native.Mathlib.Omega.{arith}
-use borrow.Author.Count.{below_more}
-use Rattle.key.proofs.Answers.{holds, fails}
+use Prim.Native.Nat.{ℕ}
+use mathlib.Core.Path.{refl}
+use borrow.Author.Rules.{rules}
+use Rattle.std.proofs.lemmas.Iterator.{cases_from_all, YieldsList-from_range}
+use Rattle.key.specs.Range.{half_open}
+use Rattle.store.specs.InnerCheck.{Step}
 use Rattle.byte_form.specs.Layout.{rm01}
+use Rattle.byte_io.specs.InnerRead.{told}
 use Rattle.byte_io.proofs.Reading.{count_told}
+use Rattle.byte_io.proofs.Steps.{all_decides, is_so, is_not}
 use Rattle.byte_io.proofs.read.tidy.Goals as goal
-
-pub loop-k-init : goal.loop-k-init
-loop-k-init c = (omega arith, λ j h. absurd (omega arith))
-
-pub returns-then-not-step : goal.returns-then-not-step
-returns-then-not-step c =
-    let a = c.args in
-    fails (λ w. c.step.ensures.wrong c.if-not-step.true (w _ (omega (arith, count_told rm01 a.count a.bytes.now))))
-
-pub loop-k-preserved : goal.loop-k-preserved
-loop-k-preserved c = (omega arith, below_more _ _ c.loop-k.invariant.1 (c.step.ensures.right c.if-not-step.false))
 
 pub returns : goal.returns
 returns c =
     let a = c.args in
-    holds (λ k h. c.loop-k.invariant.1 k (omega (arith, count_told rm01 a.count a.bytes.now)))
+    let yes : ℕ → Type 0 = Step half_open (told rm01 a.count a.bytes.now) in
+    all_decides yes a.count _ c.all.result (count_told rm01 a.count a.bytes.now)
+    (cases_from_all _ _ c.all.result yes (λ k. yes k → ⊥) c.all.ensures.ran (YieldsList-from_range 0 a.count a.count refl (omega arith)) (λ x q k. (search rules, is_so (search rules))) (λ x q k. is_not (search rules)))

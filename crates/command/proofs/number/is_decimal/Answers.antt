@@ -1,21 +1,18 @@
-use native.Mathlib.Omega.{arith}
-use mathlib.Core.Path.{sym, ◌∙◌}
-use Rattle.byte_form.proofs.Forms.{told_same}
-use Rattle.command.proofs.Digits.{decimal_none, no_minus, a_minus, and_no, and_true}
+use mathlib.Core.Path.{◌∙◌}
+use Rattle.command.proofs.Digits.{a_minus, no_minus, told_other, and_no, and_true}
 use Rattle.command.proofs.number.is_decimal.Goals as goal
 
-pub returns-then-text-eq0 : goal.returns-then-text-eq0
-returns-then-text-eq0 c = sym (decimal_none _ c.if-text-eq0.true)
+pub returns-then-ne : goal.returns-then-ne
+returns-then-ne c =
+    let behind = c.in-Some.ensures.cases in
+    let other = told_other c.in-Some.rest.now c.as_slice.ensures c.ne.ensures ∙ c.if-ne.true in
+    rw (a_minus c.args.text.now behind.0 behind.1, other, and_true) c.is_natural.ensures
 
-pub returns-then-text-ne45 : goal.returns-then-text-ne45
-returns-then-text-ne45 c = c.is_natural.ensures ∙ sym (no_minus _ c.if-text-eq0.false c.if-text-ne45.true)
+pub returns-else-ne : goal.returns-else-ne
+returns-else-ne c =
+    let behind = c.in-Some.ensures.cases in
+    let same = told_other c.in-Some.rest.now c.as_slice.ensures c.ne.ensures ∙ c.if-ne.false in
+    rw (a_minus c.args.text.now behind.0 behind.1, same, and_no) c.if-ne.false
 
-pub returns-then-same : goal.returns-then-same
-returns-then-same c =
-    let behind = a_minus c.args.text.now c.if-text-eq0.false (omega (arith, c.if-text-ne45.false)) in
-    sym (behind ∙ rw (told_same _ _ _ c.same.ensures ∙ c.if-same.true, and_no))
-
-pub returns : goal.returns
-returns c =
-    let behind = a_minus c.args.text.now c.if-text-eq0.false (omega (arith, c.if-text-ne45.false)) in
-    c.is_natural-2.ensures ∙ sym (behind ∙ rw (told_same _ _ _ c.same.ensures ∙ c.if-same.false, and_true))
+pub returns-in-None : goal.returns-in-None
+returns-in-None c = rw (no_minus c.args.text.now c.in-None.ensures.cases) c.is_natural-in-None.ensures

@@ -1,20 +1,6 @@
-use borrow.Author.Tests.{eq-eqb, ne_eqb}
-use Rattle.command.proofs.Digits.{plain_none, plain_one, plain_first}
+use mathlib.Core.Path.{sym, ◌∙◌}
+use Rattle.command.proofs.Digits.{all_digits}
 use Rattle.command.proofs.number.is_natural.Goals as goal
 
-pub returns-then-text-eq0 : goal.returns-then-text-eq0
-returns-then-text-eq0 c = rw (plain_none _ c.if-text-eq0.true)
-
-pub returns-then-text-eq1 : goal.returns-then-text-eq1
-returns-then-text-eq1 c = rw (plain_one _ c.if-text-eq1.true) c.are_digits.ensures
-
-pub returns-then-text-eq48 : goal.returns-then-text-eq48
-returns-then-text-eq48 c = rw (plain_first _ c.if-text-eq0.false c.if-text-eq1.false, eq-eqb _ _ c.if-text-eq48.true)
-
-pub returns : goal.returns
-returns c =
-    rw (
-      plain_first _ c.if-text-eq0.false c.if-text-eq1.false,
-      ne_eqb _ _ c.if-text-eq48.false,
-    )
-    c.are_digits-2.ensures
+pub returns-then-is_plain : goal.returns-then-is_plain
+returns-then-is_plain c = rw (sym c.is_plain.ensures ∙ c.if-is_plain.true) (c.are_digits.ensures ∙ all_digits c.args.text.now)

@@ -1,23 +1,12 @@
 use mathlib.Core.Path.{sym, ◌∙◌}
 use Rattle.command.specs.Words.{number_of}
+use Rattle.command.proofs.Digits.{any_other}
 use Rattle.command.proofs.number.number_of.Goals as goal
 
-pub returns-then-is_decimal : goal.returns-then-is_decimal
+pub returns-in-Some : goal.returns-in-Some
 unfolding number_of
-returns-then-is_decimal c =
-    rw (
-      sym c.read_u64-read.ensures ∙ c.in-Not.is,
-      sym c.is_decimal.ensures ∙ c.if-is_decimal.true,
-    )
+returns-in-Some c = rw (sym c.read_u64.ensures ∙ c.in-Some.is, c.min.ensures)
 
-pub returns-in-Is : goal.returns-in-Is
+pub returns-in-None : goal.returns-in-None
 unfolding number_of
-returns-in-Is c = rw (sym c.read_u64-read.ensures ∙ c.in-Is.is, c.lesser.ensures)
-
-pub returns-else-is_decimal : goal.returns-else-is_decimal
-unfolding number_of
-returns-else-is_decimal c =
-    rw (
-      sym c.read_u64-read.ensures ∙ c.in-Not.is,
-      sym c.is_decimal.ensures ∙ c.if-is_decimal.false,
-    )
+returns-in-None c = rw (sym c.read_u64.ensures ∙ c.in-None.is, any_other c.args.most _, sym c.is_decimal.ensures) c.then_some.ensures

@@ -3,4 +3,4 @@ use Rattle.command.proofs.said.refusal_text.Goals as goal
 
 pub returns : goal.returns
 unfolding refusal_text
-returns c = c.fill.ensures
+returns c = rw c.from.ensures at c.fill.ensures

@@ -1,20 +1,16 @@
 use native.Mathlib.Omega.{arith}
-use Rattle.outcomes.specs.Stored.{Stored, stored}
+use Rattle.outcomes.proofs.Went.{leaves}
 use Rattle.edit.proofs.Carried.{no_room, carried_out}
 use Rattle.edit.proofs.plan.carry_out.Goals as goal
 
-pub returns-then-starts-next : goal.returns-then-starts-next
-returns-then-starts-next c =
-    let g = c.args in
-    let lent_map : Stored = stored g.count.now g.starts.now g.ends.now g.values.now in
-    no_room lent_map c.args.p c.if-starts-next.true
+pub returns-then-next-gt512-clause-leaves : goal.returns-then-next-gt512-clause-leaves
+returns-then-next-gt512-clause-leaves c = leaves (no_room c.args.m.now c.args.p (omega (arith, c.if-next-gt512.true)))
 
 pub splice-requires : goal.splice-requires
 splice-requires c =
     (c.requires.0, c.requires.1, record { held = c.requires.0.held; room = omega arith })
 
-pub returns : goal.returns
-returns c =
-    let lent_map : Stored = stored c.args.count.now c.args.starts.now c.args.ends.now c.args.values.now in
+pub returns-clause-leaves : goal.returns-clause-leaves
+returns-clause-leaves c =
     let w = c.splice.ensures in
-    carried_out lent_map c.args.p c.if-starts-next.false w.starts_value w.ends_value w.values_value
+    leaves (carried_out c.args.m.now c.args.p (omega (arith, c.if-next-gt512.false)) w.starts_value w.ends_value w.values_value)

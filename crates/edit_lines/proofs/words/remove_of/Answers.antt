@@ -1,25 +1,15 @@
 use mathlib.Core.Path.{sym, ◌∙◌}
-use Rattle.byte_form.proofs.Forms.{told_same}
 use borrow.Author.Rules.{rules}
+use Rattle.edit_lines.specs.Making.{remove_word}
+use Rattle.edit_lines.proofs.Cutting.{is_word, no_word}
 use Rattle.edit_lines.proofs.words.remove_of.Goals as goal
 
-pub returns-then-not-same : goal.returns-then-not-same
-returns-then-not-same c = rw (told_same _ _ _ c.same.ensures ∙ c.if-not-same.true)
-
-pub returns-in_default : goal.returns-in_default
-returns-in_default c =
-    let word = told_same _ _ _ c.same.ensures ∙ c.if-not-same.false in
-    rw (word, sym c.read_i64.ensures ∙ c.in_default.is)
-
-pub returns-in_default-read_i64 : goal.returns-in_default-read_i64
-returns-in_default-read_i64 c =
-    let word = told_same _ _ _ c.same.ensures ∙ c.if-not-same.false in
-    let start = sym c.read_i64.ensures ∙ c.in-Is.is in
-    rw (word, start, sym c.read_i64-2.ensures ∙ c.in_default-read_i64.is)
+pub returns-then-ne : goal.returns-then-ne
+returns-then-ne c = rw (no_word c.args.word.now remove_word (rw c.as_slice.ensures at c.ne.ensures) c.if-ne.true)
 
 pub returns : goal.returns
 returns c =
-    let word = told_same _ _ _ c.same.ensures ∙ c.if-not-same.false in
-    let start = sym c.read_i64.ensures ∙ c.in-Is.is in
-    let end = sym c.read_i64-2.ensures ∙ c.in-Is-read_i64.is in
+    let word = is_word c.args.word.now remove_word (rw c.as_slice.ensures at c.ne.ensures) c.if-ne.false in
+    let start = sym c.read_i64.ensures ∙ c.in_ok-s.was in
+    let end = sym c.read_i64-2.ensures ∙ c.in_ok-e.was in
     rw (word, start, end) (search rules)

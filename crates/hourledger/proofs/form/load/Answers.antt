@@ -2,4 +2,4 @@ use Rattle.hourledger.proofs.Loaded.{read_loaded}
 use Rattle.hourledger.proofs.form.load.Goals as goal
 
 pub returns-clause-loaded : goal.returns-clause-loaded
-returns-clause-loaded c = λ e. read_loaded _ c.args.form.now c.read.ensures e
+returns-clause-loaded c = read_loaded _ c.args.form.now c.read.result c.read.ensures

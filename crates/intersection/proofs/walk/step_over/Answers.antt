@@ -5,10 +5,11 @@ use Rattle.intersection.proofs.walk.step_over.Goals as goal
 
 pub returns : goal.returns
 returns c =
-    let a = c.args in
+    let a = c.args.a in
+    let b = c.args.b in
     record {
-      start = greater_rank a.start_a a.start_b c.max-start.ensures;
-      end = lesser_rank a.end_a a.end_b c.min-end.ensures;
+      start = greater_rank a.start b.start c.max-start.ensures;
+      end = lesser_rank a.end b.end c.min-end.ensures;
       met = c.meets.ensures;
-      first = lt_test (of_z w64 a.end_a) (of_z w64 a.end_b);
+      first = lt_test (of_z w64 a.end) (of_z w64 b.end);
     }

@@ -1,62 +1,53 @@
 use native.Mathlib.Omega.{arith}
-use Prim.Native.Nat.{◌+◌}
 use mathlib.Core.Path.{◌≡◌, ap}
 use mathlib.Core.List.{List, [], ◌∷◌}
-use Rattle.span.specs.Span.{Span, span}
-use Rattle.key.specs.Rank.{bit_rank}
+use mir.Syntax.{w64}
+use mir.Val.{of_z}
+use Rattle.span.specs.Span.{Span}
+use Rattle.key.specs.Rank.{rank}
 use Rattle.key.specs.Range.{kind_of}
 use Rattle.key.proofs.Laws.{rank_back}
 use Rattle.range_list.proofs.Answering.{put_start}
-use Rattle.two_sets.specs.InnerKind.{wide}
 use Rattle.two_sets.proofs.Kinded.{put_end}
-use Rattle.two_sets.proofs.Writing.{going_room, going_last}
+use Rattle.two_sets.proofs.Writing.{going_last}
 use Rattle.two_sets.proofs.Columns.{one_goes}
-use Rattle.intersection.specs.InnerFound.{shared_from}
+use Rattle.intersection.specs.InnerFound.{open_span, shared_from}
 use Rattle.intersection.proofs.Steps.{found_none, found_no, going_found}
 use Rattle.intersection.proofs.walk.write_rest.Goals as goal
-use Rattle.intersection.proofs.walk.write_rest.Goals.{then-loop-i-test+else-j-count_b, else-loop-i-test}
+use Rattle.intersection.proofs.walk.write_rest.Goals.{then-loop-here-test+else-here-b, else-loop-here-test}
 
-pub overflow_add-i : goal.overflow_add-i
-overflow_add-i c = let one = one_goes c.step-s.result.left in omega (arith, one, c.requires.side_a.held)
+pub loop-here-smaller : goal.loop-here-smaller
+loop-here-smaller c = let one = one_goes c.step-s.result.left in omega (arith, one)
 
-pub overflow_add-j : goal.overflow_add-j
-overflow_add-j c = let one = one_goes c.step-s.result.left in omega (arith, one, c.requires.side_b.held)
-
-pub overflow_add-at : goal.overflow_add-at
-overflow_add-at c =
-    let one = one_goes c.step-s.result.found in
-    let r = going_room (kind_of c.args.kind) (simp rank_back at c.loop-i.invariant.2) (omega arith) c.requires.room in
-    omega (arith, one, r)
-
-pub loop-i-smaller : goal.loop-i-smaller
-loop-i-smaller c = let one = one_goes c.step-s.result.left in omega (arith, one)
-
-pub loop-i-preserved : goal.loop-i-preserved
-loop-i-preserved c =
-    let l = c.loop-i in
+pub loop-here-preserved : goal.loop-here-preserved
+loop-here-preserved c =
+    let one = one_goes c.step-s.result.left in
     let p = c.requires in
+    let l = c.loop-here in
     let w = c.put.ensures in
-    let one = one_goes c.step-s.result.left in (
-      omega (arith, one),
-      omega (arith, one),
-      simp rank_back
-          (going_found c.args.kind p.side_a p.side_b c.loop-i-test.true c.if-j-count_b.true c.step-s.ensures
-          (bit_rank l.lo-bits) (bit_rank l.hi-bits) _ _ (simp rank_back at l.invariant.2)
-          (simp rank_back at c.pick-lo.ensures) (simp rank_back at c.pick-hi.ensures)
-          (put_start l.out_starts l.at l.lo-bits w.0) (put_end c.args.kind l.out_ends l.at l.hi-bits w.1)),
-    )
+    record {
+      in_a = omega (arith, one);
+      in_b = omega (arith, one);
+      going = simp rank_back
+          (going_found c.args.kind p.side_a p.side_b c.loop-here-test.true c.if-here-b.true c.step-s.ensures
+          (rank l.here.start) (rank l.here.end) _ _ l.invariant.going
+          (simp rank_back at c.pick.ensures) (simp rank_back at c.pick-in-loop-here.ensures)
+          (put_start l.out_starts l.here.at (of_z w64 l.here.start) w.0) (put_end c.args.kind l.out_ends l.here.at (of_z w64 l.here.end) w.1));
+    }
 
 -- a set is at its end, so the open range is the last
 pub returns : goal.returns
 returns c =
-    let l = c.loop-i in
-    let a = c.args in
-    let none_left : shared_from a.kind a.starts_a.now a.ends_a.now a.count_a l.i a.starts_b.now a.ends_b.now a.count_b l.j ≡ [] =
-    elim c.loop-i-test.branch [
-      | then-loop-i-test+else-j-count_b w ↦ found_no a.kind c.requires.side_a c.requires.side_b l.i l.j w.if-j-count_b.false
-      | else-loop-i-test w ↦ found_none a.kind c.requires.side_a c.requires.side_b l.i l.j w.loop-i-test.false
+    let kind = c.args.kind in
+    let p = c.requires in
+    let l = c.loop-here in
+    let here = l.here in
+    let none_left : shared_from kind c.args.a.now here.i c.args.b.now here.j ≡ [] =
+    elim c.loop-here-test.branch [
+      | then-loop-here-test+else-here-b w ↦ found_no kind p.side_a p.side_b here.i here.j w.if-here-b.false
+      | else-loop-here-test w ↦ found_none kind p.side_a p.side_b here.i here.j w.loop-here-test.false
     ] in
+    let x = open_span kind here.start here.end in
     let w = c.put-2.ensures in
-    let x = span (bit_rank l.lo-bits) (wide a.kind + bit_rank l.hi-bits) 0 in
-    going_last (kind_of a.kind) (simp rank_back at l.invariant.2) x (ap (λ (m : List Span). x ∷ m) none_left)
-    (put_start l.out_starts l.at l.lo-bits w.0) (put_end a.kind l.out_ends l.at l.hi-bits w.1)
+    going_last (kind_of kind) l.invariant.going x (ap (λ (m : List Span). x ∷ m) none_left)
+    (put_start l.out_starts here.at (of_z w64 here.start) w.0) (put_end kind l.out_ends here.at (of_z w64 here.end) w.1)

@@ -1,37 +1,30 @@
-use mathlib.Core.Path.{ap, sym, ◌∙◌}
+use mathlib.Core.Path.{sym, ap, ◌∙◌}
+use borrow.Author.Rules.{rules}
 use Rattle.key.specs.Range.{kind_of}
-use Rattle.outcomes.specs.Stored.{stored}
+use Rattle.outcomes.specs.Stored.{Sound}
 use Rattle.outcomes.specs.Outcomes.{order, compared_by}
-use Rattle.compare.proofs.Laws.{either_order}
 use Rattle.outcomes.proofs.Formed.{sound_held}
+use Rattle.compare.proofs.Laws.{either_order}
 use Rattle.map_ops.proofs.list.cmp.Goals as goal
 
-pub returns-then-not-well_formed : goal.returns-then-not-well_formed
+pub returns-in_err-checked : goal.returns-in_err-checked
 unfolding order
-returns-then-not-well_formed c = rw (sym c.well_formed-2.ensures.value ∙ c.if-not-well_formed.true)
+returns-in_err-checked c = search rules
 
-pub returns-then-not-well_formed-2 : goal.returns-then-not-well_formed-2
+pub returns-in_err-checked-2 : goal.returns-in_err-checked-2
 unfolding order
-returns-then-not-well_formed-2 c =
-    rw (sym c.well_formed-2.ensures.value ∙ c.if-not-well_formed.false, sym c.well_formed-3.ensures.value ∙ c.if-not-well_formed-2.true)
+returns-in_err-checked-2 c = search rules
 
 pub compare-requires-clause-count_in_bounds : goal.compare-requires-clause-count_in_bounds
 compare-requires-clause-count_in_bounds c =
-    let a = c.args in
-    let p = c.well_formed-2.ensures.sound c.if-not-well_formed.false in
-    (sound_held (kind_of a.kind) (stored a.count.now a.starts.now a.ends.now a.values.now) p, p.ends_as, p.values_as)
+    let sound : Sound (kind_of c.args.kind) c.args.m.now = search rules in
+    sound_held (kind_of c.args.kind) c.args.m.now sound
 
 pub compare-requires-clause-count2_in_bounds : goal.compare-requires-clause-count2_in_bounds
 compare-requires-clause-count2_in_bounds c =
-    let a = c.args in
-    let p = c.well_formed-3.ensures.sound c.if-not-well_formed-2.false in
-    (sound_held (kind_of a.kind) (stored a.count2.now a.starts2.now a.ends2.now a.values2.now) p, p.ends_as, p.values_as)
+    let sound : Sound (kind_of c.args.kind) c.args.other.now = search rules in
+    sound_held (kind_of c.args.kind) c.args.other.now sound
 
 pub returns : goal.returns
 unfolding order
-returns c =
-    let a = c.args in
-    let m = stored a.count.now a.starts.now a.ends.now a.values.now in
-    let n = stored a.count2.now a.starts2.now a.ends2.now a.values2.now in
-    rw (sym c.well_formed-2.ensures.value ∙ c.if-not-well_formed.false, sym c.well_formed-3.ensures.value ∙ c.if-not-well_formed-2.false)
-    (c.compare.ensures ∙ ap compared_by (sym (either_order a.kind m n)))
+returns c = search (rules, c.compare.ensures ∙ ap compared_by (sym (either_order c.args.kind c.args.m.now c.args.other.now)))

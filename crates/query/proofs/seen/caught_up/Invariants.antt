@@ -5,7 +5,7 @@ use Rattle.query.specs.InnerSeen.{Trails}
 use Rattle.query.proofs.seen.caught_up.Given as goal
 
 abbrev pub invariant-loop-here : goal.invariant-loop-here
-invariant-loop-here l = Trails (spans_of l.count l.starts l.ends l.values) l.here (rank l.key)
+invariant-loop-here l = Trails (spans_of l.m) l.here (rank l.key)
 
 abbrev pub decreases-loop-here : goal.decreases-loop-here
-decreases-loop-here l = l.count - l.here
+decreases-loop-here l = l.m.count - l.here

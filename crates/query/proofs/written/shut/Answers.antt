@@ -1,24 +1,22 @@
 use Prim.Native.Nat.{ℕ}
 use native.Mathlib.Omega.{arith}
-use mathlib.Core.Path.{◌≡◌, refl}
+use mathlib.Core.Path.{◌≡◌, refl, sym, ◌∙◌}
 use mir.Val.{of_z}
 use mir.Syntax.{w64}
 use Rattle.key.proofs.Laws.{tests}
 use Rattle.range_list.proofs.Answering.{put_start}
+use Rattle.key.proofs.Answers.{never}
 use Rattle.query.proofs.written.shut.Goals as goal
+use Rattle.query.proofs.written.shut.Goals.{then-key-start-via-then-key-start, then-key-start-via-else-key-start+then-on}
 
 pub returns-then-key-start : goal.returns-then-key-start
 returns-then-key-start c = record {
   goes_on = λ e. (refl, refl, refl);
   none_is = λ h. (refl, refl, refl);
-  ends = λ e h. absurd (omega (arith, tests));
-}
-
-pub returns-then-on : goal.returns-then-on
-returns-then-on c = record {
-  goes_on = λ e. (refl, refl, refl);
-  none_is = λ h. (refl, refl, refl);
-  ends = λ e h. let y = c.if-on.true in let z : ◌≡◌ {A = ℕ} 0 1 = cc in absurd (omega arith);
+  ends = λ e h. elim c.then-key-start.branch [
+    | then-key-start-via-then-key-start w ↦ absurd (omega (arith, tests, w.if-key-start.true))
+    | then-key-start-via-else-key-start+then-on w ↦ absurd (never (sym e ∙ w.if-on.true))
+  ];
 }
 
 pub put-requires : goal.put-requires

@@ -1,89 +1,63 @@
-use Prim.Native.Nat.{suc, ◌<◌}
+use Prim.Native.Nat.{ℕ, suc, ◌<◌}
 use native.Mathlib.Omega.{arith}
 use native.Mathlib.Numerals.{add-one}
 use mathlib.Core.Path.{◌≡◌, refl, ap, sym, ◌∙◌}
-use mathlib.Core.List.{[], ◌∷◌}
+use mathlib.Core.List.{List, [], ◌∷◌}
 use lib.ListN.{length, get_or, drop, drop_of_length-le}
 use lib.Seq.{drop-cons}
+use lib.IntN.{ℤ, pos}
 use mir.Facts.{to_z-of_z}
-use borrow.Author.Rules.{rules}
-use lib.IntN.{pos}
 use mir.Syntax.{w64}
 use mir.Val.{SFits}
+use borrow.Author.Rules.{rules}
 use Rattle.key.specs.Range.{kind_of}
+use Rattle.key.specs.declared.Entry.{Entry}
 use Rattle.key.proofs.Lawful.{lawful}
-use Rattle.outcomes.specs.Stored.{stored}
-use Rattle.outcomes.specs.Outcomes.{Entry, bulk_insert_sound}
+use Rattle.outcomes.specs.Outcomes.{bulk_insert_sound}
 use Rattle.outcomes.specs.Sets.{pairs}
-use Rattle.set_ops.proofs.Pairs.{length_pairs, get_or_pairs, pair_at}
-use Rattle.outcomes.proofs.Went.{numbered, not_done}
+use Rattle.outcomes.proofs.Went.{numbered, number_nonzero}
 use Rattle.outcomes.proofs.Bulk.{entry_refused, entry_done, entry_sound}
+use Rattle.set_ops.proofs.Pairs.{length_pairs, get_or_pairs, pair_at}
 use Rattle.set_ops.proofs.bulk.extend_formed.Goals as goal
 
+-- the entry at a place of two lists, and those behind it
+cut_at : (ss es : List ℤ) (i : ℕ) → i < length (pairs ss es)
+    → drop i (pairs ss es) ≡ pair_at ss es i ∷ drop (suc i) (pairs ss es)
+cut_at ss es i h =
+    drop-cons (pairs ss es) i _ h ∙ ap (λ (e : Entry). e ∷ drop (suc i) (pairs ss es)) (get_or_pairs ss es i h)
+
 pub loop-i-init : goal.loop-i-init
-loop-i-init c = (omega arith, c.requires, refl)
+loop-i-init c = (c.requires, refl)
 
-pub offset_bounds-new_starts-i : goal.offset_bounds-new_starts-i
-offset_bounds-new_starts-i c = omega (arith, c.shorter-n.ensures)
-
-pub bounds-new_starts-i : goal.bounds-new_starts-i
-bounds-new_starts-i c = omega (arith, c.shorter-n.ensures)
-
-pub offset_bounds-new_ends-i : goal.offset_bounds-new_ends-i
-offset_bounds-new_ends-i c = omega (arith, c.shorter-n.ensures)
-
-pub bounds-new_ends-i : goal.bounds-new_ends-i
-bounds-new_ends-i c = omega (arith, c.shorter-n.ensures)
-
-pub insert-went-requires : goal.insert-went-requires
-insert-went-requires c = c.loop-i.invariant.1
-
-pub returns-in-Refused : goal.returns-in-Refused
-returns-in-Refused c =
-    let t = c in
-    let r = t in
-    let a = r.args in
-    let l = r.loop-i in
+pub returns-in-Err : goal.returns-in-Err
+returns-in-Err c =
+    let a = c.args in
+    let l = c.loop-i in
     let ss = a.new_starts.now in
     let es = a.new_ends.now in
-    let n = length_pairs ss es in
-    let xs = pairs ss es in
-    let m = stored l.count l.starts l.ends l.values in
-    let h : l.i < length xs = omega (arith, r.shorter-n.ensures) in
-    let x = pair_at ss es l.i in
-    let rest = drop (suc l.i) xs in
-    let cut : drop l.i xs ≡ x ∷ rest = drop-cons xs l.i _ h ∙ ap (λ (e : Entry). e ∷ rest) (get_or_pairs ss es l.i h) in
-    let f : SFits w64 (get_or ss l.i (pos 0)) = search rules in
-    let g : SFits w64 (get_or es l.i (pos 0)) = search rules in
-    let told = rw (to_z-of_z f, to_z-of_z g)
-    at c.insert-went.ensures in
-    let went = rw c.in-Refused.is at told in
-    entry_refused (kind_of a.kind) m l.i x rest (numbered went) (not_done went) ∙ sym (l.invariant.2 ∙ ap (bulk_insert_sound (kind_of a.kind) m l.i) cut)
+    let h : l.i < length (pairs ss es) = omega (arith, length_pairs ss es) in
+    let fs : SFits w64 (get_or c.args.new_starts.now c.loop-i.i (pos 0)) = search rules in
+    let fe : SFits w64 (get_or c.args.new_ends.now c.loop-i.i (pos 0)) = search rules in
+    let went = rw c.in-Err.is at (rw (to_z-of_z fs, to_z-of_z fe) at c.insert-went.ensures) in
+    let k = kind_of a.kind in
+    rw c.number.ensures (entry_refused k l.m l.i (pair_at ss es l.i) (drop (suc l.i) (pairs ss es)) (numbered went) (number_nonzero c.in-Err.why)
+    ∙ sym (l.invariant.1 ∙ ap (bulk_insert_sound k l.m l.i) (cut_at ss es l.i h)))
 
 pub loop-i-preserved : goal.loop-i-preserved
 loop-i-preserved c =
-    let t = c in
-    let r = t in
-    let a = r.args in
-    let l = r.loop-i in
+    let a = c.args in
+    let l = c.loop-i in
     let ss = a.new_starts.now in
     let es = a.new_ends.now in
-    let n = length_pairs ss es in
-    let xs = pairs ss es in
-    let m = stored l.count l.starts l.ends l.values in
-    let h : l.i < length xs = omega (arith, r.shorter-n.ensures) in
+    let h : l.i < length (pairs ss es) = omega (arith, length_pairs ss es) in
     let x = pair_at ss es l.i in
-    let rest = drop (suc l.i) xs in
-    let cut : drop l.i xs ≡ x ∷ rest = drop-cons xs l.i _ h ∙ ap (λ (e : Entry). e ∷ rest) (get_or_pairs ss es l.i h) in
-    let f : SFits w64 (get_or ss l.i (pos 0)) = search rules in
-    let g : SFits w64 (get_or es l.i (pos 0)) = search rules in
-    let told = rw (to_z-of_z f, to_z-of_z g)
-    at c.insert-went.ensures in
-    let went = rw c.in_default.is at told in
-    let is = numbered went in (
-      omega arith,
-      (entry_sound (kind_of a.kind) m l.i x rest is (lawful a.kind) l.invariant.1 refl).0,
-      rw (add-one l.i) (l.invariant.2 ∙ ap (bulk_insert_sound (kind_of a.kind) m l.i) cut ∙ sym (entry_done (kind_of a.kind) m l.i x rest is refl)),
+    let rest = drop (suc l.i) (pairs ss es) in
+    let fs : SFits w64 (get_or c.args.new_starts.now c.loop-i.i (pos 0)) = search rules in
+    let fe : SFits w64 (get_or c.args.new_ends.now c.loop-i.i (pos 0)) = search rules in
+    let is = numbered (rw c.in_default.is at (rw (to_z-of_z fs, to_z-of_z fe) at c.insert-went.ensures)) in
+    let k = kind_of a.kind in (
+      (entry_sound k l.m l.i x rest is (lawful a.kind) l.invariant.0 refl).0,
+      rw (add-one l.i) (l.invariant.1 ∙ ap (bulk_insert_sound k l.m l.i) (cut_at ss es l.i h) ∙ sym (entry_done k l.m l.i x rest is refl)),
     )
 
 pub returns : goal.returns
@@ -91,10 +65,7 @@ unfolding bulk_insert_sound
 returns c =
     let a = c.args in
     let l = c.loop-i in
-    let ss = a.new_starts.now in
-    let es = a.new_ends.now in
-    let n = length_pairs ss es in
-    let xs = pairs ss es in
-    let m = stored l.count l.starts l.ends l.values in
-    let e : drop l.i xs ≡ [] = drop_of_length-le xs {i = l.i} (omega (arith, c.shorter-n.ensures)) in
-    sym (l.invariant.2 ∙ ap (bulk_insert_sound (kind_of a.kind) m l.i) e)
+    let xs = pairs a.new_starts.now a.new_ends.now in
+    let e : drop l.i xs ≡ [] = drop_of_length-le xs {i = l.i} (omega (arith, length_pairs a.new_starts.now a.new_ends.now)) in
+    let all : c.min-n.result ≡ l.i = omega arith in
+    rw all (sym (l.invariant.1 ∙ ap (bulk_insert_sound (kind_of a.kind) l.m l.i) e))

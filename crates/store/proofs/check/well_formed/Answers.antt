@@ -1,32 +1,34 @@
-use native.Mathlib.Omega.{arith}
-use mathlib.Core.Path.{refl}
-use lib.ListN.{length}
+use Rattle.outcomes.specs.Stored.{places}
 use Rattle.key.specs.Range.{kind_of}
-use Rattle.key.proofs.Answers.{never}
-use Rattle.outcomes.specs.Stored.{Stored, stored}
 use Rattle.outcomes.proofs.Formed.{Shaped}
 use Rattle.store.proofs.Checked.{refuses, answers, all_fit, whole}
 use Rattle.store.proofs.check.well_formed.Goals as goal
 
-pub returns-then-not-unused-clause-value : goal.returns-then-not-unused-clause-value
-returns-then-not-unused-clause-value c =
-    let m : Stored = stored c.args.count c.args.starts.now c.args.ends.now c.args.values.now in
-    let shape : Shaped (length c.args.starts.now) m = record { starts = refl; ends = omega arith; values = omega arith } in
+pub returns-then-unused-clause-value : goal.returns-then-unused-clause-value
+returns-then-unused-clause-value c =
+    let m = c.args.m.now in
+    let n = c.unused.ensures.all_places in
+    let shape : Shaped places m = record { starts = n.0; ends = n.1; values = n.2 } in
     let kind = kind_of c.args.kind in
-    (whole kind shape (omega arith) (refuses kind shape (c.unused.ensures.wrong c.if-not-unused.true)) (λ e. never e)).0
+    let u = c.unused.ensures.decides.right c.if-unused.true in
+    answers kind shape _ u c.tidy.ensures.decides
 
-pub returns-clause-value : goal.returns-clause-value
-returns-clause-value c =
-    let m : Stored = stored c.args.count c.args.starts.now c.args.ends.now c.args.values.now in
-    let shape : Shaped (length c.args.starts.now) m = record { starts = refl; ends = omega arith; values = omega arith } in
+pub returns-then-unused-clause-sound : goal.returns-then-unused-clause-sound
+returns-then-unused-clause-sound c =
+    let m = c.args.m.now in
+    let n = c.unused.ensures.all_places in
+    let shape : Shaped places m = record { starts = n.0; ends = n.1; values = n.2 } in
     let kind = kind_of c.args.kind in
-    let u = c.unused.ensures.right c.if-not-unused.false in
-    (whole kind shape (omega arith) (answers kind shape _ u c.tidy.ensures.decides) (λ e. all_fit kind shape u (c.tidy.ensures.keys e))).0
+    let u = c.unused.ensures.decides.right c.if-unused.true in
+    whole kind shape (answers kind shape _ u c.tidy.ensures.decides) (λ e. all_fit kind shape u (c.tidy.ensures.keys e))
 
-pub returns-clause-sound : goal.returns-clause-sound
-returns-clause-sound c =
-    let m : Stored = stored c.args.count c.args.starts.now c.args.ends.now c.args.values.now in
-    let shape : Shaped (length c.args.starts.now) m = record { starts = refl; ends = omega arith; values = omega arith } in
+pub returns-then-unused-clause-starts_len : goal.returns-then-unused-clause-starts_len
+returns-then-unused-clause-starts_len c = λ _. c.unused.ensures.all_places.0
+
+pub returns-else-unused-clause-value : goal.returns-else-unused-clause-value
+returns-else-unused-clause-value c =
+    let m = c.args.m.now in
+    let n = c.unused.ensures.all_places in
+    let shape : Shaped places m = record { starts = n.0; ends = n.1; values = n.2 } in
     let kind = kind_of c.args.kind in
-    let u = c.unused.ensures.right c.if-not-unused.false in
-    (whole kind shape (omega arith) (answers kind shape _ u c.tidy.ensures.decides) (λ e. all_fit kind shape u (c.tidy.ensures.keys e))).1.0
+    rw c.if-unused.false (refuses kind shape (c.unused.ensures.decides.wrong c.if-unused.false))

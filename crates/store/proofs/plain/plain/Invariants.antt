@@ -1,10 +1,5 @@
-use Prim.Native.Nat.{◌-◌, ◌≤◌}
-use lib.ListN.{length}
 use Rattle.store.proofs.Zeros.{Seen}
 use Rattle.store.proofs.plain.plain.Given as goal
 
-abbrev pub invariant-loop-k : goal.invariant-loop-k
-invariant-loop-k l = (l.k ≤ length l.values) × Seen l.values 0 0 l.k l.seen
-
-abbrev pub decreases-loop-k : goal.decreases-loop-k
-decreases-loop-k l = length l.values - l.k
+abbrev pub invariant-loop-value : goal.invariant-loop-value
+invariant-loop-value l = Seen l.values 0 l.value-index l.seen

@@ -1,16 +1,14 @@
 use Prim.Native.Nat.{◌+◌, ◌-◌}
-use Rattle.key.specs.Rank.{rank}
 use Rattle.key.specs.Range.{kind_of}
 use Rattle.two_sets.specs.InnerLists.{Going}
-use Rattle.union.specs.InnerFound.{open_from, Opened}
+use Rattle.union.specs.InnerFound.{open_at, OpenedAt}
 use Rattle.union.proofs.walk.write_from.Given as goal
 
-abbrev pub invariant-loop-i : goal.invariant-loop-i
-invariant-loop-i l =
-    Opened l.kind (rank l.lo) (rank l.hi) l.starts_a l.ends_a l.count_a l.i l.starts_b l.ends_b l.count_b l.j
-    × Going (kind_of l.kind) l.initial.at l.initial.out_starts l.initial.out_ends (open_from l.kind (rank l.initial.lo) (rank l.initial.hi) l.starts_a l.ends_a l.count_a l.initial.i l.starts_b l.ends_b l.count_b l.initial.j)
-    l.at (open_from l.kind (rank l.lo) (rank l.hi) l.starts_a l.ends_a l.count_a l.i l.starts_b l.ends_b l.count_b l.j) l.out_starts l.out_ends
+abbrev pub invariant-loop-here : goal.invariant-loop-here
+invariant-loop-here l =
+    OpenedAt l.kind l.a l.b l.here
+    × Going (kind_of l.kind) l.initial.here.at l.initial.out_starts l.initial.out_ends (open_at l.kind l.a l.b l.initial.here)
+    l.here.at (open_at l.kind l.a l.b l.here) l.out_starts l.out_ends
 
-abbrev pub decreases-loop-i : goal.decreases-loop-i
-decreases-loop-i l =
-    (l.count_a + l.count_b) - (l.i + l.j)
+abbrev pub decreases-loop-here : goal.decreases-loop-here
+decreases-loop-here l = (l.a.count + l.b.count) - (l.here.i + l.here.j)

@@ -1,14 +1,11 @@
-use mathlib.Core.Path.{sym, ◌∙◌}
+use borrow.Author.Rules.{rules}
 use Rattle.outcomes.specs.Outcomes.{bulk_insert}
 use Rattle.map_ops.proofs.change.bulk.extend.Goals as goal
 
-pub returns-then-not-well_formed : goal.returns-then-not-well_formed
+pub returns-in-Err : goal.returns-in-Err
 unfolding bulk_insert
-returns-then-not-well_formed c = rw (sym c.well_formed-2.ensures.value ∙ c.if-not-well_formed.true)
-
-pub extend_formed-requires : goal.extend_formed-requires
-extend_formed-requires c = c.well_formed-2.ensures.sound c.if-not-well_formed.false
+returns-in-Err c = search rules
 
 pub returns : goal.returns
 unfolding bulk_insert
-returns c = rw (sym c.well_formed-2.ensures.value ∙ c.if-not-well_formed.false) c.extend_formed.ensures
+returns c = search rules

@@ -9,8 +9,8 @@ returns-then-i-lt64 c =
     let g = c.args in
     rw (lt-ltb (11 * g.a + g.b) 64 c.if-i-lt64.true) c.bit.ensures
 
-pub returns : goal.returns
+pub returns-else-i-lt64 : goal.returns-else-i-lt64
 unfolding says
-returns c =
+returns-else-i-lt64 c =
     let g = c.args in
-    rw (le-ltb (11 * g.a + g.b) 64 c.if-i-lt64.false) c.bit-2.ensures
+    rw (le-ltb (11 * g.a + g.b) 64 c.if-i-lt64.false) c.bit-else-i-lt64.ensures

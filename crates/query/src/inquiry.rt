@@ -1,0 +1,17 @@
+// What is asked of two maps.
+ghost use Rattle.key.specs.Range.{half_open};
+ghost use Rattle.outcomes.specs.Stored.{Sound};
+
+use outcomes::Stored;
+use query_text::truth::Truth;
+
+// Two sound maps, the table of a query of them, and the key up to which it is asked.
+#[derive(Clone, Copy)]
+pub struct Inquiry<'a> {
+    pub a: &'a Stored,
+    pub b: &'a Stored,
+    pub table: Truth,
+    pub end: i64,
+    ghost sound_a: { Sound half_open a.now },
+    ghost sound_b: { Sound half_open b.now },
+}

@@ -1,8 +1,0 @@
-use mathlib.Core.Path.{ap, ◌∙◌}
-use Rattle.outcomes.specs.Numbers.{found_in_c}
-use Rattle.set_abi.proofs.first.Goals as goal
-
-pub returns : goal.returns
-returns c =
-    let s = c in
-    c.range_of.ensures ∙ ap found_in_c c.first.ensures

@@ -1,8 +1,0 @@
-use mir.Facts.{to_z-of_z}
-use Rattle.outcomes.proofs.Went.{numbered}
-use Rattle.set_abi.proofs.remove.Goals as goal
-
-pub returns : goal.returns
-returns c =
-    let s = c in
-    rw c.number_of.ensures (numbered (rw (to_z-of_z s.ranges.start, to_z-of_z s.ranges.end) at c.remove.ensures))
