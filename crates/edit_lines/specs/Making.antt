@@ -1,5 +1,5 @@
 -- docs/PROGRAM.md, Make: the edit that a line is, and what the lines of a text make from nothing.
-use Rattle.std.specs.Prelude.{ℕ, ℤ, suc, cond, List, [], ◌∷◌, eqb, ltb, Option as Read, Some, None, Result, Ok, Err, ⊤}
+use Rattle.std.specs.Prelude.{ℕ, ℤ, suc, cond, List, [], ◌∷◌, eqb, ltb, Option as Maybe, Some, None, Result, Ok, Err, ⊤}
 use Rattle.std.proofs.Math.Option.{Option, some, none}
 use Rattle.answers.specs.Answers.{done}
 use Rattle.answers.specs.Refusals.{number}
@@ -22,20 +22,20 @@ abbrev pub remove_word : List ℕ
 remove_word = ascii "remove"
 
 -- insert START END VALUE: the value is 0 to 255
-abbrev pub insert_of : Read ℤ → Read ℤ → Read ℕ → Read Line
+abbrev pub insert_of : Maybe ℤ → Maybe ℤ → Maybe ℕ → Maybe Line
 insert_of (Some s) (Some e) (Some v) = cond (ltb v 256) (Some (Line.Insert s e v)) None
 insert_of (Some s) (Some e) None = None
 insert_of (Some s) None v = None
 insert_of None e v = None
 
 -- remove START END
-abbrev pub remove_of : Read ℤ → Read ℤ → Read Line
+abbrev pub remove_of : Maybe ℤ → Maybe ℤ → Maybe Line
 remove_of (Some s) (Some e) = Some (Line.Remove s e)
 remove_of (Some s) None = None
 remove_of None e = None
 
 -- a line of these words
-abbrev pub words_line : List (List ℕ) → Read Line
+abbrev pub words_line : List (List ℕ) → Maybe Line
 words_line [] = None
 words_line (w ∷ []) = None
 words_line (w ∷ s ∷ []) = None
@@ -44,11 +44,11 @@ words_line (w ∷ s ∷ e ∷ v ∷ []) = cond (same_bytes w insert_word) (inser
 words_line (w ∷ s ∷ e ∷ v ∷ x ∷ xs) = None
 
 -- THE LINE that bytes are, if they are an edit
-unfoldable pub line_of : List ℕ → Read Line
+unfoldable pub line_of : List ℕ → Maybe Line
 line_of bytes = words_line (words_of bytes)
 
 -- the edit of a map that a line is
-abbrev pub change_of : Read Line → Option Change
+abbrev pub change_of : Maybe Line → Option Change
 change_of (Some (Line.Insert s e v)) = some (record { start = s; end = e; new = some v })
 change_of (Some (Line.Remove s e)) = some (record { start = s; end = e; new = none })
 change_of None = none

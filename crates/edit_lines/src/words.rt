@@ -1,5 +1,5 @@
 // One line: its words, and the edit that they are.
-ghost use Rattle.std.specs.Prelude.{◌≡◌, ◌<◌, [], ◌∷◌, length};
+ghost use Rattle.std.specs.Prelude.{◌≡◌, ◌<◌, [], ◌∷◌};
 ghost use Rattle.std.specs.Option.{MatchOption};
 ghost use Rattle.edit_lines.specs.Parts.{words_of};
 ghost use Rattle.edit_lines.specs.Making.{words_line, line_of};

@@ -5,7 +5,7 @@ ghost use Rattle.std.specs.Prelude.{◌≡◌, ◌+◌, ◌*◌, ◌≤◌, ◌<
 ghost use Rattle.key.specs.Range.{half_open};
 ghost use Rattle.outcomes.specs.Stored.{ranges};
 ghost use Rattle.filling.specs.Filling.{series, AddsWithin};
-ghost use Rattle.report_text.specs.Rows.{row_count, row_name};
+ghost use Rattle.report_text.specs.Rows.{row_count};
 ghost use Rattle.graph_text.specs.Grid.{Drawable};
 ghost use Rattle.graph_text.specs.InnerRoom.{most_quarters, most_hours, Quarters, Quarter};
 ghost use Rattle.svg_text.specs.SvgText.{head_svg, hour_rule, hour_rules, row_rule, row_rules, hour_svg, name_svg, total_svg, ink_of, mark_at, mark_svg, ink_svg, marks_svg, row_svg, frame_svg, foot_svg, svg_text};

@@ -7,7 +7,7 @@
 #![tactic(auto)]
 
 use key::RangeKind;
-use outcomes::{Applied, Count, Order, PLACES, Range, Stored, Stretch, Told};
+use outcomes::{Applied, Count, Order, Range, Stored, Stretch, Told};
 use test_print::{
     Ends, print, print_colon, print_field, print_key, print_list, print_number, print_range,
     print_told, read_byte, read_letter,
