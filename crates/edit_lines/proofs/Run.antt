@@ -6,10 +6,6 @@ use mathlib.Core.List.{List, [], ◌∷◌}
 use mathlib.Core.Option.{some}
 use native.Mathlib.Omega.{arith}
 use Rattle.std.specs.Prelude.{Some, None, Result, Ok, Err, ⊤}
-use Rattle.answers.specs.Refusals.{number}
-use Rattle.answers.specs.declared.Refusal.{Refusal}
-use Rattle.outcomes.specs.Answered.{Outcome}
-use Rattle.outcomes.proofs.Went.{number_one}
 use lib.Dec.{eqb}
 use lib.IntN.{pos, negsuc}
 use Rattle.key.specs.Range.{half_open}
@@ -90,14 +86,6 @@ pub ended_line : lines_of (ascii "a\n\n") ≡ ascii "a" ∷ [] ∷ []
 unfolding all
 ended_line = refl
 
--- the number of a refusal is of no other
-number_told : {a b : Refusal} → number a ≡ number b → a ≡ b
-number_told {a} {b} e = ap (why_of a) (number_one (Err a) (Err b) e)
-  where
-    why_of : Refusal → Outcome → Refusal
-    why_of other (Ok u) = other
-    why_of other (Err why) = why
-
 -- what `make` answers, by how it is told
 abbrev kind_of_made : Made → ℕ
 kind_of_made Done = 0
@@ -114,7 +102,7 @@ made_one (Ok u) (Ok v) e = refl
 made_one (Ok u) (Err (NotMade.Refused n a)) e = absurd (omega (arith, ap kind_of_made e))
 made_one (Ok u) (Err (NotMade.NotAnEdit n)) e = absurd (omega (arith, ap kind_of_made e))
 made_one (Err (NotMade.Refused n a)) (Ok u) e = absurd (omega (arith, ap kind_of_made e))
-made_one (Err (NotMade.Refused n a)) (Err (NotMade.Refused m b)) e = rw (ap line_of_made e, number_told {a = a} {b = b} (ap answer_of e))
+made_one (Err (NotMade.Refused n a)) (Err (NotMade.Refused m b)) e = rw (ap line_of_made e, ap answer_of e)
 made_one (Err (NotMade.Refused n a)) (Err (NotMade.NotAnEdit m)) e = absurd (omega (arith, ap kind_of_made e))
 made_one (Err (NotMade.NotAnEdit n)) (Ok u) e = absurd (omega (arith, ap kind_of_made e))
 made_one (Err (NotMade.NotAnEdit n)) (Err (NotMade.Refused m b)) e = absurd (omega (arith, ap kind_of_made e))

@@ -2,7 +2,6 @@
 use Rattle.std.specs.Prelude.{ℕ, ℤ, suc, cond, List, [], ◌∷◌, eqb, ltb, Option as Maybe, Some, None, Result, Ok, Err, ⊤}
 use Rattle.std.proofs.Math.Option.{Option, some, none}
 use Rattle.answers.specs.Answers.{done}
-use Rattle.answers.specs.Refusals.{number}
 use Rattle.key.specs.Range.{half_open}
 use Rattle.outcomes.specs.declared.Stored.{Stored}
 use Rattle.outcomes.specs.Outcomes.{Change, edit, clear}
@@ -62,7 +61,7 @@ pub data Made : Type 0 where
 -- the same, by what `make` answers
 abbrev pub made : Result ⊤ NotMade → Made
 made (Ok u) = Done
-made (Err (NotMade.Refused n why)) = Refused n (number why)
+made (Err (NotMade.Refused n a)) = Refused n a
 made (Err (NotMade.NotAnEdit n)) = NotAnEdit n
 
 -- what `make` answers, and the map that it leaves

@@ -10,7 +10,6 @@ ghost use Rattle.std.specs.Option.{MatchOption};
 ghost use Rattle.edit_lines.specs.Parts.{lines_of};
 ghost use Rattle.edit_lines.specs.Making.{line_of, change_of, Done, made, making, line_done, makes, made_of};
 
-use answers::Refusal;
 use key::RangeKind;
 use outcomes::Stored;
 use scan::place_of;
@@ -22,10 +21,10 @@ pub enum Line {
     Remove(i64, i64),
 }
 
-// Why the lines of a text were not all done, and at which line. Lines count from 1.
+// Why the lines of a text were not all done, and at which line. Lines count from 1; a refusal has the number of document 01's table.
 #[derive(Clone, Copy)]
 pub enum NotMade {
-    Refused(usize, Refusal),
+    Refused(usize, u8),
     NotAnEdit(usize),
 }
 
@@ -42,7 +41,7 @@ fn line_done(line: &[u8], n: usize, m: &mut Stored) -> Result<(), NotMade>
         Line::Insert(s, e, v) => map_ops::change::insert(RangeKind::HalfOpen, m, s, e, v),
         Line::Remove(s, e) => map_ops::change::remove(RangeKind::HalfOpen, m, s, e),
     };
-    went.map_err(|why| NotMade::Refused(n, why))
+    went.map_err(|why| NotMade::Refused(n, why.number()))
 }
 
 // The first line and what is behind its newline, or nothing where the text is empty.

@@ -14,8 +14,8 @@ pub fn told_text(went: Result<(), NotMade>, out: &mut [u8; TOLD_ROOM]) -> usize
 {
     match went {
         Ok(()) => 0,
-        Err(NotMade::Refused(n, why)) => {
-            let numbers = [n as u64, u64::from(why.number())];
+        Err(NotMade::Refused(n, answer)) => {
+            let numbers = [n as u64, u64::from(answer)];
             fill(out, 0, b"line {: {\n", &numbers)
         }
         Err(NotMade::NotAnEdit(n)) => {

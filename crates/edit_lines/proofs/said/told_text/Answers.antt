@@ -14,8 +14,8 @@ pub returns-in-Err-Refused : goal.returns-in-Err-Refused
 unfolding told_text
 returns-in-Err-Refused c =
     let e = c.in-Err-Refused in
-    let why : e.field-0 ≡ NotMade.Refused e.n e.why = rw e.is at e.field-0-is in
-    rw (e.is, why) (as_within refl (omega arith) (rw (c.from.ensures, c.number.ensures) at c.fill.ensures))
+    let why : e.field-0 ≡ NotMade.Refused e.n e.answer = rw e.is at e.field-0-is in
+    rw (e.is, why) (as_within refl (omega arith) (rw c.from.ensures at c.fill.ensures))
 
 pub returns-in-Err-NotAnEdit : goal.returns-in-Err-NotAnEdit
 unfolding told_text
