@@ -37,8 +37,11 @@ const HOUR: i64 = 3600;
 
 const DAY: i64 = 24 * HOUR;
 
+// How many zones there are: 0 Eastern, 1 Central, 2 Mountain, 3 Pacific, 4 Alaska, 5 Hawaii, 6 Mountain, fixed.
+pub const ZONES: usize = 7;
+
 // The standard offset of each zone, in seconds, in the order of their numbers.
-const STANDARD: [i64; 7] = [
+const STANDARD: [i64; ZONES] = [
     -5 * HOUR,
     -6 * HOUR,
     -7 * HOUR,
@@ -176,10 +179,10 @@ impl From<Result<Bounds, Refusal>> for LogDay {
 
     fn from(d: Result<Bounds, Refusal>) -> LogDay {
         match d {
-            Ok(Bounds { start, end }) => LogDay {
+            Ok(day) => LogDay {
                 answer: DONE,
-                start,
-                end,
+                start: day.start,
+                end: day.end,
             },
             Err(why) => LogDay {
                 answer: why.number(),
