@@ -1,5 +1,5 @@
 -- A small map, as a thin function lends it, and what is asked and made of it. Nothing in the ledger rests on these.
-use Rattle.std.specs.Prelude.{ℕ, Bool, ◌&&◌, List, length, nat_le, ℤ}
+use Rattle.std.specs.Prelude.{ℕ, Bool, ◌&&◌, List, length, nat_le, eqb, ℤ}
 use Rattle.thin.specs.declared.Small.{Small}
 
 -- what a small map stores
@@ -21,3 +21,7 @@ emptied m = four 0 m.starts m.values
 -- has a list a place for each range of two of them
 unfoldable pub roomy : Four → Four → List ℕ → Bool
 roomy a b bytes = nat_le a.count (length bytes) && nat_le b.count (length bytes)
+
+-- does a small map hold nothing
+unfoldable pub bare : Small → Bool
+bare m = eqb m.count 0

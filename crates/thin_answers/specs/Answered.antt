@@ -1,5 +1,5 @@
--- What the functions of this crate answer, each in one of the structs that C sees. Nothing in the ledger rests on these.
-use Rattle.std.specs.Prelude.{ℕ, nat_lt, ℤ}
+-- What the functions of this crate answer, each in one of the structs that C sees, or first as a `Result`. Nothing in the ledger rests on these.
+use Rattle.std.specs.Prelude.{ℕ, nat_lt, ℤ, ⊤, cond, Result, Ok, Err}
 use Rattle.outcomes.specs.declared.Told.{Told}
 use Rattle.outcomes.specs.declared.Count.{Count}
 use Rattle.outcomes.specs.declared.Range.{Range}
@@ -7,6 +7,10 @@ use Rattle.outcomes.specs.declared.Stretch.{Stretch}
 use Rattle.outcomes.specs.declared.Order.{Order}
 use Rattle.outcomes.specs.declared.Total.{Total}
 use Rattle.outcomes.specs.declared.Applied.{Applied}
+use Rattle.thin_answers.specs.declared.Amiss.{Amiss}
+use Rattle.thin_answers.specs.declared.Amiss.TheVariants.{NotRising}
+use Rattle.thin_answers.specs.declared.Byte.{Byte}
+use Rattle.thin_answers.specs.declared.Pair.{Pair}
 
 -- is a number less than another
 unfoldable pub told_less : ℕ → ℕ → Told
@@ -35,3 +39,16 @@ totalled_as n = record { answer = 0; total = n }
 -- a number as how many were applied
 unfoldable pub applied_as : ℕ → Applied
 applied_as n = record { answer = 0; applied = n }
+
+-- what a check of a pair answers: does it rise
+abbrev pub rising : Pair → Result ⊤ Amiss
+rising p = cond (nat_lt p.first p.second) (Ok tt) (Err NotRising)
+
+-- the first number of a pair that rises
+unfoldable pub low_of : Pair → Result ℕ Amiss
+low_of p = cond (nat_lt p.first p.second) (Ok p.first) (Err NotRising)
+
+-- a byte, or why there is none, as C sees it
+abbrev pub byte_in_c : Result ℕ Amiss → Byte
+byte_in_c (Ok n) = record { answer = 0; byte = n }
+byte_in_c (Err NotRising) = record { answer = 4; byte = 0 }

@@ -1,10 +1,12 @@
-// What the check proves by itself of a thin function that passes an answer on: one for each kind of struct that an answer in numbers is, and none
-// of them has a proof file. As in `thin`, where a later toolchain wants one, this crate tells first. No other crate stands on it.
+// What the check proves by itself of a thin function that passes an answer on: one for each kind of struct that an answer in numbers is. Then today's
+// shapes: a check that goes on by `?`, and a struct of numbers that is made by `From` of a `Result`, as those of `outcomes` are. None has a proof file.
+// As in `thin`, where a later toolchain wants one, this crate tells first. No other crate stands on it.
 #![tactic(auto)]
 
 ghost use Rattle.std.specs.Prelude.{◌≡◌};
 ghost use Rattle.thin_answers.specs.Answered.{told_less, counted_as, found_as};
 ghost use Rattle.thin_answers.specs.Answered.{part_as, ordered_as, totalled_as, applied_as};
+ghost use Rattle.thin_answers.specs.Answered.{rising, low_of, byte_in_c};
 
 use outcomes::{Applied, Count, Order, Range, Stretch, Told, Total};
 
@@ -127,4 +129,56 @@ pub fn pair_applied(_p: &Pair, n: usize) -> Applied
     ensures { result ≡ applied_as n }
 {
     applied(n)
+}
+
+// Why a pair is refused: its first number is not less than its second.
+#[derive(Clone, Copy)]
+pub enum Amiss {
+    NotRising,
+}
+
+// A byte, in C.
+#[repr(C)]
+#[derive(Clone, Copy)]
+pub struct Byte {
+    pub answer: u8,
+    pub byte: u8,
+}
+
+impl From<Result<u8, Amiss>> for Byte {
+    ghost from_gives = { λ a r. r ≡ byte_in_c a };
+
+    fn from(low: Result<u8, Amiss>) -> Byte {
+        match low {
+            Ok(byte) => Byte { answer: 0, byte },
+            Err(Amiss::NotRising) => Byte { answer: 4, byte: 0 },
+        }
+    }
+}
+
+// A check, whose answer is an equation.
+fn risen(p: &Pair) -> Result<(), Amiss>
+    ensures { result ≡ rising p.now }
+{
+    if p.first < p.second {
+        Ok(())
+    } else {
+        Err(Amiss::NotRising)
+    }
+}
+
+// One that asks the check, and goes on by `?`.
+#[tactic(auto, unfolding(crate::specs::Answered::low_of))]
+pub fn low(p: &Pair) -> Result<u8, Amiss>
+    ensures { result ≡ low_of p.now }
+{
+    risen(p)?;
+    Ok(p.first)
+}
+
+// One whose struct is made of a `Result`.
+pub fn pair_low(p: &Pair) -> Byte
+    ensures { result ≡ byte_in_c (low_of p.now) }
+{
+    Byte::from(low(p))
 }
