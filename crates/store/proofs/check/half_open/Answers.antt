@@ -17,7 +17,7 @@ returns-then-m-k-clause-follows c =
     let b = simp rank_back at c.bar.ensures in
     record {
       right = λ t.
-          let p = past_bar b.0 b.1 {n = rank (get_or a.m.now.starts (a.k + 1) (pos 0))} (omega (arith, tests)) in
+          let p = past_bar b.0 b.1 {n = rank (get_or a.m.now.starts.now (a.k + 1) (pos 0))} (omega (arith, tests)) in
           record { full = omega (arith, tests); past = p.0; unlike = p.1 };
       wrong = λ t w. at_bar b.0 b.1 (omega (arith, tests)) w.past w.unlike;
     }

@@ -1,4 +1,4 @@
-use Prim.Native.Nat.{ℕ, ◌+◌, ◌-◌, ◌<◌}
+use Prim.Native.Nat.{ℕ, ◌-◌, ◌<◌}
 use native.Mathlib.Omega.{arith}
 use native.Mathlib.Decide.{dec_lt}
 use borrow.Author.Rules.{rules}
@@ -7,6 +7,7 @@ use mathlib.Core.Bool.{true, false}
 use lib.ListN.{get_or}
 use lib.IntN.{pos}
 use Rattle.std.proofs.lemmas.Iterator.{cases_from_all, YieldsList-from_range}
+use Rattle.outcomes.specs.Lent.{of_ref}
 use Rattle.key.specs.InnerDecides.{Decides}
 use Rattle.key.specs.Rank.{rank}
 use Rattle.key.specs.Range.{kind_of}
@@ -17,7 +18,7 @@ use Rattle.store.proofs.check.tidy.Goals as goal
 
 pub returns-then-all : goal.returns-then-all
 returns-then-all c =
-    let m = c.args.m.now in
+    let m = of_ref c.args.m.now in
     let kind = kind_of c.args.kind in
     let last : ℕ = m.count - 1 in
     let good : ℕ → Type 0 = λ k. Follows kind m k × Keys m k in
@@ -38,7 +39,7 @@ returns-then-all c =
 
 pub returns-else-all-clause-decides : goal.returns-else-all-clause-decides
 returns-else-all-clause-decides c =
-    let m = c.args.m.now in
+    let m = of_ref c.args.m.now in
     let kind = kind_of c.args.kind in
     let last : ℕ = m.count - 1 in
     let good : ℕ → Type 0 = λ k. Follows kind m k × Keys m k in

@@ -1,4 +1,9 @@
+use Prim.Native.Nat.{ℕ, ◌<◌}
+use mathlib.Core.Path.{subst}
+use Rattle.key.specs.InnerDecides.{Decides}
 use Rattle.outcomes.specs.Stored.{places}
+use Rattle.outcomes.specs.declared.Stored.{Stored}
+use Rattle.store.specs.InnerCheck.{Steps, Keys}
 use Rattle.key.specs.Range.{kind_of}
 use Rattle.outcomes.proofs.Formed.{Shaped}
 use Rattle.store.proofs.Checked.{refuses, answers, all_fit, whole}
@@ -11,7 +16,7 @@ returns-then-unused-clause-value c =
     let shape : Shaped places m = record { starts = n.0; ends = n.1; values = n.2 } in
     let kind = kind_of c.args.kind in
     let u = c.unused.ensures.decides.right c.if-unused.true in
-    answers kind shape _ u c.tidy.ensures.decides
+    answers kind shape _ u (subst (λ (z : Stored). Decides c.tidy.result (Steps kind z)) c.lent.ensures c.tidy.ensures.decides)
 
 pub returns-then-unused-clause-sound : goal.returns-then-unused-clause-sound
 returns-then-unused-clause-sound c =
@@ -20,7 +25,8 @@ returns-then-unused-clause-sound c =
     let shape : Shaped places m = record { starts = n.0; ends = n.1; values = n.2 } in
     let kind = kind_of c.args.kind in
     let u = c.unused.ensures.decides.right c.if-unused.true in
-    whole kind shape (answers kind shape _ u c.tidy.ensures.decides) (λ e. all_fit kind shape u (c.tidy.ensures.keys e))
+    let decides = subst (λ (z : Stored). Decides c.tidy.result (Steps kind z)) c.lent.ensures c.tidy.ensures.decides in
+    whole kind shape (answers kind shape _ u decides) (λ e. all_fit kind shape u (subst (λ (z : Stored). (k : ℕ) → k < z.count → Keys z k) c.lent.ensures (c.tidy.ensures.keys e)))
 
 pub returns-then-unused-clause-starts_len : goal.returns-then-unused-clause-starts_len
 returns-then-unused-clause-starts_len c = λ _. c.unused.ensures.all_places.0
