@@ -24,7 +24,7 @@ use Rattle.outcomes.specs.Outcomes.{entries, order_sound}
 use Rattle.key.specs.declared.Entry.{Entry}
 use Rattle.outcomes.proofs.Formed.{Formed, Shaped, length_ranges, get_or_ranges}
 use Rattle.outcomes.proofs.Bulk.{range, entries_ranges}
-use Rattle.compare.specs.InnerPlace.{place_of}
+use Rattle.compare.proofs.Walk.{place_of}
 
 -- ONE ORDER FOR BOTH KINDS
 

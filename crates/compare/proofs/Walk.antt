@@ -7,15 +7,15 @@ use mathlib.Core.List.{List, [], ◌∷◌}
 use native.Mathlib.Decide.{dec_lt}
 use borrow.Author.Tests.{lt-ltb, le-ltb, eq-eqb, ne_eqb}
 use lib.Dec.{ltb}
-use lib.ListN.{length, drop, drop_of_length-le}
+use lib.ListN.{length, get_or, drop, drop_of_length-le}
 use lib.Seq.{drop-cons}
+use lib.IntN.{pos}
 use Rattle.span.specs.Span.{Span}
 use Rattle.span.specs.Operations.{flat, lex, span_order}
-use Rattle.key.specs.Range.{half_open}
+use Rattle.key.specs.Range.{Kind, half_open, span_of}
 use Rattle.outcomes.specs.Stored.{ranges}
 use Rattle.outcomes.specs.declared.Stored.{Stored}
 use Rattle.outcomes.specs.Outcomes.{order_sound, compared_by}
-use Rattle.compare.specs.InnerPlace.{place_of}
 use Rattle.outcomes.proofs.Formed.{Shaped, length_ranges, get_or_ranges}
 use Rattle.std.specs.Prelude.{Ok}
 use Rattle.std.specs.Ordering.{nat_cmp, is_ne}
@@ -50,6 +50,10 @@ order_cons x y xs ys =
     ap (λ (z : Ordering). pick los los' (pick his his' z)) (pick_else labels labels' Ordering.eq o)
     ∙ ap (pick los los') (pick_else his his' (pick labels labels' Ordering.eq) o)
     ∙ pick_else los los' (pick his his' (pick labels labels' Ordering.eq)) o
+
+-- the range at place k
+abbrev pub place_of : Kind → Stored → ℕ → Span
+place_of kind m k = span_of kind (get_or m.starts k (pos 0)) (get_or m.ends k (pos 0)) (get_or m.values k 0)
 
 -- what the comparison requires of each map
 abbrev pub Columns : Stored → Type 0

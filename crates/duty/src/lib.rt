@@ -6,6 +6,7 @@ ghost use Rattle.key.specs.InnerDecides.{Decides};
 ghost use Rattle.key.specs.Rank.{rank};
 ghost use Rattle.key.specs.Range.{half_open};
 ghost use Rattle.outcomes.specs.Stored.{Sound, ranges};
+ghost use Rattle.outcomes.specs.Lent.{of_ref};
 ghost use Rattle.store.specs.InnerSearch.{Reached};
 ghost use Rattle.duty.specs.Duty.{is_status, tally_sound};
 ghost use Rattle.duty.specs.InnerWalk.{u32_limit, table_length, gathering, tally_sum, completing, walk_finds};
@@ -14,7 +15,7 @@ ghost use Rattle.duty.specs.InnerCounting.{no_seconds, credited, Both, Joined, T
 
 use answers::Refusal;
 use key::{Bounds, RangeKind, Value};
-use outcomes::Stored;
+use outcomes::StoredRef;
 use store::search::{first_past, reaching};
 
 // The seconds of each duty, and those that are unrecorded.
@@ -105,14 +106,14 @@ fn joined(t: [u32; TABLE_LENGTH], u: [u32; TABLE_LENGTH]) -> [u32; TABLE_LENGTH]
 // A table, and the seconds of the places from `from` up to `to` that lie in the window.
 fn clipped(
     table: [u32; TABLE_LENGTH],
-    m: &Stored,
+    m: &StoredRef,
     from: usize,
     to: usize,
     window: Bounds,
 ) -> [u32; TABLE_LENGTH]
-    requires { Met m.now window from to × Statuses m.now.values from to
-        × TableRoom window (part m.now from to) table }
-    ensures { Added window (part m.now from to) table result }
+    requires { Met (of_ref m.now) window from to × Statuses m.now.values.now from to
+        × TableRoom window (part (of_ref m.now) from to) table }
+    ensures { Added window (part (of_ref m.now) from to) table result }
 {
     let mut t = table;
     for k in from..to {
@@ -126,15 +127,15 @@ fn clipped(
 // They are taken two at a time, each into a table of its own, so that no sum waits for the one before it.
 fn whole(
     table: [u32; TABLE_LENGTH],
-    m: &Stored,
+    m: &StoredRef,
     from: usize,
     to: usize,
     window: Bounds,
 ) -> [u32; TABLE_LENGTH]
-    requires { Met m.now window from to × Statuses m.now.values from to
-        × EachApart m.now from to × Inside m.now window from to
-        × TableRoom window (part m.now from to) table }
-    ensures { Added window (part m.now from to) table result }
+    requires { Met (of_ref m.now) window from to × Statuses m.now.values.now from to
+        × EachApart (of_ref m.now) from to × Inside (of_ref m.now) window from to
+        × TableRoom window (part (of_ref m.now) from to) table }
+    ensures { Added window (part (of_ref m.now) from to) table result }
 {
     let mut t = table;
     let mut u = [0; TABLE_LENGTH];
@@ -152,10 +153,10 @@ fn whole(
 }
 
 // The seconds by status of the places from `from` up to `to`, which meet the window. Only the first can begin before it.
-fn table_of(m: &Stored, from: usize, to: usize, window: Bounds) -> [u32; TABLE_LENGTH]
-    requires { Met m.now window from to × Statuses m.now.values from to
-        × EachApart m.now from to × TableRoom window (part m.now from to) no_seconds }
-    ensures { Added window (part m.now from to) no_seconds result }
+fn table_of(m: &StoredRef, from: usize, to: usize, window: Bounds) -> [u32; TABLE_LENGTH]
+    requires { Met (of_ref m.now) window from to × Statuses m.now.values.now from to
+        × EachApart (of_ref m.now) from to × TableRoom window (part (of_ref m.now) from to) no_seconds }
+    ensures { Added window (part (of_ref m.now) from to) no_seconds result }
 {
     let t = [0; TABLE_LENGTH];
     if from == to {
@@ -196,25 +197,25 @@ fn completed(t: Tally, seconds: u32) -> Totals
 
 // The four totals of the window, none if a strange status is there.
 // Each range from the place `from` on ends past the window's start, so those that begin before its end meet it.
-fn walk(m: &Stored, from: usize, window: Bounds) -> Option<Tally>
-    requires { Sound half_open m.now × Reached half_open m.now.count m.now.ends window.start from
+fn walk(m: &StoredRef, from: usize, window: Bounds) -> Option<Tally>
+    requires { Sound half_open (of_ref m.now) × Reached half_open m.now.count m.now.ends.now window.start from
         × (rank window.start < rank window.end) × (rank window.end - rank window.start < u32_limit) }
-    ensures { result ≡ walk_finds (rank window.start) (rank window.end) (ranges half_open m.now) }
+    ensures { result ≡ walk_finds (rank window.start) (rank window.end) (ranges half_open (of_ref m.now)) }
 {
-    let to = first_past(RangeKind::HalfOpen, &m.starts, from, m.count, window.end);
-    if !statuses(&m.values, from, to) {
+    let to = first_past(RangeKind::HalfOpen, m.starts, from, m.count, window.end);
+    if !statuses(m.values, from, to) {
         return None;
     }
     Some(gathered(table_of(m, from, to, window)))
 }
 
 // THE SECONDS of each duty in the window, and those that are unrecorded: 10 if a status outside 1 to 4 is there.
-pub fn between(m: &Stored, window: Bounds) -> Result<Totals, Refusal>
-    requires { Sound half_open m.now
+pub fn between(m: &StoredRef, window: Bounds) -> Result<Totals, Refusal>
+    requires { Sound half_open (of_ref m.now)
         × (rank window.start < rank window.end) × (rank window.end - rank window.start < u32_limit) }
-    ensures { result ≡ tally_sound m.now window.start window.end }
+    ensures { result ≡ tally_sound (of_ref m.now) window.start window.end }
 {
-    let from = reaching(RangeKind::HalfOpen, &m.ends, m.count, window.start);
+    let from = reaching(RangeKind::HalfOpen, m.ends, m.count, window.start);
     let t = walk(m, from, window).ok_or(Refusal::BadStatus)?;
     Ok(completed(t, seconds(window.start, window.end)))
 }

@@ -121,7 +121,13 @@ fn edit(kind: RangeKind, m: &mut Stored, change: Change) -> Result<(), Refusal>
         return Err(Refusal::EmptyRange);
     }
     let plan = plan_of(kind, m, change);
-    crate::plan::carry_out(m, plan)
+    crate::plan::carry_out(
+        &mut m.count,
+        &mut m.starts,
+        &mut m.ends,
+        &mut m.values,
+        plan,
+    )
 }
 
 // Gives the value to each instant of the range and to no other.

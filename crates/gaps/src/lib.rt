@@ -3,20 +3,23 @@
 // there may be too many.
 // The kinds differ in three places, all of the keys: whether a range from one key to another is empty (`full`, by which the search goes too),
 // which end is written for a range up to a key (`end_before`), and which key follows a range (`after`).
+// The walk is compiled into each door (`#[inline(always)]`), where the kind is a constant: in a function of its own each turn of the loops
+// would test the kind.
 #![tactic(auto)]
 
 ghost use Rattle.std.specs.Prelude.{◌≡◌, ◌+◌, ◌≤◌, ◌<◌, length};
 ghost use Rattle.key.specs.InnerDecides.{Decides};
 ghost use Rattle.key.specs.Rank.{rank};
 ghost use Rattle.key.specs.Range.{kind_of};
+ghost use Rattle.outcomes.specs.Lent.{of_ref};
 ghost use Rattle.outcomes.specs.Stored.{Sound};
 ghost use Rattle.outcomes.specs.Outcomes.{gaps_sound};
 ghost use Rattle.range_list.specs.InnerLists.{wrote, ListRoom, Puts};
-ghost use Rattle.gaps.specs.InnerWalk.{gap, gaps_found};
+ghost use Rattle.gaps.specs.InnerWalk.{gap, gaps_found, Places};
 
 use answers::Refusal;
 use key::{Bounds, RangeKind, after, end_before, full};
-use outcomes::Stored;
+use outcomes::StoredRef;
 use range_list::put;
 use store::search::reaching;
 
@@ -28,11 +31,11 @@ fn between(cursor: i64, start: i64) -> usize
 }
 
 // How many gaps the places from `from` on leave in the outer range.
-fn counted(kind: RangeKind, m: &Stored, from: usize, outer: Bounds) -> usize
-    requires sound { Sound (kind_of kind) m.now }
-    requires from_in { from ≤ m.now.count }
+#[inline(always)]
+fn counted(kind: RangeKind, m: &StoredRef, from: usize, outer: Bounds) -> usize
+    requires places { Places m.now.count from m.now.starts.now m.now.ends.now }
     requires outer_full { rank outer.start < (kind_of kind).past outer.end }
-    ensures { result ≡ length (gaps_found (kind_of kind) m.now from outer) }
+    ensures { result ≡ length (gaps_found (kind_of kind) m.now.starts.now m.now.ends.now m.now.count from outer) }
 {
     let end = outer.end;
     let mut n = 0;
@@ -53,11 +56,11 @@ fn counted(kind: RangeKind, m: &Stored, from: usize, outer: Bounds) -> usize
 }
 
 // Whether `room` places are enough for the gaps. There is at most one before each range, and one more, so mostly none is counted.
-fn fits(kind: RangeKind, m: &Stored, from: usize, outer: Bounds, room: usize) -> bool
-    requires sound { Sound (kind_of kind) m.now }
-    requires from_in { from ≤ m.now.count }
+#[inline(always)]
+fn fits(kind: RangeKind, m: &StoredRef, from: usize, outer: Bounds, room: usize) -> bool
+    requires places { Places m.now.count from m.now.starts.now m.now.ends.now }
     requires outer_full { rank outer.start < (kind_of kind).past outer.end }
-    ensures { Decides result (length (gaps_found (kind_of kind) m.now from outer) ≤ room) }
+    ensures { Decides result (length (gaps_found (kind_of kind) m.now.starts.now m.now.ends.now m.now.count from outer) ≤ room) }
 {
     m.count - from < room || counted(kind, m, from, outer) <= room
 }
@@ -85,20 +88,20 @@ fn write_before(
 
 // Writes the gaps, and answers how many there are. The cursor goes past a range only where the outer end was seen to lie after it.
 // It has the loop of `counted` again: a closure that puts a gap can be called only while there is room, which one loop would have to promise at each step.
+#[inline(always)]
 fn write(
     kind: RangeKind,
-    m: &Stored,
+    m: &StoredRef,
     from: usize,
     outer: Bounds,
     out_starts: &mut [i64],
     out_ends: &mut [i64],
 ) -> usize
-    requires sound { Sound (kind_of kind) m.now }
-    requires from_in { from ≤ m.now.count }
+    requires places { Places m.now.count from m.now.starts.now m.now.ends.now }
     requires outer_full { rank outer.start < (kind_of kind).past outer.end }
-    requires room { ListRoom 0 (gaps_found (kind_of kind) m.now from outer) out_starts.old out_ends.old }
-    ensures { (result ≡ length (gaps_found (kind_of kind) m.now from outer))
-        × Puts (kind_of kind) 0 (gaps_found (kind_of kind) m.now from outer)
+    requires room { ListRoom 0 (gaps_found (kind_of kind) m.now.starts.now m.now.ends.now m.now.count from outer) out_starts.old out_ends.old }
+    ensures { (result ≡ length (gaps_found (kind_of kind) m.now.starts.now m.now.ends.now m.now.count from outer))
+        × Puts (kind_of kind) 0 (gaps_found (kind_of kind) m.now.starts.now m.now.ends.now m.now.count from outer)
         out_starts.old out_ends.old out_starts.new out_ends.new }
 {
     let end = outer.end;
@@ -122,23 +125,24 @@ fn write(
 }
 
 // GAPS. The walk begins at the first range that the outer range's start has not passed. No value is read.
+#[inline(always)]
 pub fn gaps(
     kind: RangeKind,
-    m: &Stored,
+    m: &StoredRef,
     start: i64,
     end: i64,
     out_starts: &mut [i64],
     out_ends: &mut [i64],
 ) -> Result<usize, Refusal>
-    requires { Sound (kind_of kind) m.now }
+    requires { Sound (kind_of kind) (of_ref m.now) }
     ensures { wrote result out_starts.new out_ends.new
-        ≡ gaps_sound (kind_of kind) m.now start end
+        ≡ gaps_sound (kind_of kind) (of_ref m.now) start end
         out_starts.old out_ends.old }
 {
     if !full(kind, start, end) {
         return Err(Refusal::EmptyRange);
     }
-    let from = reaching(kind, &m.ends, m.count, start);
+    let from = reaching(kind, m.ends, m.count, start);
     let room = out_starts.len().min(out_ends.len());
     let outer = Bounds { start, end };
     if !fits(kind, m, from, outer, room) {

@@ -5,6 +5,7 @@ ghost use Rattle.std.specs.Prelude.{◌≡◌, ◌+◌, ◌*◌, ◌≤◌, ◌<
 ghost use Rattle.key.specs.Rank.{rank, keys};
 ghost use Rattle.key.specs.Range.{half_open};
 ghost use Rattle.outcomes.specs.Stored.{ranges};
+ghost use Rattle.outcomes.specs.Lent.{of_ref};
 ghost use Rattle.filling.specs.Filling.{series, AddsWithin};
 ghost use Rattle.report_text.specs.Rows.{row_count};
 ghost use Rattle.graph_text.specs.Grid.{quarters_in, clock_hour, is_marked, mark_of, blank_of, shown, cell, Drawable};
@@ -14,7 +15,7 @@ ghost use Rattle.graph_text.specs.InnerRoom.{most_quarters, most_hours, graph_li
 use decimal::put_u64;
 use duty::Totals;
 use key::Bounds;
-use outcomes::Stored;
+use outcomes::StoredRef;
 use report_text::{
     ROWS, UNRECORDED, put_clock_column, put_name_column, put_row_column, seconds_between,
     seconds_of, sum_of,
@@ -60,9 +61,9 @@ fn quarter_start(start: i64, q: usize) -> i64
 }
 
 // Whether a quarter has a second of a row.
-pub fn is_marked(m: &Stored, start: i64, row: usize, q: usize) -> bool
-    requires { Quarter m.now start q × (row < row_count) × (q < most_quarters) }
-    ensures { result ≡ is_marked (ranges half_open m.now) start row q }
+pub fn is_marked(m: &StoredRef, start: i64, row: usize, q: usize) -> bool
+    requires { Quarter (of_ref m.now) start q × (row < row_count) × (q < most_quarters) }
+    ensures { result ≡ is_marked (ranges half_open (of_ref m.now)) start row q }
 {
     let quarter = Bounds {
         start: quarter_start(start, q),
@@ -92,9 +93,9 @@ fn blank_of(q: usize) -> u8
 
 // What a quarter shows in a row.
 #[tactic(auto, unfolding(crate::specs::Grid::shown))]
-fn shown_at(m: &Stored, start: i64, row: usize, q: usize) -> u8
-    requires { Quarter m.now start q × (row < row_count) × (q < most_quarters) }
-    ensures { result ≡ shown (ranges half_open m.now) start row q }
+fn shown_at(m: &StoredRef, start: i64, row: usize, q: usize) -> u8
+    requires { Quarter (of_ref m.now) start q × (row < row_count) × (q < most_quarters) }
+    ensures { result ≡ shown (ranges half_open (of_ref m.now)) start row q }
 {
     if is_marked(m, start, row, q) {
         mark_of(row)
@@ -104,9 +105,9 @@ fn shown_at(m: &Stored, start: i64, row: usize, q: usize) -> u8
 }
 
 // The quarters of a row.
-fn put_cells(m: &Stored, day: DrawnDay, row: usize, out: &mut [u8], at: usize) -> usize
-    requires { Quarters m.now day.start day.quarters × (row < row_count) × (at + day.quarters ≤ length out.old) }
-    ensures { AddsWithin day.quarters (series (cell (ranges half_open m.now) day.start row) day.quarters) out.old at out.new result }
+fn put_cells(m: &StoredRef, day: DrawnDay, row: usize, out: &mut [u8], at: usize) -> usize
+    requires { Quarters (of_ref m.now) day.start day.quarters × (row < row_count) × (at + day.quarters ≤ length out.old) }
+    ensures { AddsWithin day.quarters (series (cell (ranges half_open (of_ref m.now)) day.start row) day.quarters) out.old at out.new result }
 {
     let mut to = at;
     for q in 0..day.quarters {
@@ -126,9 +127,9 @@ fn put_total(out: &mut [u8], at: usize, n: u64) -> usize
 }
 
 // The line of a row.
-fn put_row(m: &Stored, day: DrawnDay, row: usize, out: &mut [u8], at: usize) -> usize
-    requires { Quarters m.now day.start day.quarters × (row < row_count) × (at + graph_line_room ≤ length out.old) }
-    ensures { AddsWithin graph_line_room (row_line (ranges half_open m.now) day.start day.quarters day.totals row) out.old at out.new result }
+fn put_row(m: &StoredRef, day: DrawnDay, row: usize, out: &mut [u8], at: usize) -> usize
+    requires { Quarters (of_ref m.now) day.start day.quarters × (row < row_count) × (at + graph_line_room ≤ length out.old) }
+    ensures { AddsWithin graph_line_room (row_line (ranges half_open (of_ref m.now)) day.start day.quarters day.totals row) out.old at out.new result }
 {
     let cells = put_row_column(out, at, row);
     let total = put_cells(m, day, row, out, cells);
@@ -136,10 +137,10 @@ fn put_row(m: &Stored, day: DrawnDay, row: usize, out: &mut [u8], at: usize) -> 
 }
 
 // The lines of the five rows.
-fn put_rows(m: &Stored, day: DrawnDay, out: &mut [u8], at: usize) -> usize
-    requires { Quarters m.now day.start day.quarters × (at + row_count * graph_line_room ≤ length out.old) }
+fn put_rows(m: &StoredRef, day: DrawnDay, out: &mut [u8], at: usize) -> usize
+    requires { Quarters (of_ref m.now) day.start day.quarters × (at + row_count * graph_line_room ≤ length out.old) }
     ensures { AddsWithin (row_count * graph_line_room) (series
-        (row_line (ranges half_open m.now) day.start day.quarters day.totals) row_count) out.old at out.new result }
+        (row_line (ranges half_open (of_ref m.now)) day.start day.quarters day.totals) row_count) out.old at out.new result }
 {
     let mut to = at;
     for row in 0..ROWS {
@@ -190,9 +191,15 @@ fn put_sum_line(out: &mut [u8], at: usize, day: DrawnDay) -> usize
 }
 
 // THE GRID of a day.
-pub fn graph_text(m: &Stored, start: i64, end: i64, t: Totals, out: &mut [u8; GRAPH_ROOM]) -> usize
-    requires { Drawable m.now start end }
-    ensures { AddsWithin graph_room (graph_text (ranges half_open m.now) start end t) out.old 0 out.new result }
+pub fn graph_text(
+    m: &StoredRef,
+    start: i64,
+    end: i64,
+    t: Totals,
+    out: &mut [u8; GRAPH_ROOM],
+) -> usize
+    requires { Drawable (of_ref m.now) start end }
+    ensures { AddsWithin graph_room (graph_text (ranges half_open (of_ref m.now)) start end t) out.old 0 out.new result }
 {
     let quarters = quarters_of(start, end);
     let day = DrawnDay {

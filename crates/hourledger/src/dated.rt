@@ -31,7 +31,13 @@ fn show_graph(rt: &HostRuntime, m: &Stored, told: DayTotals)
     requires { Drawable m.now told.day.start told.day.end }
 {
     let mut out = [0u8; GRAPH_ROOM];
-    let n = graph_text(m, told.day.start, told.day.end, told.totals, &mut out);
+    let n = graph_text(
+        &m.lent(),
+        told.day.start,
+        told.day.end,
+        told.totals,
+        &mut out,
+    );
     print(rt, &out, n);
 }
 
@@ -39,7 +45,13 @@ fn show_picture(rt: &HostRuntime, m: &Stored, told: DayTotals)
     requires { Drawable m.now told.day.start told.day.end }
 {
     let mut out = [0u8; SVG_ROOM];
-    let n = svg_text(m, told.day.start, told.day.end, told.totals, &mut out);
+    let n = svg_text(
+        &m.lent(),
+        told.day.start,
+        told.day.end,
+        told.totals,
+        &mut out,
+    );
     print(rt, &out, n);
 }
 

@@ -2,12 +2,13 @@
 ghost use Rattle.std.specs.Prelude.{◌≡◌, ◌+◌, ◌≤◌, ◌<◌, length};
 ghost use Rattle.key.specs.Rank.{rank};
 ghost use Rattle.key.specs.Range.{kind_of};
+ghost use Rattle.outcomes.specs.Lent.{of_ref};
 ghost use Rattle.two_sets.specs.InnerLists.{Ended};
 ghost use Rattle.intersection.specs.InnerFound.{open_shared, key_rank, Stepped, Ready, Gone};
 ghost use Rattle.intersection.specs.InnerAhead.{Carries};
 
 use key::{Bounds, RangeKind};
-use outcomes::Stored;
+use outcomes::StoredRef;
 use range_list::put;
 use two_sets::{Position, meets, pick};
 
@@ -36,10 +37,10 @@ fn step_over(kind: RangeKind, a: Bounds, b: Bounds) -> Overlap
 }
 
 // The step at places `i` and `j`.
-pub fn step(kind: RangeKind, a: &Stored, i: usize, b: &Stored, j: usize) -> Overlap
-    requires { (i < length a.now.starts) × (i < length a.now.ends) × (j < length b.now.starts) × (j < length b.now.ends) }
-    ensures { Stepped kind (key_rank a.now.starts i) (key_rank a.now.ends i)
-        (key_rank b.now.starts j) (key_rank b.now.ends j) result.start result.end result.found result.left }
+pub fn step(kind: RangeKind, a: &StoredRef, i: usize, b: &StoredRef, j: usize) -> Overlap
+    requires { (i < length a.now.starts.now) × (i < length a.now.ends.now) × (j < length b.now.starts.now) × (j < length b.now.ends.now) }
+    ensures { Stepped kind (key_rank a.now.starts.now i) (key_rank a.now.ends.now i)
+        (key_rank b.now.starts.now j) (key_rank b.now.ends.now j) result.start result.end result.found result.left }
 {
     let here = Bounds {
         start: a.starts[i],
@@ -53,9 +54,9 @@ pub fn step(kind: RangeKind, a: &Stored, i: usize, b: &Stored, j: usize) -> Over
 }
 
 // The end at place `i`, if the set has such a place.
-fn end_at(m: &Stored, i: usize) -> i64
-    requires { m.now.count ≤ length m.now.ends }
-    ensures { i < m.now.count → rank result ≡ key_rank m.now.ends i }
+fn end_at(m: &StoredRef, i: usize) -> i64
+    requires { m.now.count ≤ length m.now.ends.now }
+    ensures { i < m.now.count → rank result ≡ key_rank m.now.ends.now i }
 {
     if i < m.count { m.ends[i] } else { 0 }
 }
@@ -72,16 +73,16 @@ struct Carried {
 // so no comparison waits for a read that waits for the comparison before.
 fn step_ahead(
     kind: RangeKind,
-    a: &Stored,
+    a: &StoredRef,
     i: usize,
     end_a: i64,
-    b: &Stored,
+    b: &StoredRef,
     j: usize,
     end_b: i64,
 ) -> Carried
-    requires { (i < length a.now.starts) × (i + 1 < length a.now.ends) × (j < length b.now.starts) × (j + 1 < length b.now.ends)
-        × (rank end_a ≡ key_rank a.now.ends i) × (rank end_b ≡ key_rank b.now.ends j) }
-    ensures { Carries kind a.now i b.now j result }
+    requires { (i < length a.now.starts.now) × (i + 1 < length a.now.ends.now) × (j < length b.now.starts.now) × (j + 1 < length b.now.ends.now)
+        × (rank end_a ≡ key_rank a.now.ends.now i) × (rank end_b ≡ key_rank b.now.ends.now j) }
+    ensures { Carries kind (of_ref a.now) i (of_ref b.now) j result }
 {
     let next_a = a.ends[i + 1];
     let next_b = b.ends[j + 1];
@@ -103,16 +104,17 @@ fn step_ahead(
 
 // Writes the open range and what the sets have in common from there on, until either set is at its last range.
 // Each step writes the open range, and a range that is found becomes the open one: so no branch depends on the keys.
+#[inline(always)]
 fn write_most(
     kind: RangeKind,
-    a: &Stored,
-    b: &Stored,
+    a: &StoredRef,
+    b: &StoredRef,
     from: Position,
     out_starts: &mut [i64],
     out_ends: &mut [i64],
 ) -> Position
-    requires { Ready kind a.now b.now from out_starts.old out_ends.old }
-    ensures { Gone kind a.now b.now from out_starts.old out_ends.old result out_starts.new out_ends.new }
+    requires { Ready kind (of_ref a.now) (of_ref b.now) from out_starts.old out_ends.old }
+    ensures { Gone kind (of_ref a.now) (of_ref b.now) from out_starts.old out_ends.old result out_starts.new out_ends.new }
 {
     let mut here = from;
     let mut end_a = end_at(a, from.i);
@@ -133,16 +135,17 @@ fn write_most(
 }
 
 // Writes the open range and all that the sets have in common from there on, and answers how many ranges are written then.
+#[inline(always)]
 fn write_rest(
     kind: RangeKind,
-    a: &Stored,
-    b: &Stored,
+    a: &StoredRef,
+    b: &StoredRef,
     from: Position,
     out_starts: &mut [i64],
     out_ends: &mut [i64],
 ) -> usize
-    requires { Ready kind a.now b.now from out_starts.old out_ends.old }
-    ensures { Ended (kind_of kind) from.at (open_shared kind a.now b.now from)
+    requires { Ready kind (of_ref a.now) (of_ref b.now) from out_starts.old out_ends.old }
+    ensures { Ended (kind_of kind) from.at (open_shared kind (of_ref a.now) (of_ref b.now) from)
         out_starts.old out_ends.old result out_starts.new out_ends.new }
 {
     let mut here = from;
@@ -160,16 +163,17 @@ fn write_rest(
 }
 
 // The same, in two parts: the ends are read ahead as long as both sets have a next range.
+#[inline(always)]
 pub fn write_from(
     kind: RangeKind,
-    a: &Stored,
-    b: &Stored,
+    a: &StoredRef,
+    b: &StoredRef,
     from: Position,
     out_starts: &mut [i64],
     out_ends: &mut [i64],
 ) -> usize
-    requires { Ready kind a.now b.now from out_starts.old out_ends.old }
-    ensures { Ended (kind_of kind) from.at (open_shared kind a.now b.now from)
+    requires { Ready kind (of_ref a.now) (of_ref b.now) from out_starts.old out_ends.old }
+    ensures { Ended (kind_of kind) from.at (open_shared kind (of_ref a.now) (of_ref b.now) from)
         out_starts.old out_ends.old result out_starts.new out_ends.new }
 {
     let most = write_most(kind, a, b, from, out_starts, out_ends);

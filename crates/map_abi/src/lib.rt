@@ -66,6 +66,8 @@ pub fn overlapping(kind: RangeKind, m: &Stored, start: i64, end: i64) -> Stretch
     Stretch::from(map_ops::find::overlapping(kind, m, start, end))
 }
 
+// Compiled into each door, as `map_ops::find::gaps` is.
+#[inline(always)]
 pub fn gaps(
     kind: RangeKind,
     m: &Stored,
@@ -120,9 +122,11 @@ pub fn get_key_value_unchecked(kind: RangeKind, m: &Stored, key: i64) -> Range
     requires { Sound (kind_of kind) m.now }
     ensures { result ≡ found_in_c (lookup_sound (kind_of kind) m.now key) }
 {
-    Range::from(lookup::get_key_value(kind, m, key))
+    Range::from(lookup::get_key_value(kind, &m.lent(), key))
 }
 
+// Compiled into each door, as `map_ops::find::gaps` is.
+#[inline(always)]
 pub fn gaps_unchecked(
     kind: RangeKind,
     m: &Stored,
@@ -135,7 +139,7 @@ pub fn gaps_unchecked(
     ensures { Listed result out_starts.new out_ends.new
         (gaps_sound (kind_of kind) m.now start end out_starts.old out_ends.old) }
 {
-    Count::from(gaps::gaps(kind, m, start, end, out_starts, out_ends))
+    Count::from(gaps::gaps(kind, &m.lent(), start, end, out_starts, out_ends))
 }
 
 pub fn insert_unchecked(kind: RangeKind, m: &mut Stored, start: i64, end: i64, value: Value) -> u8

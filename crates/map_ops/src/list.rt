@@ -24,7 +24,8 @@ pub fn is_empty(kind: RangeKind, m: &Stored) -> Result<bool, Refusal>
 pub fn len(kind: RangeKind, m: &Stored) -> Result<usize, Refusal>
     ensures { result ≡ count_of (kind_of kind) m.now }
 {
-    checked(kind, m)?;
+    // It has a name so that this line is no other's: an edit of must-fail/ changes it.
+    let _formed = checked(kind, m)?;
     Ok(m.count)
 }
 
@@ -34,7 +35,7 @@ pub fn range_at(kind: RangeKind, m: &Stored, place: usize) -> Result<Option<Entr
     ensures { result ≡ range_at (kind_of kind) m.now place }
 {
     checked(kind, m)?;
-    lookup::range_at(m, place)
+    lookup::range_at(&m.lent(), place)
 }
 
 // The first range and its value.
@@ -43,7 +44,7 @@ pub fn first_range_value(kind: RangeKind, m: &Stored) -> Result<Option<Entry>, R
     ensures { result ≡ first_of (kind_of kind) m.now }
 {
     checked(kind, m)?;
-    lookup::range_at(m, 0)
+    lookup::range_at(&m.lent(), 0)
 }
 
 // The last range and its value.
@@ -52,7 +53,7 @@ pub fn last_range_value(kind: RangeKind, m: &Stored) -> Result<Option<Entry>, Re
     ensures { result ≡ last_of (kind_of kind) m.now }
 {
     checked(kind, m)?;
-    lookup::range_at(m, m.count.saturating_sub(1))
+    lookup::range_at(&m.lent(), m.count.saturating_sub(1))
 }
 
 // Which of two maps comes first.
@@ -61,7 +62,7 @@ pub fn cmp(kind: RangeKind, m: &Stored, other: &Stored) -> Result<Ordering, Refu
 {
     checked(kind, m)?;
     checked(kind, other)?;
-    Ok(compare::compare(m, other))
+    Ok(compare::compare(&m.lent(), &other.lent()))
 }
 
 // Whether two maps hold the same ranges with the same values.

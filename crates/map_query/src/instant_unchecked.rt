@@ -20,5 +20,5 @@ pub fn range_map_query_at_unchecked(
     requires { Sound half_open (held a.now) × Sound half_open (held b.now) }
     ensures { RangeMapQueryAtUnchecked a.now b.now start end bytes.now key result }
 {
-    Told::from(query_at_unchecked(&a.stored, &b.stored, start, end, bytes, key))
+    Told::from(query_at_unchecked(&a.stored.lent(), &b.stored.lent(), start, end, bytes, key))
 }

@@ -23,6 +23,12 @@ pub fn range_map_query_unchecked(
         out_ends.new result }
 {
     Count::from(query_unchecked(
-        &a.stored, &b.stored, start, end, bytes, out_starts, out_ends,
+        &a.stored.lent(),
+        &b.stored.lent(),
+        start,
+        end,
+        bytes,
+        out_starts,
+        out_ends,
     ))
 }

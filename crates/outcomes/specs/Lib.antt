@@ -3,6 +3,7 @@
 -- Sets (the same for sets, and their intersection, union and total), Numbers (each answer's number and values).
 -- InnerOutcome (how an edit went, as functions tell each other).
 pub mod Stored
+pub mod Lent
 pub mod Answered
 pub mod Numbers
 pub mod Outcomes

@@ -5,6 +5,7 @@
 ghost use Rattle.std.specs.Prelude.{◌≡◌};
 ghost use Rattle.key.specs.Range.{Kind};
 ghost use Rattle.outcomes.specs.Stored.{places};
+ghost use Rattle.outcomes.specs.Lent.{of_ref};
 ghost use Rattle.outcomes.specs.Outcomes.{clear};
 ghost use Rattle.outcomes.specs.Numbers.{asked_in_c, counted_in_c, found_in_c, part_in_c, compared_in_c, equal_of, totalled_in_c};
 ghost use Rattle.outcomes.specs.InnerOutcome.{outcome_in_c};
@@ -31,6 +32,15 @@ pub struct Stored {
     pub starts: [i64; PLACES],
     pub ends: [i64; PLACES],
     pub values: [Value; PLACES],
+}
+
+// The same, lent as columns of any length: what the functions take that only read a map.
+#[derive(Clone, Copy)]
+pub struct StoredRef<'a> {
+    pub count: usize,
+    pub starts: &'a [i64],
+    pub ends: &'a [i64],
+    pub values: &'a [Value],
 }
 
 // A consecutive part of the places: the first, and how many.
@@ -133,24 +143,27 @@ impl From<Result<usize, Refusal>> for Count {
 impl From<Result<Option<Entry>, Refusal>> for Range {
     ghost from_gives = { λ a r. r ≡ found_in_c a };
 
+    // Three whole answers: one that is put together behind the match goes through memory, and a lookup in an empty map took twice the time.
     fn from(found: Result<Option<Entry>, Refusal>) -> Range {
-        let answer = match found {
-            Ok(Some(entry)) => {
-                return Range {
-                    answer: DONE,
-                    start: entry.start,
-                    end: entry.end,
-                    value: entry.value,
-                };
-            }
-            Ok(None) => NONE_THERE,
-            Err(why) => why.number(),
-        };
-        Range {
-            answer,
-            start: 0,
-            end: 0,
-            value: 0,
+        match found {
+            Ok(Some(entry)) => Range {
+                answer: DONE,
+                start: entry.start,
+                end: entry.end,
+                value: entry.value,
+            },
+            Ok(None) => Range {
+                answer: NONE_THERE,
+                start: 0,
+                end: 0,
+                value: 0,
+            },
+            Err(why) => Range {
+                answer: why.number(),
+                start: 0,
+                end: 0,
+                value: 0,
+            },
         }
     }
 }
@@ -235,6 +248,18 @@ impl Stored {
             starts: [0; PLACES],
             ends: [0; PLACES],
             values: [0; PLACES],
+        }
+    }
+
+    // The map, lent as its columns.
+    pub fn lent(&self) -> StoredRef<'_>
+        ensures { of_ref result ≡ self.now }
+    {
+        StoredRef {
+            count: self.count,
+            starts: &self.starts,
+            ends: &self.ends,
+            values: &self.values,
         }
     }
 }

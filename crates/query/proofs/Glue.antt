@@ -1,7 +1,7 @@
 -- From the walk to the result.
 use Prim.Native.Nat.{ℕ, ◌+◌, ◌≤◌, ◌<◌}
 use native.Mathlib.Omega.{arith}
-use mathlib.Core.Path.{◌≡◌, refl, sym, ◌∙◌}
+use mathlib.Core.Path.{◌≡◌, refl, ◌∙◌}
 use mathlib.Core.Bool.{Bool, true, false, ◌&&◌, cond}
 use mathlib.Core.List.{List}
 use mathlib.Core.Option.{none}
@@ -9,13 +9,9 @@ use borrow.Author.Tests.{le-leb, lt-leb, lt-ltb, le-ltb}
 use lib.Dec.{leb, ltb}
 use lib.ListN.{length}
 use lib.IntN.{ℤ}
-use Rattle.std.specs.Prelude.{Result, Ok, Err}
-use Rattle.answers.specs.declared.Refusal.{Refusal}
-use Rattle.answers.specs.declared.Refusal.TheVariants.{EmptyRange, BadQuery}
 use Rattle.key.specs.Rank.{rank}
-use Rattle.outcomes.specs.Outcomes.{not_written, into_lists, yes_no}
-use Rattle.query.specs.Answers.{by_query, result_of, true_at, query_ranges_sound, query_at_sound}
-use Rattle.query.specs.InnerTable.{asked_of, TableOf}
+use Rattle.outcomes.specs.Outcomes.{into_lists, yes_no}
+use Rattle.query.specs.Answers.{result_of, true_at, query_ranges_sound, query_at_sound}
 use Rattle.span.specs.Span.{Span, at, inside}
 use Rattle.span.proofs.Laws.{reworded}
 use Rattle.key.specs.Range.{half_open}
@@ -23,12 +19,17 @@ use Rattle.outcomes.specs.Stored.{ranges, Sound}
 use Rattle.outcomes.specs.declared.Stored.{Stored}
 use Rattle.outcomes.proofs.Formed.{good}
 use Rattle.query_text.specs.Grammar.{Query}
-use Rattle.query_text.specs.InnerClasses.{class_of}
+use Rattle.query_text.specs.InnerClasses.{class_of, class_truth}
+use Rattle.query_text.specs.InnerReading.{ReadAs}
+use Rattle.query_text.specs.InnerTable.{Shows}
 use Rattle.query_text.specs.Meaning.{truth}
-use Rattle.query_text.specs.Reader.{Read, got, bad, query_of}
+use Rattle.query_text.specs.Reader.{got, query_of}
 use Rattle.query_text.proofs.Grammar.{read_is}
 use Rattle.query_text.proofs.Meaning.{by_class}
+use Rattle.query_text.specs.declared.cursor.Cursor.{Cursor}
+use Rattle.query_text.specs.declared.reader.Reading.{Reading}
 use Rattle.query_text.specs.declared.truth.Truth.{Truth}
+use Rattle.query_text.proofs.Parts.{as_got}
 use Rattle.query.specs.Result.{result, is_true, marked}
 use Rattle.query.proofs.Result.{result_means}
 use Rattle.query.specs.InnerWalk.{says_at}
@@ -45,31 +46,23 @@ windowed : (a b t : Bool) → marked ((a && b) && t) ≡ cond a (marked (b && t)
 windowed true b t = refl
 windowed false b t = refl
 
--- what is answered by what is asked: the refusal, or what the query says
-by_asked : {A : Type 0} → Result Query Refusal → (Query → A) → (Refusal → A) → A
-by_asked (Ok q) f g = f q
-by_asked (Err why) f g = g why
+-- the window is not empty, and the table t is that of the query that the bytes are
+pub record TableOf (bytes : List ℕ) (lo hi : ℕ) (t : Truth) : Type 0 where
+  pub real : lo < hi
+  pub query : Query
+  pub rest : List ℕ
+  pub is : query_of bytes ≡ got query rest
+  pub table : Shows t (class_truth query)
 
-through : {A : Type 0} (f : Query → A) (g : Refusal → A) (t : Bool) (x : Read)
-    → cond t (by_query x f (g BadQuery)) (g EmptyRange) ≡ by_asked (cond t (by_query x (λ q. Ok q) (Err BadQuery)) (Err EmptyRange)) f g
-unfolding by_asked
-through f g true (got q rest) = refl
-through f g true bad = refl
-through f g false x = refl
+-- the table that was read is that one
+pub table_read : (bytes : List ℕ) (s e : ℤ) → rank s < rank e → {r : Reading} {d : Cursor} {t : Truth} → r ≡ Reading.Got d t
+    → ReadAs bytes 0 (query_of bytes) r → TableOf bytes (rank s) (rank e) t
+table_read bytes s e real is reads =
+    let f = as_got bytes 0 (query_of bytes) is reads in
+    record { real = real; query = f.query; rest = _; is = f.is; table = f.table }
 
 module _ (a b : Stored) (s e : ℤ) (bytes : List ℕ) where
-  -- where no table is read, both answers are that refusal
-  pub at_refused : {why : Refusal} → asked_of bytes (rank s) (rank e) ≡ Err why → (k : ℤ) → Err why ≡ query_at_sound a b s e bytes k
-  unfolding query_at_sound by_asked
-  at_refused h k =
-      sym (through (λ q. yes_no (true_at a b s e q k)) (λ why. Err why) (ltb (rank s) (rank e)) (query_of bytes) ∙ rw h refl)
-
-  pub list_refused : {why : Refusal} → asked_of bytes (rank s) (rank e) ≡ Err why → (os oe : List ℤ) → not_written why os oe ≡ query_ranges_sound a b s e bytes os oe
-  unfolding query_ranges_sound by_asked
-  list_refused h os oe =
-      sym (through (λ q. into_lists half_open (result_of a b s e q) os oe) (λ why. not_written why os oe) (ltb (rank s) (rank e)) (query_of bytes) ∙ rw h refl)
-
-  -- where one is, they are those of its query
+  -- where a table is read, both answers are those of its query
   module _ {t : Truth} (f : TableOf bytes (rank s) (rank e) t) where
     pub at_table : (k : ℤ) → yes_no (true_at a b s e f.query k) ≡ query_at_sound a b s e bytes k
     unfolding query_at_sound

@@ -10,6 +10,8 @@ use Rattle.key.specs.Rank.{rank}
 use Rattle.key.specs.Range.{half_open}
 use Rattle.outcomes.specs.Stored.{ranges, Sound}
 use Rattle.outcomes.specs.declared.Stored.{Stored}
+use Rattle.outcomes.specs.declared.StoredRef.{StoredRef}
+use Rattle.outcomes.specs.Lent.{of_ref}
 use Rattle.outcomes.proofs.Formed.{good, shape, length_ranges, get_or_ranges}
 use Rattle.query.specs.InnerSeen.{none_there_span, Trails, Standing, Sees}
 use Rattle.query.proofs.Walking.{sees_none, sees_before, sees_in, trails_next}
@@ -55,3 +57,14 @@ module _ (m : Stored) (sound : Sound half_open m) where
 
     pub catches : i < m.count → rank (get_or m.ends i (pos 0)) ≤ p → Trails xs (i + 1) p
     catches h le = trails_next xs i p s (omega (arith, many)) (rw (range_here i h) le)
+
+-- each column of a lent map has its places
+module _ (m : StoredRef) (sound : Sound half_open (of_ref m)) where
+  pub starts_held : m.count ≤ length m.starts.now
+  starts_held = held (of_ref m) sound
+
+  pub ends_held : m.count ≤ length m.ends.now
+  ends_held = omega (arith, starts_held, sound.ends_as)
+
+  pub values_held : m.count ≤ length m.values.now
+  values_held = omega (arith, starts_held, sound.values_as)

@@ -2,6 +2,7 @@
 use Rattle.std.specs.Prelude.{ℕ, ◌+◌, ◌≤◌, ◌<◌, ◌≡◌, Bool, false, not, List, ℤ}
 use Rattle.span.specs.Span.{Span, at}
 use Rattle.key.specs.Rank.{rank}
+use Rattle.outcomes.specs.Lent.{of_ref}
 use Rattle.query_text.specs.InnerClasses.{class_of}
 use Rattle.query_text.specs.InnerTable.{is_one, says}
 use Rattle.query_text.specs.declared.truth.Truth.{Truth}
@@ -30,10 +31,10 @@ pub record Stands (xs ys : List Span) (w : Walk) : Type 0 where
 
 -- the ranges of the first map and of the second
 abbrev pub firsts : Inquiry → List Span
-firsts q = spans_of q.a.now
+firsts q = spans_of (of_ref q.a)
 
 abbrev pub seconds : Inquiry → List Span
-seconds q = spans_of q.b.now
+seconds q = spans_of (of_ref q.b)
 
 -- a walk begins at a key: it stands in any two maps, so no place is passed
 abbrev pub Begins : ℤ → Walk → Type 0

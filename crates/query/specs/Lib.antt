@@ -1,9 +1,8 @@
 -- What a reader must believe of queries of two maps: the result (Result), and what is answered (Answers).
--- What functions only say to each other: InnerColumns, InnerTable, InnerSeen, InnerWalk, InnerWritten.
+-- What functions only say to each other: InnerColumns, InnerSeen, InnerWalk, InnerWritten.
 pub mod Result
 pub mod Answers
 pub mod InnerColumns
-pub mod InnerTable
 pub mod InnerSeen
 pub mod InnerWalk
 pub mod InnerWritten

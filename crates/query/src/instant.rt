@@ -2,31 +2,39 @@
 ghost use Rattle.std.specs.Prelude.{◌≡◌};
 ghost use Rattle.key.specs.Range.{half_open};
 ghost use Rattle.outcomes.specs.Stored.{Sound};
+ghost use Rattle.outcomes.specs.Lent.{of_ref};
 ghost use Rattle.query.specs.Answers.{query_at_sound, query_at};
 
 use crate::formed::are_formed;
 use crate::inquiry::Inquiry;
-use crate::table::table;
 use crate::walk::walk_at;
 use answers::Refusal;
-use outcomes::Stored;
+use outcomes::{Stored, StoredRef};
+use query_text::reader::{Reading, read_query};
 
-// THE UNCHECKED DOOR: the maps must be sound.
+// THE UNCHECKED DOOR: the maps must be sound. Inlined, as that of the ranges is.
+#[inline(always)]
 pub fn query_at_unchecked(
-    a: &Stored,
-    b: &Stored,
+    a: &StoredRef,
+    b: &StoredRef,
     start: i64,
     end: i64,
     bytes: &[u8],
     key: i64,
 ) -> Result<bool, Refusal>
-    requires { Sound half_open a.now × Sound half_open b.now }
-    ensures { result ≡ query_at_sound a.now b.now start end bytes.now key }
+    requires { Sound half_open (of_ref a.now) × Sound half_open (of_ref b.now) }
+    ensures { result ≡ query_at_sound (of_ref a.now) (of_ref b.now) start end bytes.now key }
 {
+    if start >= end {
+        return Err(Refusal::EmptyRange);
+    }
+    let Reading::Got(_, table) = read_query(bytes) else {
+        return Err(Refusal::BadQuery);
+    };
     let asked = Inquiry {
-        a,
-        b,
-        table: table(start, end, bytes)?,
+        a: *a,
+        b: *b,
+        table,
         end,
     };
     if key < start || key >= end {
@@ -50,5 +58,5 @@ pub fn query_at(
     if !are_formed(a, b) {
         return Err(Refusal::NotFormed);
     }
-    query_at_unchecked(a, b, start, end, bytes, key)
+    query_at_unchecked(&a.lent(), &b.lent(), start, end, bytes, key)
 }

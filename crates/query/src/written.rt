@@ -1,6 +1,7 @@
 // The ranges of true instants from a walk on: whether there is room for them, and their writing.
 ghost use Rattle.std.specs.Prelude.{◌≡◌, false, ◌≤◌, ◌<◌, length};
 ghost use Rattle.key.specs.Rank.{rank};
+ghost use Rattle.outcomes.specs.Lent.{of_ref};
 ghost use Rattle.query.specs.InnerWalk.{Stands, firsts, seconds};
 ghost use Rattle.query.specs.InnerWritten.{Counts, Bounded, Measures, HasRoom, Shuts, Writes};
 
@@ -47,13 +48,15 @@ impl Inquiry<'_> {
     // Whether `room` places are enough. There is at most one range more than the maps have together, so mostly none is counted.
     pub fn fits(&self, w: Walk, room: usize) -> bool
         requires { Stands (firsts self.now) (seconds self.now) w × (rank w.key ≤ rank self.now.end)
-            × Bounded self.now.table self.now.a.now self.now.b.now w.key self.now.end }
+            × Bounded self.now.table (of_ref self.now.a) (of_ref self.now.b) w.key self.now.end }
         ensures { Measures self.now.table (firsts self.now) (seconds self.now) (rank w.key) (rank self.now.end) room result }
     {
         room > 0 && roomy(self.a.count, self.b.count, room - 1) || self.count(w) <= room
     }
 
     // Writes those ranges, and answers how many they are. The table says yes from `start` on up to the walk: a range that is open, or none.
+    // Inlined, since two doors call it: where it is, the columns of a map are found by one register.
+    #[inline(always)]
     pub fn write(&self, w: Walk, out_starts: &mut [i64], out_ends: &mut [i64]) -> usize
         requires { Stands (firsts self.now) (seconds self.now) w × (rank w.key ≤ rank self.now.end)
             × HasRoom self.now.table (firsts self.now) (seconds self.now) (rank w.key) (rank self.now.end) 0 out_starts.old out_ends.old }

@@ -4,6 +4,7 @@
 ghost use Rattle.std.specs.Prelude.{◌≡◌};
 ghost use Rattle.key.specs.Range.{half_open};
 ghost use Rattle.outcomes.specs.Stored.{Sound};
+ghost use Rattle.outcomes.specs.Lent.{of_ref};
 ghost use Rattle.log_day.specs.Days.{day_of};
 ghost use Rattle.report.specs.Report.{day_report_sound, day_report, reported_in_c};
 
@@ -11,7 +12,7 @@ use answers::{DONE, Refusal};
 use duty::Totals;
 use hours::hours;
 use key::{Bounds, RangeKind};
-use outcomes::Stored;
+use outcomes::{Stored, StoredRef};
 use store::check::well_formed;
 
 // A day that is reported: its start and end, and the seconds of each duty in it.
@@ -83,9 +84,15 @@ impl From<Result<DayTotals, Refusal>> for DayReport {
 
 // The report of a well-formed map. The caller answers for the check.
 #[tactic(auto, using(crate::proofs::Returns::countable))]
-pub fn unchecked(m: &Stored, zone: u8, year: u16, month: u8, day: u8) -> Result<DayTotals, Refusal>
-    requires { Sound half_open m.now }
-    ensures { result ≡ day_report_sound m.now (day_of zone year month day) }
+pub fn unchecked(
+    m: &StoredRef,
+    zone: u8,
+    year: u16,
+    month: u8,
+    day: u8,
+) -> Result<DayTotals, Refusal>
+    requires { Sound half_open (of_ref m.now) }
+    ensures { result ≡ day_report_sound (of_ref m.now) (day_of zone year month day) }
 {
     let bounds = log_day::day_of(zone, year, month, day)?;
     let totals = duty::between(m, bounds)?;
@@ -103,7 +110,7 @@ pub fn checked(m: &Stored, zone: u8, year: u16, month: u8, day: u8) -> Result<Da
     if !well_formed(RangeKind::HalfOpen, m) {
         return Err(Refusal::NotFormed);
     }
-    unchecked(m, zone, year, month, day)
+    unchecked(&m.lent(), zone, year, month, day)
 }
 
 // The same as C and Rust see it.
@@ -118,5 +125,5 @@ pub fn day_report_unchecked(m: &Stored, zone: u8, year: u16, month: u8, day: u8)
     requires { Sound half_open m.now }
     ensures { result ≡ reported_in_c (day_report_sound m.now (day_of zone year month day)) }
 {
-    DayReport::from(unchecked(m, zone, year, month, day))
+    DayReport::from(unchecked(&m.lent(), zone, year, month, day))
 }

@@ -80,6 +80,8 @@ pub fn overlapping(kind: RangeKind, m: &Stored, start: i64, end: i64) -> Stretch
     Stretch::from(set_ops::found::overlapping(kind, m, start, end))
 }
 
+// Compiled into each door, as `map_ops::find::gaps` is.
+#[inline(always)]
 pub fn gaps(
     kind: RangeKind,
     m: &Stored,

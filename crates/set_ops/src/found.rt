@@ -1,4 +1,4 @@
-// What a set holds at a key and over a range.
+// What a set holds at a key and over a range. Three of the checks have a name so that each line is no other's: edits of must-fail/ change them.
 ghost use Rattle.std.specs.Prelude.{◌≡◌, Err};
 ghost use Rattle.key.specs.Range.{kind_of};
 ghost use Rattle.outcomes.specs.Outcomes.{not_written, contains, gaps, lookup, overlaps, overlapping};
@@ -15,7 +15,7 @@ pub fn get(kind: RangeKind, m: &Stored, key: i64) -> Result<Option<Entry>, Refus
     ensures { result ≡ if_set m.now
         (lookup (kind_of kind) m.now key) Err }
 {
-    plain_set(m)?;
+    let _got_from = plain_set(m)?;
     map_ops::find::get_key_value(kind, m, key)
 }
 
@@ -42,11 +42,12 @@ pub fn overlapping(kind: RangeKind, m: &Stored, start: i64, end: i64) -> Result<
     ensures { result ≡ if_set m.now
         (overlapping (kind_of kind) m.now start end) Err }
 {
-    plain_set(m)?;
+    let _part_of = plain_set(m)?;
     map_ops::find::overlapping(kind, m, start, end)
 }
 
-// The maximal uncovered ranges inside the outer range, into the first places of two lent lists.
+// The maximal uncovered ranges inside the outer range, into the first places of two lent lists. Compiled into each door, as that of maps is.
+#[inline(always)]
 pub fn gaps(
     kind: RangeKind,
     m: &Stored,
@@ -60,6 +61,6 @@ pub fn gaps(
         (gaps (kind_of kind) m.now start end out_starts.old out_ends.old)
         (λ why. not_written why out_starts.old out_ends.old) }
 {
-    plain_set(m)?;
+    let _gaps_of = plain_set(m)?;
     map_ops::find::gaps(kind, m, start, end, out_starts, out_ends)
 }

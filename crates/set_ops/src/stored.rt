@@ -24,7 +24,8 @@ pub fn len(kind: RangeKind, m: &Stored) -> Result<usize, Refusal>
     ensures { result ≡ if_set m.now
         (count_of (kind_of kind) m.now) Err }
 {
-    plain_set(m)?;
+    // It has a name so that this line is no other's: an edit of must-fail/ changes it.
+    let _set = plain_set(m)?;
     map_ops::list::len(kind, m)
 }
 

@@ -5,13 +5,14 @@ ghost use Rattle.std.specs.Prelude.{◌≡◌, ◌-◌, ◌≤◌, ◌<◌};
 ghost use Rattle.key.specs.InnerDecides.{Decides};
 ghost use Rattle.key.specs.Rank.{rank, keys};
 ghost use Rattle.key.specs.Range.{kind_of};
+ghost use Rattle.outcomes.specs.Lent.{of_ref};
 ghost use Rattle.outcomes.specs.Sets.{SoundSet, total_sound, total_of};
 ghost use Rattle.two_sets.specs.InnerSides.{Side};
 ghost use Rattle.set_total.specs.InnerSum.{rows_total};
 
 use answers::Refusal;
 use key::RangeKind;
-use outcomes::Stored;
+use outcomes::{Stored, StoredRef};
 use store::plain::is_set;
 use two_sets::width;
 
@@ -24,17 +25,17 @@ fn apart(start: i64, end: i64) -> u64
 }
 
 // Whether the set is the one range of all keys. No u64 holds its total, and it is the only such set.
-fn full(kind: RangeKind, m: &Stored) -> bool
-    requires { Side (kind_of kind) m.now }
-    ensures { Decides result (keys ≤ rows_total kind m.now) }
+fn full(kind: RangeKind, m: &StoredRef) -> bool
+    requires { Side (kind_of kind) (of_ref m.now) }
+    ensures { Decides result (keys ≤ rows_total kind (of_ref m.now)) }
 {
     width(kind) == 1 && m.count > 0 && apart(m.starts[0], m.ends[0]) == u64::MAX
 }
 
 // The lengths, added up.
-fn sum(kind: RangeKind, m: &Stored) -> u64
-    requires { Side (kind_of kind) m.now × (rows_total kind m.now < keys) }
-    ensures { result ≡ rows_total kind m.now }
+fn sum(kind: RangeKind, m: &StoredRef) -> u64
+    requires { Side (kind_of kind) (of_ref m.now) × (rows_total kind (of_ref m.now) < keys) }
+    ensures { result ≡ rows_total kind (of_ref m.now) }
 {
     let mut total = 0;
     for k in 0..m.count {
@@ -44,9 +45,9 @@ fn sum(kind: RangeKind, m: &Stored) -> u64
 }
 
 // THE UNCHECKED DOOR: the set must be sound. The values are lent as a part of the set, and none is read.
-pub fn total_unchecked(kind: RangeKind, m: &Stored) -> Result<u64, Refusal>
-    requires { SoundSet (kind_of kind) m.now }
-    ensures { result ≡ total_sound (kind_of kind) m.now }
+pub fn total_unchecked(kind: RangeKind, m: &StoredRef) -> Result<u64, Refusal>
+    requires { SoundSet (kind_of kind) (of_ref m.now) }
+    ensures { result ≡ total_sound (kind_of kind) (of_ref m.now) }
 {
     if full(kind, m) {
         return Err(Refusal::TotalOver);
@@ -62,5 +63,5 @@ pub fn total(kind: RangeKind, m: &Stored) -> Result<u64, Refusal>
     if !is_set(kind, m) {
         return Err(Refusal::NotFormed);
     }
-    total_unchecked(kind, m)
+    total_unchecked(kind, &m.lent())
 }

@@ -6,13 +6,22 @@ use native.Mathlib.Omega.{arith}
 use native.Mathlib.Nat.{add-zero}
 use lib.ListN.{length, get_or, set, take, drop, replicate, length-replicate, length-drop, length-append}
 use lib.ListN.{replicate-append-replicate, drop_of_length-le}
-use lib.Seq.{sets, paste, set_comm, length-take-le, sets-eq}
+use lib.Seq.{sets, paste, get_or-set_other, set_comm, length-take-le, sets-eq}
 use lib.Seq.{take-append-le, take-take, take_at, drop_at, drop-append-add, drop-drop}
-use Rattle.std.proofs.lemmas.List.{drop-replicate}
+use Rattle.std.proofs.lemmas.List.{drop-replicate, take-append-drop}
 use Rattle.std.proofs.lemmas.List.Edits.{paste_more}
 use Rattle.splice.specs.InnerSplice.{filled_with, Filler, spliced}
 
 module _ {A : Type 0} where
+  -- a load before it, and one behind it
+  pub get_before : (l : List A) (i : ℕ) (vs : List A) (q : ℕ) (d : A) → q < i → get_or (sets l i vs) q d ≡ get_or l q d
+  get_before l i [] q d h = refl
+  get_before l i (v ∷ vs) q d h = get_before (set l i v) (suc i) vs q d (omega arith) ∙ get_or-set_other l i q v d (omega arith)
+
+  pub get_after : (l : List A) (i : ℕ) (vs : List A) (q : ℕ) (d : A) → i + length vs ≤ q → get_or (sets l i vs) q d ≡ get_or l q d
+  get_after l i [] q d h = refl
+  get_after l i (v ∷ vs) q d h = get_after (set l i v) (suc i) vs q d (omega arith) ∙ get_or-set_other l i q v d (omega arith)
+
   -- one more at the end
   pub sets_end : (l : List A) (i : ℕ) (vs : List A) (v : A) → set (sets l i vs) (i + length vs) v ≡ sets l i (vs ++ (v ∷ []))
   sets_end l i [] v = ap (λ (k : ℕ). set l k v) (add-zero i)
@@ -34,6 +43,13 @@ module _ {A : Type 0} where
       let now : min k n ≡ k = omega arith in
       let next : min (k + 1) n ≡ k + 1 = omega arith in
       rw (e, now, next) (paste_more l at new k d (omega arith) few)
+
+  -- what is moved to where it stands
+  pub stays : (l : List A) (i n : ℕ) → l ≡ paste l i (drop i l) n
+  stays l i n =
+      let rest : take n (drop i l) ++ drop (i + n) l ≡ drop i l =
+      ap (λ (t : List A). take n (drop i l) ++ t) (sym (drop-drop n i l)) ∙ take-append-drop n (drop i l) in
+      sym (append_assoc (take i l) (take n (drop i l)) (drop (i + n) l) ∙ ap (λ (t : List A). take i l ++ t) rest ∙ take-append-drop i l)
 
   -- one more place cleared
   pub clear_more : {a : List A} (l : List A) (from p : ℕ) (z : A) → a ≡ sets l from (replicate (p - from) z) → from ≤ p

@@ -45,12 +45,15 @@ fn put<T: Copy>(a: &mut [T], at: usize, new: &[T; 3], n: usize)
 }
 
 // Carries a replacement out in one column, in which the first of `new` come; the places after those that go move up or down.
+// Where as many come as go none moves, and none is copied: what is replaced in place takes the same time in a map of any size.
 fn splice_column<T: Copy>(a: &mut [T], count: usize, p: Replacement, new: &[T; 3], spare: T)
     requires { Apt count p × Room count p (length a.old) × Filler a.old count spare }
     ensures { a.new ≡ spliced a.old p.from p.to count (take p.n new.now) spare }
 {
     let next = p.from + p.n;
-    a.copy_within(p.to..count, next);
+    if next != p.to {
+        a.copy_within(p.to..count, next);
+    }
     put(a, p.from, new, p.n);
     clear(a, next + (count - p.to), count, spare);
 }

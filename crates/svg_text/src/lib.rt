@@ -4,6 +4,7 @@
 ghost use Rattle.std.specs.Prelude.{◌≡◌, ◌+◌, ◌*◌, ◌≤◌, ◌<◌, length};
 ghost use Rattle.key.specs.Range.{half_open};
 ghost use Rattle.outcomes.specs.Stored.{ranges};
+ghost use Rattle.outcomes.specs.Lent.{of_ref};
 ghost use Rattle.filling.specs.Filling.{series, AddsWithin};
 ghost use Rattle.report_text.specs.Rows.{row_count};
 ghost use Rattle.graph_text.specs.Grid.{Drawable};
@@ -14,7 +15,7 @@ ghost use Rattle.svg_text.specs.InnerRoom.{text_room, mark_room, marks_room, row
 use duty::Totals;
 use filling::fill;
 use graph_text::{DrawnDay, clock_hour, is_marked, quarters_of};
-use outcomes::Stored;
+use outcomes::StoredRef;
 use report_text::{ROWS, UNRECORDED, name_of, put_clock, seconds_of, sum_of};
 use text::put;
 
@@ -197,10 +198,10 @@ fn put_one(out: &mut [u8], at: usize, row: usize, q: usize) -> usize
 
 // A quarter of a row, if it is marked.
 #[tactic(auto, unfolding(crate::specs::SvgText::mark_svg))]
-fn put_mark(m: &Stored, start: i64, row: usize, q: usize, out: &mut [u8], at: usize) -> usize
-    requires { Quarter m.now start q × (row < row_count) × (q < most_quarters)
+fn put_mark(m: &StoredRef, start: i64, row: usize, q: usize, out: &mut [u8], at: usize) -> usize
+    requires { Quarter (of_ref m.now) start q × (row < row_count) × (q < most_quarters)
         × (at + mark_room ≤ length out.old) }
-    ensures { AddsWithin mark_room (mark_svg (ranges half_open m.now) start row q) out.old at out.new result }
+    ensures { AddsWithin mark_room (mark_svg (ranges half_open (of_ref m.now)) start row q) out.old at out.new result }
 {
     if is_marked(m, start, row, q) {
         put_one(out, at, row, q)
@@ -210,9 +211,9 @@ fn put_mark(m: &Stored, start: i64, row: usize, q: usize, out: &mut [u8], at: us
 }
 
 // The marks of a row.
-fn put_marks(m: &Stored, day: DrawnDay, row: usize, out: &mut [u8], at: usize) -> usize
-    requires { Quarters m.now day.start day.quarters × (row < row_count) × (at + marks_room ≤ length out.old) }
-    ensures { AddsWithin marks_room (series (mark_svg (ranges half_open m.now) day.start row) day.quarters) out.old at
+fn put_marks(m: &StoredRef, day: DrawnDay, row: usize, out: &mut [u8], at: usize) -> usize
+    requires { Quarters (of_ref m.now) day.start day.quarters × (row < row_count) × (at + marks_room ≤ length out.old) }
+    ensures { AddsWithin marks_room (series (mark_svg (ranges half_open (of_ref m.now)) day.start row) day.quarters) out.old at
         out.new result }
 {
     let mut to = at;
@@ -223,9 +224,9 @@ fn put_marks(m: &Stored, day: DrawnDay, row: usize, out: &mut [u8], at: usize) -
 }
 
 // The same as a path.
-fn put_marks_path(m: &Stored, day: DrawnDay, row: usize, out: &mut [u8], at: usize) -> usize
-    requires { Quarters m.now day.start day.quarters × (row < row_count) × (at + 4650 ≤ length out.old) }
-    ensures { AddsWithin 4650 (marks_svg (ranges half_open m.now) day.start day.quarters row) out.old at out.new result }
+fn put_marks_path(m: &StoredRef, day: DrawnDay, row: usize, out: &mut [u8], at: usize) -> usize
+    requires { Quarters (of_ref m.now) day.start day.quarters × (row < row_count) × (at + 4650 ≤ length out.old) }
+    ensures { AddsWithin 4650 (marks_svg (ranges half_open (of_ref m.now)) day.start day.quarters row) out.old at out.new result }
 {
     let marks = put_ink_head(out, at, row);
     let to = put_marks(m, day, row, out, marks);
@@ -233,9 +234,9 @@ fn put_marks_path(m: &Stored, day: DrawnDay, row: usize, out: &mut [u8], at: usi
 }
 
 // A row: its name, its marks, its total.
-fn put_row(m: &Stored, day: DrawnDay, row: usize, out: &mut [u8], at: usize) -> usize
-    requires { Quarters m.now day.start day.quarters × (row < row_count) × (at + row_room ≤ length out.old) }
-    ensures { AddsWithin row_room (row_svg (ranges half_open m.now) day.start day.quarters day.totals row) out.old at
+fn put_row(m: &StoredRef, day: DrawnDay, row: usize, out: &mut [u8], at: usize) -> usize
+    requires { Quarters (of_ref m.now) day.start day.quarters × (row < row_count) × (at + row_room ≤ length out.old) }
+    ensures { AddsWithin row_room (row_svg (ranges half_open (of_ref m.now)) day.start day.quarters day.totals row) out.old at
         out.new result }
 {
     let height = 49 + 24 * row as u64;
@@ -246,10 +247,10 @@ fn put_row(m: &Stored, day: DrawnDay, row: usize, out: &mut [u8], at: usize) -> 
 }
 
 // The five rows.
-fn put_rows(m: &Stored, day: DrawnDay, out: &mut [u8], at: usize) -> usize
-    requires { Quarters m.now day.start day.quarters × (at + row_count * row_room ≤ length out.old) }
+fn put_rows(m: &StoredRef, day: DrawnDay, out: &mut [u8], at: usize) -> usize
+    requires { Quarters (of_ref m.now) day.start day.quarters × (at + row_count * row_room ≤ length out.old) }
     ensures { AddsWithin (row_count * row_room) (series
-        (row_svg (ranges half_open m.now) day.start day.quarters day.totals) row_count) out.old at out.new result }
+        (row_svg (ranges half_open (of_ref m.now)) day.start day.quarters day.totals) row_count) out.old at out.new result }
 {
     let mut to = at;
     for row in 0..ROWS {
@@ -269,9 +270,9 @@ fn put_foot(out: &mut [u8], at: usize, n: usize, sum: u64) -> usize
 }
 
 // THE PICTURE of a day.
-pub fn svg_text(m: &Stored, start: i64, end: i64, t: Totals, out: &mut [u8; SVG_ROOM]) -> usize
-    requires { Drawable m.now start end }
-    ensures { AddsWithin svg_room (svg_text (ranges half_open m.now) start end t) out.old 0 out.new result }
+pub fn svg_text(m: &StoredRef, start: i64, end: i64, t: Totals, out: &mut [u8; SVG_ROOM]) -> usize
+    requires { Drawable (of_ref m.now) start end }
+    ensures { AddsWithin svg_room (svg_text (ranges half_open (of_ref m.now)) start end t) out.old 0 out.new result }
 {
     let quarters = quarters_of(start, end);
     let day = DrawnDay {

@@ -2,13 +2,14 @@
 // Ranges that overlap become one. Ranges that only touch stay apart, as in the Rust.
 ghost use Rattle.std.specs.Prelude.{◌≡◌, ◌+◌, ◌≤◌, ◌<◌, length};
 ghost use Rattle.key.specs.Range.{kind_of};
+ghost use Rattle.outcomes.specs.Lent.{of_ref};
 ghost use Rattle.range_list.specs.InnerLists.{ListRoom};
 ghost use Rattle.two_sets.specs.InnerSides.{Side};
 ghost use Rattle.two_sets.specs.InnerLists.{Ended};
 ghost use Rattle.union.specs.InnerFound.{open_at, OpenedAt, TakesNext, First};
 
 use key::RangeKind;
-use outcomes::Stored;
+use outcomes::StoredRef;
 use range_list::put;
 use two_sets::{Position, meets, pick};
 
@@ -21,11 +22,11 @@ struct Taken {
 }
 
 // The next range, by its start, where one set is at place `i` and the other at place `j`.
-fn next(a: &Stored, i: usize, b: &Stored, j: usize) -> Taken
-    requires { (a.now.count ≤ length a.now.starts) × (length a.now.ends ≡ length a.now.starts)
-        × (b.now.count ≤ length b.now.starts) × (length b.now.ends ≡ length b.now.starts)
+fn next(a: &StoredRef, i: usize, b: &StoredRef, j: usize) -> Taken
+    requires { (a.now.count ≤ length a.now.starts.now) × (length a.now.ends.now ≡ length a.now.starts.now)
+        × (b.now.count ≤ length b.now.starts.now) × (length b.now.ends.now ≡ length b.now.starts.now)
         × (i ≤ a.now.count) × (j ≤ b.now.count) × (i + j < a.now.count + b.now.count) }
-    ensures { TakesNext a.now i b.now j result }
+    ensures { TakesNext (of_ref a.now) i (of_ref b.now) j result }
 {
     if b.count <= j {
         return Taken {
@@ -52,9 +53,9 @@ fn next(a: &Stored, i: usize, b: &Stored, j: usize) -> Taken
 }
 
 // Where the walk is once the first range is taken: that is the open one.
-pub fn first(kind: RangeKind, a: &Stored, b: &Stored) -> Position
-    requires { Side (kind_of kind) a.now × Side (kind_of kind) b.now × (0 < a.now.count + b.now.count) }
-    ensures { First kind a.now b.now result }
+pub fn first(kind: RangeKind, a: &StoredRef, b: &StoredRef) -> Position
+    requires { Side (kind_of kind) (of_ref a.now) × Side (kind_of kind) (of_ref b.now) × (0 < a.now.count + b.now.count) }
+    ensures { First kind (of_ref a.now) (of_ref b.now) result }
 {
     let t = next(a, 0, b, 0);
     Position {
@@ -67,9 +68,10 @@ pub fn first(kind: RangeKind, a: &Stored, b: &Stored) -> Position
 }
 
 // How many ranges there are from where the walk is.
-pub fn counted_from(kind: RangeKind, a: &Stored, b: &Stored, from: Position) -> usize
-    requires { Side (kind_of kind) a.now × Side (kind_of kind) b.now × OpenedAt kind a.now b.now from }
-    ensures { result ≡ length (open_at kind a.now b.now from) }
+#[inline(always)]
+pub fn counted_from(kind: RangeKind, a: &StoredRef, b: &StoredRef, from: Position) -> usize
+    requires { Side (kind_of kind) (of_ref a.now) × Side (kind_of kind) (of_ref b.now) × OpenedAt kind (of_ref a.now) (of_ref b.now) from }
+    ensures { result ≡ length (open_at kind (of_ref a.now) (of_ref b.now) from) }
 {
     let total = a.count + b.count;
     let mut n = 0;
@@ -89,17 +91,18 @@ pub fn counted_from(kind: RangeKind, a: &Stored, b: &Stored, from: Position) -> 
 
 // Writes the ranges from where the walk is, and answers how many are written then. Each step writes the open range; the next one makes it longer,
 // or becomes the open one: so no branch depends on the keys.
+#[inline(always)]
 pub fn write_from(
     kind: RangeKind,
-    a: &Stored,
-    b: &Stored,
+    a: &StoredRef,
+    b: &StoredRef,
     from: Position,
     out_starts: &mut [i64],
     out_ends: &mut [i64],
 ) -> usize
-    requires { Side (kind_of kind) a.now × Side (kind_of kind) b.now × OpenedAt kind a.now b.now from
-        × ListRoom from.at (open_at kind a.now b.now from) out_starts.old out_ends.old }
-    ensures { Ended (kind_of kind) from.at (open_at kind a.now b.now from)
+    requires { Side (kind_of kind) (of_ref a.now) × Side (kind_of kind) (of_ref b.now) × OpenedAt kind (of_ref a.now) (of_ref b.now) from
+        × ListRoom from.at (open_at kind (of_ref a.now) (of_ref b.now) from) out_starts.old out_ends.old }
+    ensures { Ended (kind_of kind) from.at (open_at kind (of_ref a.now) (of_ref b.now) from)
         out_starts.old out_ends.old result out_starts.new out_ends.new }
 {
     let total = a.count + b.count;

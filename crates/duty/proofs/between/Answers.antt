@@ -6,6 +6,7 @@ use native.Mathlib.Omega.{arith}
 use mathlib.Core.Path.{ap, ◌∙◌}
 use Rattle.key.proofs.Laws.{rank_back}
 use Rattle.key.proofs.Lawful.{half_open_lawful}
+use Rattle.outcomes.specs.Lent.{of_ref}
 use Rattle.store.proofs.Seeking.{searched}
 use Rattle.duty.proofs.Walking.{Found, found_strange, found_counted, counted_room, counted_is}
 use Rattle.duty.proofs.between.Goals as goal
@@ -29,7 +30,7 @@ returns-in_err-t c =
 pub completed-requires : goal.completed-requires
 completed-requires c =
     let a = c.args in
-    let found : Found a.m.now a.window.start a.window.end c.in_ok-t.t =
+    let found : Found (of_ref a.m.now) a.window.start a.window.end c.in_ok-t.t =
     found_counted _ _ _ (rw c.walk.ensures at c.in_ok-t.ensures.value) in
     let p = c.requires in
     rw (simp rank_back at c.seconds.ensures) (counted_room _ _ _ p.0 p.1 found)
@@ -37,7 +38,7 @@ completed-requires c =
 pub returns : goal.returns
 returns c =
     let a = c.args in
-    let found : Found a.m.now a.window.start a.window.end c.in_ok-t.t =
+    let found : Found (of_ref a.m.now) a.window.start a.window.end c.in_ok-t.t =
     found_counted _ _ _ (rw c.walk.ensures at c.in_ok-t.ensures.value) in
     let p = c.requires in
     let n = simp rank_back at c.seconds.ensures in

@@ -21,7 +21,7 @@ first_past-to-requires c =
 pub statuses-requires : goal.statuses-requires
 statuses-requires c =
     let a = c.args in
-    let next : FirstPast half_open a.m.now.count a.m.now.starts a.from a.window.end c.first_past-to.result =
+    let next : FirstPast half_open a.m.now.count a.m.now.starts.now a.from a.window.end c.first_past-to.result =
     rw (to_z-of_z (sfits_of c.struct_told-1.given.1.0.1)) at c.first_past-to.ensures in
     let p = c.requires in
     (omega (arith, next.from), omega (arith, next.within, sound_held half_open _ p.0, p.0.values_as))
@@ -29,7 +29,7 @@ statuses-requires c =
 pub returns-then-not-statuses : goal.returns-then-not-statuses
 returns-then-not-statuses c =
     let a = c.args in
-    let next : FirstPast half_open a.m.now.count a.m.now.starts a.from a.window.end c.first_past-to.result =
+    let next : FirstPast half_open a.m.now.count a.m.now.starts.now a.from a.window.end c.first_past-to.result =
     rw (to_z-of_z (sfits_of c.struct_told-1.given.1.0.1)) at c.first_past-to.ensures in
     let p = c.requires in
     strange_is p.0 p.1 next p.2 p.3 (c.statuses.ensures.wrong c.if-not-statuses.true)
@@ -37,7 +37,7 @@ returns-then-not-statuses c =
 pub table_of-requires : goal.table_of-requires
 table_of-requires c =
     let a = c.args in
-    let next : FirstPast half_open a.m.now.count a.m.now.starts a.from a.window.end c.first_past-to.result =
+    let next : FirstPast half_open a.m.now.count a.m.now.starts.now a.from a.window.end c.first_past-to.result =
     rw (to_z-of_z (sfits_of c.struct_told-1.given.1.0.1)) at c.first_past-to.ensures in
     let p = c.requires in
     let s = c.statuses.ensures.right c.if-not-statuses.false in
@@ -46,7 +46,7 @@ table_of-requires c =
 pub returns : goal.returns
 returns c =
     let a = c.args in
-    let next : FirstPast half_open a.m.now.count a.m.now.starts a.from a.window.end c.first_past-to.result =
+    let next : FirstPast half_open a.m.now.count a.m.now.starts.now a.from a.window.end c.first_past-to.result =
     rw (to_z-of_z (sfits_of c.struct_told-1.given.1.0.1)) at c.first_past-to.ensures in
     let p = c.requires in
     let s = c.statuses.ensures.right c.if-not-statuses.false in

@@ -42,7 +42,7 @@ returns c =
     let fe : SFits w64 c.args.change.end = search rules in
     let says : Decides c.full.result (HasKey (kind_of c.args.kind) c.args.change) = rw (to_z-of_z fs, to_z-of_z fe) at c.full.ensures in
     let has_key : HasKey (kind_of c.args.kind) c.args.change = says.right c.if-not-full.false in
-    let n : length c.args.m.now.starts ≡ places = c.carry_out.ensures.starts_len in
-    leaves (numbered c.carry_out.ensures.leaves
+    let n : length c.args.m.now.starts ≡ places = search rules in
+    leaves (numbered c.carry_out.ensures
     ∙ edit_carried (kind_of g.kind) (lawful g.kind) g.m.now c.requires c.plan_of-plan.result has_key c.plan_of-plan.ensures
     ∙ ap (λ (k : ℕ). edit_sound (kind_of g.kind) k g.m.now g.change.start g.change.end (asked g.change)) n)

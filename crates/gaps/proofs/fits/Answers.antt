@@ -9,4 +9,4 @@ use Rattle.gaps.proofs.fits.Goals as goal
 pub returns-then-m-from : goal.returns-then-m-from
 returns-then-m-from c =
     let a = c.args in
-    rw (lt-ltb _ _ c.if-m-from.true) (holds (omega (arith, most c.requires.sound a.from (rank a.outer.start) ((kind_of a.kind).past a.outer.end))))
+    rw (lt-ltb _ _ c.if-m-from.true) (holds (omega (arith, most (kind_of a.kind) c.requires.places (rank a.outer.start) ((kind_of a.kind).past a.outer.end))))

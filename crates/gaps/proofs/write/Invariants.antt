@@ -5,5 +5,5 @@ use Rattle.gaps.proofs.write.Given as goal
 
 abbrev pub invariant-loop-k : goal.invariant-loop-k
 invariant-loop-k l =
-    Going (kind_of l.kind) l.m l.fn.out_starts l.fn.out_ends l.from (rank l.fn.outer.start) ((kind_of l.kind).past l.fn.outer.end)
+    Going (kind_of l.kind) l.m.starts.now l.m.ends.now l.fn.out_starts l.fn.out_ends l.m.count l.from (rank l.fn.outer.start) ((kind_of l.kind).past l.fn.outer.end)
     l.k (rank l.cursor) l.at l.out_starts l.out_ends

@@ -1,10 +1,11 @@
 use Prim.Native.Nat.{◌*◌}
 use Rattle.key.specs.Range.{half_open}
 use Rattle.outcomes.specs.Stored.{ranges}
+use Rattle.outcomes.specs.Lent.{of_ref}
 use Rattle.filling.specs.Filling.{series, AddsWithin}
 use Rattle.graph_text.specs.GraphText.{row_line}
 use Rattle.graph_text.specs.InnerRoom.{graph_line_room}
 use Rattle.graph_text.proofs.put_rows.Given as goal
 
 abbrev pub invariant-loop-row : goal.invariant-loop-row
-invariant-loop-row l = AddsWithin (graph_line_room * l.row) (series (row_line (ranges half_open l.m) l.day.start l.day.quarters l.day.totals) l.row) l.initial.out l.at l.out l.to
+invariant-loop-row l = AddsWithin (graph_line_room * l.row) (series (row_line (ranges half_open (of_ref l.m)) l.day.start l.day.quarters l.day.totals) l.row) l.initial.out l.at l.out l.to

@@ -10,5 +10,5 @@ returns-then-not-are_sets c =
 pub returns : goal.returns
 returns c =
     let a = c.args in
-    c.combine_unchecked.ensures
+    (rw (c.lent.ensures, c.lent-2.ensures) at c.combine_unchecked.ensures)
     ∙ both_sets _ _ _ a.out_starts.now a.out_ends.now a.operation (sym c.are_sets.ensures.value ∙ c.if-not-are_sets.false)

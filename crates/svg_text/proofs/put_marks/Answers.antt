@@ -5,6 +5,7 @@ use mir.Val.{to_z, of_z}
 use borrow.Author.Rules.{rules}
 use Rattle.key.specs.Range.{half_open}
 use Rattle.outcomes.specs.Stored.{ranges}
+use Rattle.outcomes.specs.Lent.{of_ref}
 use Rattle.filling.proofs.Laws.{as_within, within_length, series_none, series_more}
 use Rattle.graph_text.proofs.Quarters.{quarter_in}
 use Rattle.svg_text.specs.SvgText.{mark_svg}
@@ -23,4 +24,4 @@ loop-q-preserved c =
     let a = c.args in
     let l = c.loop-q in
     let f : to_z w64 (of_z w64 a.day.start) ≡ a.day.start = search rules in
-    as_within refl (omega arith) (series_more (mark_svg (ranges half_open a.m.now) a.day.start a.row) l.q l.invariant (rw f at c.put_mark-to.ensures))
+    as_within refl (omega arith) (series_more (mark_svg (ranges half_open (of_ref a.m.now)) a.day.start a.row) l.q l.invariant (rw f at c.put_mark-to.ensures))

@@ -7,6 +7,7 @@ use Rattle.span.specs.Span.{Span}
 use Rattle.key.specs.Rank.{rank}
 use Rattle.key.specs.Range.{kind_of}
 use Rattle.key.proofs.Laws.{rank_back}
+use Rattle.outcomes.specs.Lent.{of_ref}
 use Rattle.range_list.proofs.Answering.{put_start}
 use Rattle.two_sets.proofs.Kinded.{put_end}
 use Rattle.two_sets.proofs.Writing.{going_last}
@@ -42,7 +43,7 @@ returns c =
     let p = c.requires in
     let l = c.loop-here in
     let here = l.here in
-    let none_left : shared_from kind c.args.a.now here.i c.args.b.now here.j ≡ [] =
+    let none_left : shared_from kind (of_ref c.args.a.now) here.i (of_ref c.args.b.now) here.j ≡ [] =
     elim c.loop-here-test.branch [
       | then-loop-here-test+else-here-b w ↦ found_no kind p.side_a p.side_b here.i here.j w.if-here-b.false
       | else-loop-here-test w ↦ found_none kind p.side_a p.side_b here.i here.j w.loop-here-test.false

@@ -8,10 +8,10 @@ unfolding query_at
 returns-then-not-are_formed c = rw (sym c.are_formed.ensures.value ∙ c.if-not-are_formed.true) refl
 
 pub query_at_unchecked-requires : goal.query_at_unchecked-requires
-query_at_unchecked-requires c = c.are_formed.ensures.sound c.if-not-are_formed.false
+query_at_unchecked-requires c = rw (c.lent.ensures, c.lent-2.ensures) (c.are_formed.ensures.sound c.if-not-are_formed.false)
 
 pub returns : goal.returns
 unfolding query_at
 returns c =
-    let told = rw (to_z-of_z c.ranges.start, to_z-of_z c.ranges.end, to_z-of_z c.ranges.key) at c.query_at_unchecked.ensures in
+    let told = rw (c.lent.ensures, c.lent-2.ensures, to_z-of_z c.ranges.start, to_z-of_z c.ranges.end, to_z-of_z c.ranges.key) at c.query_at_unchecked.ensures in
     rw (sym c.are_formed.ensures.value ∙ c.if-not-are_formed.false) told

@@ -8,10 +8,10 @@ unfolding query_ranges
 returns-then-not-are_formed c = rw (sym c.are_formed.ensures.value ∙ c.if-not-are_formed.true) refl
 
 pub query_unchecked-requires : goal.query_unchecked-requires
-query_unchecked-requires c = c.are_formed.ensures.sound c.if-not-are_formed.false
+query_unchecked-requires c = rw (c.lent.ensures, c.lent-2.ensures) (c.are_formed.ensures.sound c.if-not-are_formed.false)
 
 pub returns : goal.returns
 unfolding query_ranges
 returns c =
-    let told = rw (to_z-of_z c.ranges.start, to_z-of_z c.ranges.end) at c.query_unchecked.ensures in
+    let told = rw (c.lent.ensures, c.lent-2.ensures, to_z-of_z c.ranges.start, to_z-of_z c.ranges.end) at c.query_unchecked.ensures in
     rw (sym c.are_formed.ensures.value ∙ c.if-not-are_formed.false) told

@@ -12,9 +12,8 @@ pub returns : goal.returns
 returns c =
     let s = c.args in
     let x = s.x in
-    let y = c.look-y.result in
-    let sy = simp rank_back at c.look-y.ensures in
+    let y = s.y in
     let k = simp rank_back at (ap rank c.min.ensures ∙ rank_lesser _ _) in
     let f : SFits w64 c.min.result = search rules in
     rw (to_z-of_z f)
-    (cell_made s.self.now.table _ _ s.w (rank s.self.now.end) x.until y.until c.min.result x.class y.class x.place y.place c.says.result c.requires.2 sy k c.says.ensures)
+    (cell_made s.self.now.table _ _ s.w (rank s.self.now.end) x.until y.until c.min.result x.class y.class x.place y.place c.says.result c.requires.0 c.requires.1 k c.says.ensures)
