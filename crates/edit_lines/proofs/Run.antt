@@ -3,20 +3,28 @@ use Prim.Native.Nat.{ℕ, suc}
 use mathlib.Core.Path.{◌≡◌, refl, ap}
 use mathlib.Core.Bool.{Bool, true, false, cond}
 use mathlib.Core.List.{List, [], ◌∷◌}
-use mathlib.Core.Option.{some}
+use mathlib.Core.Option.{Option, some, none as nothing}
+use borrow.Author.Tests.{eqb-false}
 use native.Mathlib.Omega.{arith}
 use Rattle.std.specs.Prelude.{Some, None, Result, Ok, Err, ⊤}
-use lib.Dec.{eqb}
-use lib.IntN.{pos, negsuc}
-use Rattle.key.specs.Range.{half_open}
+use lib.Dec.{eqb, ltb}
+use lib.ListN.{length}
+use lib.IntN.{ℤ, pos, negsuc}
+use Rattle.answers.specs.Answers.{done, empty_range, too_many, not_formed}
+use Rattle.answers.specs.Refusals.{number}
+use Rattle.answers.specs.declared.Refusal.{Refusal}
+use Rattle.answers.specs.declared.Refusal.TheVariants.{EmptyRange, TooMany, NotFormed}
+use Rattle.span.specs.Span.{given}
+use Rattle.key.specs.Range.{half_open, span_of, empty}
 use Rattle.key.proofs.Answers.{one_answer}
 use Rattle.outcomes.specs.declared.Stored.{Stored}
-use Rattle.outcomes.specs.Outcomes.{Edited, Change, edit, clear, edits}
+use Rattle.outcomes.specs.Stored.{places, ranges, storing, well_formed}
+use Rattle.outcomes.specs.Outcomes.{Edited, leaving, Change, edit_sound, edit, clear, edits}
 use Rattle.byte_form.specs.Form.{same_bytes}
 use Rattle.decimal.specs.Reading.{no_leading_zero, next_of, read_on, read_number, as_natural, as_negative, read_signed}
 use Rattle.filling.specs.Filling.{ascii}
 use Rattle.edit_lines.specs.Parts.{ahead, parts_at, lines_of}
-use Rattle.edit_lines.specs.Making.{line_of, change_of, Made, Done, Refused, NotAnEdit, made, Making, making, makes, made_of}
+use Rattle.edit_lines.specs.Making.{line_of, change_of, Made, Done, Refused, NotAnEdit, made, TellsFault, Making, making, line_done, makes, made_of}
 use Rattle.edit_lines.specs.declared.Line.TheVariants as Line
 use Rattle.edit_lines.specs.declared.NotMade.{NotMade}
 
@@ -52,6 +60,46 @@ same_lines n m (more {ls = ls} {c = c} {cs = cs} is rest) =
 pub make_run : (text : List ℕ) {cs : List Change} → Edits (lines_of text) cs → Same (made_of text) (edits half_open (clear half_open) cs)
 unfolding made_of
 make_run text is = same_lines 0 (clear half_open) is
+
+-- an edit that is not done is refused with the number of a fault
+edit_fault : (m : Stored) (s e : ℤ) (new : Option ℕ) → ((edit half_open m s e new).answer ≡ 0 → ⊥)
+    → (why : Refusal) × ((edit half_open m s e new).answer ≡ number why)
+unfolding edit edit_sound
+edit_fault m s e new undone =
+    let q = span_of half_open s e 0 in
+    let xs = given q.lo q.hi new (ranges half_open m) in
+    go (storing half_open places xs) (well_formed half_open places m) (empty q) (ltb places (length xs)) undone
+  where
+    go : (left : Stored) (t u v : Bool)
+        → ((cond t (cond u (leaving empty_range m) (cond v (leaving too_many m) (leaving done left))) (leaving not_formed m)).answer ≡ 0 → ⊥)
+        → (why : Refusal) × ((cond t (cond u (leaving empty_range m) (cond v (leaving too_many m) (leaving done left))) (leaving not_formed m)).answer ≡ number why)
+    go left false u v undone = (NotFormed, refl)
+    go left true true v undone = (EmptyRange, refl)
+    go left true false true undone = (TooMany, refl)
+    go left true false false undone = absurd (undone refl)
+
+-- a line tells the number of a fault, if what is behind it does
+line_fault : (n : ℕ) (m : Stored) (c : Option Change) (behind : Stored → Making) → ((left : Stored) → TellsFault (behind left).told)
+    → TellsFault (line_done n m c behind).told
+line_fault n m nothing behind h = tt
+line_fault n m (some c) behind h = go (eqb (edit half_open m c.start c.end c.new).answer 0) refl
+  where
+    go : (t : Bool) → eqb (edit half_open m c.start c.end c.new).answer 0 ≡ t
+        → TellsFault (cond t (behind (edit half_open m c.start c.end c.new).left)
+        (making (Refused n (edit half_open m c.start c.end c.new).answer) (edit half_open m c.start c.end c.new).left)).told
+    go true e = h (edit half_open m c.start c.end c.new).left
+    go false e = edit_fault m c.start c.end c.new (eqb-false _ 0 e)
+
+lines_fault : (n : ℕ) (m : Stored) (ls : List (List ℕ)) → TellsFault (makes n m ls).told
+unfolding makes
+lines_fault n m [] = tt
+lines_fault n m (l ∷ ls) =
+    line_fault (suc n) m (change_of (line_of l)) (λ (left : Stored). makes (suc n) left ls) (λ (left : Stored). lines_fault (suc n) left ls)
+
+-- A REFUSAL of `make` tells the number of a fault
+pub make_fault : (text : List ℕ) → TellsFault (made_of text).told
+unfolding made_of
+make_fault text = lines_fault 0 (clear half_open) (lines_of text)
 
 -- `unfolding all` opens every definition that a case computes with
 unfoldable all : Unit {0}

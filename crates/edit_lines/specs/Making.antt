@@ -1,7 +1,9 @@
 -- docs/PROGRAM.md, Make: the edit that a line is, and what the lines of a text make from nothing.
-use Rattle.std.specs.Prelude.{ℕ, ℤ, suc, cond, List, [], ◌∷◌, eqb, ltb, Option as Maybe, Some, None, Result, Ok, Err, ⊤}
+use Rattle.std.specs.Prelude.{ℕ, ℤ, suc, ◌≡◌, cond, List, [], ◌∷◌, eqb, ltb, Option as Maybe, Some, None, Result, Ok, Err, ⊤}
 use Rattle.std.proofs.Math.Option.{Option, some, none}
 use Rattle.answers.specs.Answers.{done}
+use Rattle.answers.specs.Refusals.{number}
+use Rattle.answers.specs.declared.Refusal.{Refusal}
 use Rattle.key.specs.Range.{half_open}
 use Rattle.outcomes.specs.declared.Stored.{Stored}
 use Rattle.outcomes.specs.Outcomes.{Change, edit, clear}
@@ -63,6 +65,12 @@ abbrev pub made : Result ⊤ NotMade → Made
 made (Ok u) = Done
 made (Err (NotMade.Refused n a)) = Refused n a
 made (Err (NotMade.NotAnEdit n)) = NotAnEdit n
+
+-- a refusal tells the number of a fault of document 01's table
+abbrev pub TellsFault : Made → Type 0
+TellsFault Done = ⊤
+TellsFault (Refused n a) = (why : Refusal) × (a ≡ number why)
+TellsFault (NotAnEdit n) = ⊤
 
 -- what `make` answers, and the map that it leaves
 pub record Making : Type 0 where

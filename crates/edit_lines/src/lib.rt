@@ -8,7 +8,7 @@ mod words;
 ghost use Rattle.std.specs.Prelude.{◌≡◌, ◌<◌, [], ◌∷◌, length};
 ghost use Rattle.std.specs.Option.{MatchOption};
 ghost use Rattle.edit_lines.specs.Parts.{lines_of};
-ghost use Rattle.edit_lines.specs.Making.{line_of, change_of, Done, made, making, line_done, makes, made_of};
+ghost use Rattle.edit_lines.specs.Making.{line_of, change_of, Done, made, making, TellsFault, line_done, makes, made_of};
 
 use key::RangeKind;
 use outcomes::Stored;
@@ -75,7 +75,8 @@ fn lines_done(text: &[u8], m: &mut Stored) -> Result<(), NotMade>
 
 // What a text makes from nothing. It overwrites its map, so it does not check it.
 pub fn make(text: &[u8], m: &mut Stored) -> Result<(), NotMade>
-    ensures { making (made result) m.new ≡ made_of text.now }
+    ensures made { making (made result) m.new ≡ made_of text.now }
+    ensures fault { TellsFault (made result) }
 {
     map_ops::change::clear(m);
     lines_done(text, m)
