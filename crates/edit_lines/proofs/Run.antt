@@ -62,17 +62,17 @@ unfolding made_of
 make_run text is = same_lines 0 (clear half_open) is
 
 -- an edit that is not done is refused with the number of a fault
-edit_fault : (m : Stored) (s e : ℤ) (new : Option ℕ) → ((edit half_open m s e new).answer ≡ 0 → ⊥)
-    → (why : Refusal) × ((edit half_open m s e new).answer ≡ number why)
+abbrev Faulty : Edited → Type 0
+Faulty o = (o.answer ≡ 0 → ⊥) → (why : Refusal) × (o.answer ≡ number why)
+
+edit_fault : (m : Stored) (s e : ℤ) (new : Option ℕ) → Faulty (edit half_open m s e new)
 unfolding edit edit_sound
-edit_fault m s e new undone =
+edit_fault m s e new =
     let q = span_of half_open s e 0 in
     let xs = given q.lo q.hi new (ranges half_open m) in
-    go (storing half_open places xs) (well_formed half_open places m) (empty q) (ltb places (length xs)) undone
+    go (storing half_open places xs) (well_formed half_open places m) (empty q) (ltb places (length xs))
   where
-    go : (left : Stored) (t u v : Bool)
-        → ((cond t (cond u (leaving empty_range m) (cond v (leaving too_many m) (leaving done left))) (leaving not_formed m)).answer ≡ 0 → ⊥)
-        → (why : Refusal) × ((cond t (cond u (leaving empty_range m) (cond v (leaving too_many m) (leaving done left))) (leaving not_formed m)).answer ≡ number why)
+    go : (left : Stored) (t u v : Bool) → Faulty (cond t (cond u (leaving empty_range m) (cond v (leaving too_many m) (leaving done left))) (leaving not_formed m))
     go left false u v undone = (NotFormed, refl)
     go left true true v undone = (EmptyRange, refl)
     go left true false true undone = (TooMany, refl)
@@ -82,13 +82,14 @@ edit_fault m s e new undone =
 line_fault : (n : ℕ) (m : Stored) (c : Option Change) (behind : Stored → Making) → ((left : Stored) → TellsFault (behind left).told)
     → TellsFault (line_done n m c behind).told
 line_fault n m nothing behind h = tt
-line_fault n m (some c) behind h = go (eqb (edit half_open m c.start c.end c.new).answer 0) refl
+line_fault n m (some c) behind h =
+    let one = edit half_open m c.start c.end c.new in
+    go one (edit_fault m c.start c.end c.new) (eqb one.answer 0) refl
   where
-    go : (t : Bool) → eqb (edit half_open m c.start c.end c.new).answer 0 ≡ t
-        → TellsFault (cond t (behind (edit half_open m c.start c.end c.new).left)
-        (making (Refused n (edit half_open m c.start c.end c.new).answer) (edit half_open m c.start c.end c.new).left)).told
-    go true e = h (edit half_open m c.start c.end c.new).left
-    go false e = edit_fault m c.start c.end c.new (eqb-false _ 0 e)
+    go : (one : Edited) → Faulty one → (t : Bool) → eqb one.answer 0 ≡ t
+        → TellsFault (cond t (behind one.left) (making (Refused n one.answer) one.left)).told
+    go one fault true e = h one.left
+    go one fault false e = fault (eqb-false one.answer 0 e)
 
 lines_fault : (n : ℕ) (m : Stored) (ls : List (List ℕ)) → TellsFault (makes n m ls).told
 unfolding makes
